@@ -1,0 +1,54 @@
+-- Laws of choices, of tests at every number below one, and of the list of rules.
+use mathlib.Core.Path.{_≡_, refl}
+use Prim.Native.Nat.{ℕ, zero, suc, _<_}
+use native.Mathlib.Nat.{not-suc-le-zero}
+use native.Mathlib.Decide.{decLt}
+use native.Mathlib.Omega.{arith}
+use mathlib.Core.Bool.{Bool, true, false, _&&_}
+use mathlib.Core.List.{List, [], _∷_}
+use lib.Dec.{T}
+use Rattle.word.specs.Choice.{if_then_else_, every, Rule, _when_, given}
+
+pub if-when-true : {Answer : Type 0} (test : Bool) (this other : Answer) → test ≡ true → (if test then this else other) ≡ this
+if-when-true true this other holds = refl
+if-when-true false this other holds = let z : _≡_ {A = Bool} true false = cc in absurd (true-is-not-false z)
+  where
+    true-is-not-false : _≡_ {A = Bool} true false → ⊥
+    true-is-not-false e = let n : _≡_ {A = ℕ} 0 1 = cc in omega arith
+
+pub if-when-false : {Answer : Type 0} (test : Bool) (this other : Answer) → test ≡ false → (if test then this else other) ≡ other
+if-when-false false this other fails = refl
+if-when-false true this other fails = let n : _≡_ {A = ℕ} 0 1 = cc in absurd (omega arith)
+
+and-left : (a b : Bool) → T (a && b) → T a
+and-left true b both = tt
+and-left false b both = both
+
+and-right : (a b : Bool) → T (a && b) → T b
+and-right true b both = both
+and-right false b both = absurd both
+
+-- a test that was computed at every number below n holds at each
+pub every-at : (test : ℕ → Bool) (n : ℕ) → T (every test n) → (k : ℕ) → k < n → T (test k)
+every-at test zero all k inside = absurd (not-suc-le-zero inside)
+every-at test (suc n) all k inside =
+    by-place (λ earlier. every-at test n (and-right (test n) (every test n) all) k earlier) (decLt k n)
+  where
+    by-place : (k < n → T (test k)) → Dec (k < n) → T (test k)
+    by-place below (yes earlier) = below earlier
+    by-place below (no later) = let same : k ≡ n = omega arith in rw same (and-left (test n) (every test n) all)
+
+-- the first rule applies, or it is passed and the rest decide
+pub given-when-applies : (number : ℕ) (test applies : Bool) (rest : List Rule)
+    → test ≡ applies → test ≡ true → number ≡ given (number when applies ∷ rest)
+unfolding given
+given-when-applies number test applies rest same holds = rw (← same, holds)
+
+pub given-when-passed : (number answer : ℕ) (test applies : Bool) (rest : List Rule)
+    → test ≡ applies → test ≡ false → answer ≡ given rest → answer ≡ given (number when applies ∷ rest)
+unfolding given
+given-when-passed number answer test applies rest same fails later = rw (← same, fails) later
+
+pub given-of-none : 0 ≡ given []
+unfolding given
+given-of-none = refl

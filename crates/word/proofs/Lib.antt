@@ -1,0 +1,10 @@
+-- The laws of the definitions in specs/, a file for each.
+pub mod ChoiceLaws
+pub mod RepeatLaws
+pub mod WordLaws
+pub mod PointerLaws
+pub mod SizeLaws
+pub mod MaskLaws
+pub mod ShiftLaws
+pub mod LogicLaws
+pub mod FillLaws

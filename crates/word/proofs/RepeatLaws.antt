@@ -1,0 +1,34 @@
+-- Laws of a step done n times: a turn of a loop that counts down, its end, and what every step keeps.
+use mathlib.Core.Path.{_≡_, refl, sym, ap, _∙_}
+use Prim.Native.Nat.{ℕ, zero, suc, _+_, _-_, _<_, _≤_}
+use native.Mathlib.Numerals.{sub-one}
+use native.Mathlib.Omega.{arith}
+use Rattle.word.specs.Repeat.{repeated}
+
+pub repeated-turn : {State : Type 0} (step : ℕ → State → State) (n : ℕ) (now next whole : State)
+    → 0 < n → next ≡ step (n - 1) now → repeated step n now ≡ whole → repeated step (n - 1) next ≡ whole
+unfolding repeated
+repeated-turn step zero now next whole more turn same = absurd (omega arith)
+repeated-turn step (suc n) now next whole more turn same = rw (turn, sub-one) same
+
+pub repeated-done : {State : Type 0} (step : ℕ → State → State) (n : ℕ) (now whole : State)
+    → n ≤ 0 → repeated step n now ≡ whole → now ≡ whole
+unfolding repeated
+repeated-done step zero now whole none same = same
+repeated-done step (suc n) now whole none same = absurd (omega arith)
+
+-- what every step keeps, all the steps keep
+pub repeated-keeps : {State Part : Type 0} (step : ℕ → State → State) (part : State → Part)
+    → ((left : ℕ) (state : State) → part (step left state) ≡ part state)
+    → (n : ℕ) (state : State) → part (repeated step n state) ≡ part state
+unfolding repeated
+repeated-keeps step part keeps zero state = refl
+repeated-keeps step part keeps (suc n) state = repeated-keeps step part keeps n (step n state) ∙ keeps n state
+
+-- what holds at the start and is handed on by every step holds at the end
+pub repeated-holds : {State : Type 0} (step : ℕ → State → State) (Holds : State → Type 0)
+    → ((left : ℕ) (state : State) → Holds state → Holds (step left state))
+    → (n : ℕ) (state : State) → Holds state → Holds (repeated step n state)
+unfolding repeated
+repeated-holds step Holds hands zero state start = start
+repeated-holds step Holds hands (suc n) state start = repeated-holds step Holds hands n (step n state) (hands n state start)

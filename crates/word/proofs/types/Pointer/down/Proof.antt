@@ -1,0 +1,14 @@
+-- `Pointer::down` meets its contract: a bounded word number moves as any other.
+use Rattle.word.proofs.PointerLaws.{sum-of-remainder}
+use borrow.Author.Needs.{needs}
+use Rattle.word.proofs.types.Pointer.down.Statement.{statement}
+use Rattle.word.proofs.types.Pointer.down.Tie as tie
+
+add-t3 : tie.Need-add-t3
+add-t3 c = search needs
+
+returns : tie.Need-returns
+returns c = rw sum-of-remainder
+
+pub down-spec : {M : Type 1} → statement M
+down-spec = tie.close (tie.spec add-t3 returns)

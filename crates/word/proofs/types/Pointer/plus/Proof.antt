@@ -1,0 +1,14 @@
+-- `Pointer::plus` meets its contract: a bounded word number moves as any other.
+use Rattle.word.proofs.PointerLaws.{sum-of-remainder}
+use borrow.Author.Needs.{needs}
+use Rattle.word.proofs.types.Pointer.plus.Statement.{statement}
+use Rattle.word.proofs.types.Pointer.plus.Tie as tie
+
+add-t5 : tie.Need-add-t5
+add-t5 c = search needs
+
+returns : tie.Need-returns
+returns c = rw sum-of-remainder
+
+pub plus-spec : {M : Type 1} → statement M
+plus-spec = tie.close (tie.spec add-t5 returns)

@@ -1,0 +1,14 @@
+-- `Pointer::up` meets its contract: a bounded word number moves as any other.
+use Rattle.word.proofs.PointerLaws.{sum-of-remainder}
+use borrow.Author.Needs.{needs}
+use Rattle.word.proofs.types.Pointer.up.Statement.{statement}
+use Rattle.word.proofs.types.Pointer.up.Tie as tie
+
+add-t3 : tie.Need-add-t3
+add-t3 c = search needs
+
+returns : tie.Need-returns
+returns c = rw sum-of-remainder
+
+pub up-spec : {M : Type 1} → statement M
+up-spec = tie.close (tie.spec add-t3 returns)

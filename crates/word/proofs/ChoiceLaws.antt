@@ -1,7 +1,8 @@
 -- Laws of choices, of tests at every number below one, and of the list of rules.
-use mathlib.Core.Path.{_≡_, refl}
-use Prim.Native.Nat.{ℕ, zero, suc, _<_}
+use mathlib.Core.Path.{_≡_, refl, sym, ap, _∙_}
+use Prim.Native.Nat.{ℕ, zero, suc, _-_, _<_}
 use native.Mathlib.Nat.{not-suc-le-zero}
+use native.Mathlib.Numerals.{sub-one}
 use native.Mathlib.Decide.{decLt}
 use native.Mathlib.Omega.{arith}
 use mathlib.Core.Bool.{Bool, true, false, _&&_}
@@ -11,10 +12,7 @@ use Rattle.word.specs.Choice.{if_then_else_, every, Rule, _when_, given}
 
 pub if-when-true : {Answer : Type 0} (test : Bool) (this other : Answer) → test ≡ true → (if test then this else other) ≡ this
 if-when-true true this other holds = refl
-if-when-true false this other holds = let z : _≡_ {A = Bool} true false = cc in absurd (true-is-not-false z)
-  where
-    true-is-not-false : _≡_ {A = Bool} true false → ⊥
-    true-is-not-false e = let n : _≡_ {A = ℕ} 0 1 = cc in omega arith
+if-when-true false this other holds = let n : _≡_ {A = ℕ} 0 1 = cc in absurd (omega arith)
 
 pub if-when-false : {Answer : Type 0} (test : Bool) (this other : Answer) → test ≡ false → (if test then this else other) ≡ other
 if-when-false false this other fails = refl
@@ -37,6 +35,20 @@ every-at test (suc n) all k inside =
     by-place : (k < n → T (test k)) → Dec (k < n) → T (test k)
     by-place below (yes earlier) = below earlier
     by-place below (no later) = let same : k ≡ n = omega arith in rw same (and-left (test n) (every test n) all)
+
+-- a turn of a loop that tries the numbers from n down
+pub every-turn : (test : ℕ → Bool) (n : ℕ) (whole : Bool)
+    → 0 < n → test (n - 1) ≡ true → every test n ≡ whole → every test (n - 1) ≡ whole
+every-turn test zero whole more holds same = absurd (omega arith)
+every-turn test (suc n) whole more holds same =
+    let here : test n ≡ true = rw sub-one at holds in
+    rw sub-one (ap (λ (answer : Bool). answer && every test n) (sym here) ∙ same)
+
+pub every-when-fails : (test : ℕ → Bool) (n : ℕ) → 0 < n → test (n - 1) ≡ false → every test n ≡ false
+every-when-fails test zero more fails = absurd (omega arith)
+every-when-fails test (suc n) more fails =
+    let here : test n ≡ false = rw sub-one at fails in
+    ap (λ (answer : Bool). answer && every test n) here
 
 -- the first rule applies, or it is passed and the rest decide
 pub given-when-applies : (number : ℕ) (test applies : Bool) (rest : List Rule)

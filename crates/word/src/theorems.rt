@@ -4,10 +4,8 @@ ghost use Rattle.word.specs.EverySizeHasAWord.{EverySizeHasAWord};
 
 pub fn shift_of_nought()
     ensures { λ _. ⌜ ShiftOfNought ⌝ }
-{
-}
+{}
 
 pub fn every_size_has_a_word()
     ensures { λ _. ⌜ EverySizeHasAWord ⌝ }
-{
-}
+{}

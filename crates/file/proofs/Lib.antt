@@ -1,0 +1,2 @@
+-- The laws of the register file.
+pub mod FileLaws

@@ -1,0 +1,129 @@
+-- Paper 01, "Memory and registers": "A register file is a lent run of exactly 20 16-bit words, in this order".
+use Prim.Native.Nat.{ℕ, zero, suc}
+use mathlib.Core.Bool.{Bool, _&&_}
+use mathlib.Core.List.{List, [], _∷_, _++_, map}
+use lib.Dec.{eqb, ltb}
+use lib.Bits.{bitAnd}
+use lib.ListN.{length, getD}
+use Rattle.word.specs.Choice.{if_then_else_, every}
+
+pub record Register : Type 0 where
+  pub offset : ℕ
+  pub kept : ℕ
+
+infix 70 _keeps_
+abbrev pub _keeps_ : (offset kept : ℕ) → Register
+offset keeps kept = record { offset = offset; kept = kept }
+
+-- the paper's table: a register's offset and its kept bits; its place here is its place in the file
+unfoldable pub registers : List Register
+registers =
+    -- BLTCON0, BLTCON1, BLTAFWM, BLTALWM: all
+    0x040 keeps 0xFFFF
+    ∷ 0x042 keeps 0xFFFF
+    ∷ 0x044 keeps 0xFFFF
+    ∷ 0x046 keeps 0xFFFF
+    -- pointer high and low of C, B, A, D: "high 2-0, low 15-1"
+    ∷ 0x048 keeps 0x0007
+    ∷ 0x04A keeps 0xFFFE
+    ∷ 0x04C keeps 0x0007
+    ∷ 0x04E keeps 0xFFFE
+    ∷ 0x050 keeps 0x0007
+    ∷ 0x052 keeps 0xFFFE
+    ∷ 0x054 keeps 0x0007
+    ∷ 0x056 keeps 0xFFFE
+    -- modulo of C, B, A, D: "15-1"
+    ∷ 0x060 keeps 0xFFFE
+    ∷ 0x062 keeps 0xFFFE
+    ∷ 0x064 keeps 0xFFFE
+    ∷ 0x066 keeps 0xFFFE
+    -- data of C, B, A: all
+    ∷ 0x070 keeps 0xFFFF
+    ∷ 0x072 keeps 0xFFFF
+    ∷ 0x074 keeps 0xFFFF
+    ∷ []
+
+-- the zero flag stands last, has no offset, and is "0 or 1"
+abbrev pub flagKept : ℕ
+flagKept = 0x0001
+
+abbrev pub fileLength : ℕ
+fileLength = 20
+
+-- the places of the file by name; of a pointer, the place of its high half, which its low half follows
+abbrev pub control0 : ℕ
+control0 = 0
+
+abbrev pub control1 : ℕ
+control1 = 1
+
+abbrev pub firstMask : ℕ
+firstMask = 2
+
+abbrev pub lastMask : ℕ
+lastMask = 3
+
+abbrev pub pointerC : ℕ
+pointerC = 4
+
+abbrev pub pointerB : ℕ
+pointerB = 6
+
+abbrev pub pointerA : ℕ
+pointerA = 8
+
+abbrev pub pointerD : ℕ
+pointerD = 10
+
+abbrev pub moduloC : ℕ
+moduloC = 12
+
+abbrev pub moduloB : ℕ
+moduloB = 13
+
+abbrev pub moduloA : ℕ
+moduloA = 14
+
+abbrev pub moduloD : ℕ
+moduloD = 15
+
+abbrev pub sourceC : ℕ
+sourceC = 16
+
+abbrev pub sourceB : ℕ
+sourceB = 17
+
+abbrev pub sourceA : ℕ
+sourceA = 18
+
+abbrev pub flag : ℕ
+flag = 19
+
+-- the place of the first register with an offset; the list's length where none has it
+unfoldable pub placeIn : List Register → (offset : ℕ) → ℕ
+placeIn [] offset = 0
+placeIn (register ∷ rest) offset =
+    if eqb (register .offset) offset then 0 else
+    suc (placeIn rest offset)
+
+-- the place of the register with an offset; where none has it the flag's, which no offset reaches
+unfoldable pub place : (offset : ℕ) → ℕ
+place offset = placeIn registers offset
+
+-- an offset of the table
+unfoldable pub isRegister : (offset : ℕ) → Bool
+isRegister offset = ltb (place offset) flag
+
+-- the kept bits by place
+unfoldable pub keptBits : List ℕ
+keptBits = map (λ (register : Register). register .kept) registers ++ (flagKept ∷ [])
+
+-- "Writing a register drops the bits not kept."
+unfoldable pub kept : (place value : ℕ) → ℕ
+kept place value = bitAnd value (getD keptBits place 0)
+
+-- number 2 is given for a file "not 20 words, or a bit set that isn't kept"
+unfoldable pub accepted : (file : List ℕ) → Bool
+accepted file =
+    eqb (length file) fileLength
+    && every (λ place. eqb (kept place (getD file place 0)) (getD file place 0)) fileLength

@@ -10,13 +10,14 @@ use mathlib.Core.List.{List, [], _∷_}
 use lib.Dec.{T}
 use Rattle.word.specs.Choice.{if_then_else_, every, Rule, _when_, given}
 
-pub if-when-true : {Answer : Type 0} (test : Bool) (this other : Answer) → test ≡ true → (if test then this else other) ≡ this
-if-when-true true this other holds = refl
-if-when-true false this other holds = let n : _≡_ {A = ℕ} 0 1 = cc in absurd (omega arith)
+-- what a choice gives, by its test
+pub if-when-true : {Answer : Type 0} (test : Bool) (answer this other : Answer)
+    → test ≡ true → answer ≡ this → answer ≡ (if test then this else other)
+if-when-true test answer this other holds same = rw holds same
 
-pub if-when-false : {Answer : Type 0} (test : Bool) (this other : Answer) → test ≡ false → (if test then this else other) ≡ other
-if-when-false false this other fails = refl
-if-when-false true this other fails = let n : _≡_ {A = ℕ} 0 1 = cc in absurd (omega arith)
+pub if-when-false : {Answer : Type 0} (test : Bool) (answer this other : Answer)
+    → test ≡ false → answer ≡ other → answer ≡ (if test then this else other)
+if-when-false test answer this other fails same = rw fails same
 
 and-left : (a b : Bool) → T (a && b) → T a
 and-left true b both = tt

@@ -1,0 +1,94 @@
+-- Laws of the blit: what it writes back, and how it is put together from its parts.
+use mathlib.Core.Path.{_≡_, refl, sym, ap, _∙_}
+use Prim.Native.Nat.{ℕ, _+_, _*_, _<_, _≤_}
+use mathlib.Core.Bool.{Bool, true, false}
+use mathlib.Core.List.{List}
+use native.Mathlib.Omega.{arith}
+use lib.Dec.{eqb}
+use lib.ListN.{length, set}
+use Rattle.word.specs.declared.types.Pointer.{Pointer}
+use Rattle.word.specs.Choice.{if_then_else_}
+use Rattle.word.specs.Pointer.{high, low}
+use Rattle.word.specs.Size.{height, width}
+use Rattle.word.proofs.SizeLaws.{height-le}
+use Rattle.file.specs.File.{flag}
+use Rattle.blit.specs.declared.types.Setup.{Setup}
+use Rattle.blit.specs.declared.types.Flow.{Flow}
+use Rattle.blit.specs.declared.types.Refusal.{Refusal}
+use Rattle.blit.specs.declared.types.Refusal.the-variants.{MemorySize, RegisterFile, NoWords, Line, BothFills, FillUpward, LeavesMemory}
+use Rattle.blit.specs.declared.types.Verdict.{Verdict}
+use Rattle.blit.specs.declared.types.Verdict.the-variants as verdicts
+use Rattle.blit.specs.declared.types.Answer.the-variants.{Done, Refused}
+use Rattle.blit.specs.Setup.{shifts, setup}
+use Rattle.blit.specs.Flow.{State, state, start}
+use Rattle.blit.specs.Rows.{rows}
+use Rattle.blit.specs.Refusal.{refusal, refusalNumber, verdictNumber}
+use Rattle.blit.specs.Blit.{Outcome, putPointer, putPointers, putSources, putFlag, finished, done, refused, blit, left}
+
+pub putPointer-when-used : (used : Bool) (place up down : ℕ) (pointer : Pointer) (file one two : List ℕ)
+    → used ≡ true → up ≡ high pointer → one ≡ set file place up → down ≡ low pointer → two ≡ set one (place + 1) down
+    → two ≡ putPointer used place pointer file
+unfolding putPointer
+putPointer-when-used used place up down pointer file one two uses upper first lower second =
+    rw (uses, second, first, upper, lower)
+
+pub putFlag-when-zero : (allzero : Bool) (file after : List ℕ) → allzero ≡ true → after ≡ set file flag 1 → after ≡ putFlag allzero file
+unfolding putFlag
+putFlag-when-zero allzero file after none same = rw none same
+
+pub putFlag-when-some : (allzero : Bool) (file after : List ℕ) → allzero ≡ false → after ≡ set file flag 0 → after ≡ putFlag allzero file
+unfolding putFlag
+putFlag-when-some allzero file after some same = rw some same
+
+-- a blit's set-up shifts by less than 16
+pub setup-shifts-a : (file : List ℕ) (set : Setup) → set ≡ setup file → set .shifts .a < 16
+unfolding setup shifts
+setup-shifts-a file set same = rw same (omega arith)
+
+pub setup-shifts-b : (file : List ℕ) (set : Setup) → set ≡ setup file → set .shifts .b < 16
+unfolding setup shifts
+setup-shifts-b file set same = rw same (omega arith)
+
+-- a blit starts with none stored and has at most 1,024 rows
+pub start-room : (file : List ℕ) (size rows : ℕ) (flow : Flow) → flow ≡ start file → rows ≡ height size
+    → flow .stored + rows * 64 < 4294967296
+unfolding start
+start-room file size rows flow starts tall = rw (starts, tall) (omega (arith, height-le size))
+
+pub done-of-parts : (size wide tall : ℕ) (memory after file one two three : List ℕ) (set : Setup) (flow end : Flow)
+    → set ≡ setup file → flow ≡ start file → wide ≡ width size → tall ≡ height size
+    → state after end ≡ rows set wide tall (state memory flow)
+    → one ≡ putPointers (set .uses) (end .pointers) file
+    → two ≡ putSources (set .uses) (end .sources) one
+    → three ≡ putFlag (end .allzero) two
+    → left (Done (end .stored)) after three ≡ done file (finished memory file size)
+unfolding done finished
+done-of-parts size wide tall memory after file one two three set flow end sets starts widths heights does points sources flags =
+    let does-all = rw (sets, starts, widths, heights) at does in
+    let points-all = rw sets at points in
+    let sources-all = rw sets at sources in
+    rw (← does-all, flags, sources-all, points-all)
+
+pub blit-when-done : (memory file after changed : List ℕ) (size stored : ℕ)
+    → (verdict : Verdict) → verdict ≡ verdicts.Lawful → verdictNumber verdict ≡ refusal (length memory) file size
+    → left (Done stored) after changed ≡ done file (finished memory file size)
+    → left (Done stored) after changed ≡ blit memory file size
+unfolding blit
+blit-when-done memory file after changed size stored verdict lawful number does =
+    let none = rw lawful at number in rw (← none) does
+
+refusal-is-some : (why : Refusal) → eqb (refusalNumber why) 0 ≡ false
+refusal-is-some MemorySize = refl
+refusal-is-some RegisterFile = refl
+refusal-is-some NoWords = refl
+refusal-is-some Line = refl
+refusal-is-some BothFills = refl
+refusal-is-some FillUpward = refl
+refusal-is-some LeavesMemory = refl
+
+pub blit-when-refused : (memory file : List ℕ) (size : ℕ) (why : Refusal)
+    → (verdict : Verdict) → verdict ≡ verdicts.Refused why → verdictNumber verdict ≡ refusal (length memory) file size
+    → left (Refused why) memory file ≡ blit memory file size
+unfolding blit refused
+blit-when-refused memory file size why verdict against number =
+    let some = rw against at number in rw (← some, refusal-is-some why)

@@ -1,0 +1,153 @@
+-- Laws of the refusals.
+use mathlib.Core.Path.{_≡_, refl, sym, ap, _∙_}
+use Prim.Native.Nat.{ℕ, zero, suc, _+_, _*_, _/_, _%_, _<_, _≤_}
+use mathlib.Core.Bool.{Bool, true, false, not, _&&_, _||_}
+use mathlib.Core.List.{List, [], _∷_}
+use native.Mathlib.Nat.{mul-le-mul, lt-of-le-of-lt}
+use native.Mathlib.Omega.{arith}
+use mir.Val.{Fits}
+use mir.Syntax.{w32}
+use native.Mathlib.Decide.{decLt}
+use borrow.Author.Tests.{lt-ltb, le-ltb, le-leb, lt-leb, eq-eqb, ne-eqb}
+use lib.Dec.{eqb, leb, ltb, lit<}
+use lib.ListN.{getD}
+use Rattle.word.specs.declared.types.Pointer.{Pointer}
+use Rattle.word.specs.Choice.{Rule, _when_, given}
+use Rattle.word.specs.Pointer.{pointerEnd, pointer}
+use Rattle.word.specs.Size.{height, width}
+use Rattle.word.proofs.SizeLaws.{height-le, width-le, width-positive}
+use Rattle.file.specs.File.{accepted, pointerA, pointerB, pointerC, pointerD}
+use Rattle.blit.specs.declared.types.Setup.{Setup}
+use Rattle.blit.specs.declared.types.Pointers.{Pointers}
+use Rattle.blit.specs.Setup.{con1, line, setup}
+use Rattle.blit.specs.Flow.{pointerAt, pointers}
+use Rattle.blit.specs.Touch.{channelLeaves}
+use Rattle.blit.specs.Refusal.{memorySize, noWords, bothFills, fillUpward, leavesMemory, blitRules, refusal}
+
+-- the far end tested the other way round
+pub memorySize-is-beyond : (n : ℕ) → (eqb n 0 || ltb pointerEnd n) ≡ memorySize n
+unfolding memorySize
+memorySize-is-beyond n = ap (λ (far : Bool). eqb n 0 || far) (by-order (decLt pointerEnd n))
+  where
+    by-order : Dec (pointerEnd < n) → ltb pointerEnd n ≡ not (leb n pointerEnd)
+    by-order (yes far) = rw (lt-ltb pointerEnd n far, lt-leb n pointerEnd far)
+    by-order (no near) = let inside : n ≤ pointerEnd = omega arith in rw (le-ltb pointerEnd n inside, le-leb n pointerEnd inside)
+
+pub pointerAt-lt : (file : List ℕ) (place : ℕ) → pointerAt file place .word < pointerEnd
+unfolding pointerAt pointer
+pointerAt-lt file place = omega arith
+
+pub words-fit : (size rows words : ℕ) → rows ≡ height size → words ≡ width size → Fits w32 (rows * words)
+words-fit size rows words tall wide =
+    let most : height size * width size ≤ 1024 * 64 = mul-le-mul (height-le size) (width-le size) in
+    rw (tall, wide) (record { fits = omega arith })
+
+true-is-not-false : (first : Bool) → (first || true) ≡ false → ⊥
+true-is-not-false true wrong = let z : _≡_ {A = ℕ} 0 1 = cc in omega arith
+true-is-not-false false wrong = let z : _≡_ {A = ℕ} 0 1 = cc in omega arith
+
+pub memorySize-le : (n : ℕ) (bad : Bool) → bad ≡ memorySize n → bad ≡ false → n ≤ pointerEnd
+memorySize-le n bad same fine = by-order (decLt pointerEnd n)
+  where
+    by-order : Dec (pointerEnd < n) → n ≤ pointerEnd
+    by-order (yes far) =
+        let test : (eqb n 0 || true) ≡ false = ap (λ (beyond : Bool). eqb n 0 || beyond) (sym (lt-ltb pointerEnd n far)) ∙ memorySize-is-beyond n ∙ sym same ∙ fine in
+        absurd (true-is-not-false (eqb n 0) test)
+    by-order (no near) = omega arith
+
+pub memorySize-fits : (n : ℕ) (bad : Bool) → bad ≡ memorySize n → bad ≡ false → Fits w32 n
+memorySize-fits n bad same fine = record { fits = omega (arith, memorySize-le n bad same fine) }
+
+pub width-is-some : (size words : ℕ) → words ≡ width size → 1 ≤ words
+width-is-some size words wide = rw wide (width-positive size)
+
+pub width-is-few : (size words : ℕ) → words ≡ width size → words ≤ 64
+width-is-few size words wide = rw wide (width-le size)
+
+module _ (file : List ℕ) (at : Pointers) (same : at ≡ pointers file) where
+  pub pointers-lt-a : at .a .word < pointerEnd
+  unfolding pointers
+  pointers-lt-a = rw same (pointerAt-lt file pointerA)
+
+  pub pointers-lt-b : at .b .word < pointerEnd
+  unfolding pointers
+  pointers-lt-b = rw same (pointerAt-lt file pointerB)
+
+  pub pointers-lt-c : at .c .word < pointerEnd
+  unfolding pointers
+  pointers-lt-c = rw same (pointerAt-lt file pointerC)
+
+  pub pointers-lt-d : at .d .word < pointerEnd
+  unfolding pointers
+  pointers-lt-d = rw same (pointerAt-lt file pointerD)
+
+-- the channels one after the other: the first that leaves decides
+module _ (n : ℕ) (set : Setup) (at : Pointers) (size wide tall : ℕ) (width-is : wide ≡ width size) (height-is : tall ≡ height size) (a : Bool)
+    (of-a : a ≡ channelLeaves n (set .direction) (set .uses .a) wide (set .modulos .a) tall (at .a)) where
+  pub leavesMemory-by-a : a ≡ true → true ≡ leavesMemory n set at size
+  unfolding leavesMemory
+  leavesMemory-by-a leaves = rw (← width-is, ← height-is, ← of-a, leaves)
+
+  module _ (a-stays : a ≡ false) (b : Bool) (of-b : b ≡ channelLeaves n (set .direction) (set .uses .b) wide (set .modulos .b) tall (at .b)) where
+    pub leavesMemory-by-b : b ≡ true → true ≡ leavesMemory n set at size
+    unfolding leavesMemory
+    leavesMemory-by-b leaves = rw (← width-is, ← height-is, ← of-a, ← of-b, a-stays, leaves)
+
+    module _ (b-stays : b ≡ false) (c : Bool) (of-c : c ≡ channelLeaves n (set .direction) (set .uses .c) wide (set .modulos .c) tall (at .c)) where
+      pub leavesMemory-by-c : c ≡ true → true ≡ leavesMemory n set at size
+      unfolding leavesMemory
+      leavesMemory-by-c leaves = rw (← width-is, ← height-is, ← of-a, ← of-b, ← of-c, a-stays, b-stays, leaves)
+
+      pub leavesMemory-by-d : (d : Bool) → c ≡ false → d ≡ channelLeaves n (set .direction) (set .uses .d) wide (set .modulos .d) tall (at .d)
+          → d ≡ leavesMemory n set at size
+      unfolding leavesMemory
+      leavesMemory-by-d d c-stays of-d = rw (← width-is, ← height-is, ← of-a, ← of-b, ← of-c, a-stays, b-stays, c-stays) of-d
+
+-- the rules of a blit, one after the other
+module _ (n size : ℕ) (file : List ℕ) (none : Bool) (of-none : none ≡ noWords size) where
+  pub refused-by-size : none ≡ true → 13 ≡ given (blitRules n file size)
+  unfolding given
+  refused-by-size holds = rw (← of-none, holds)
+
+  module _ (some : none ≡ false) (control : ℕ) (reads : control ≡ con1 file) where
+    pub refused-by-line : control / 1 % 2 ≡ 1 → 7 ≡ given (blitRules n file size)
+    unfolding given
+    refused-by-line holds = rw (← of-none, some, ← reads, eq-eqb (control / 1 % 2) 1 holds)
+
+    module _ (area : control / 1 % 2 ≡ 1 → ⊥) (both : Bool) (of-both : both ≡ bothFills control) where
+      pub refused-by-both-fills : both ≡ true → 8 ≡ given (blitRules n file size)
+      unfolding given
+      refused-by-both-fills holds = rw (← of-none, some, ← reads, ne-eqb (control / 1 % 2) 1 area, ← of-both, holds)
+
+      module _ (one : both ≡ false) (upward : Bool) (of-upward : upward ≡ fillUpward control) where
+        pub refused-by-fill-upward : upward ≡ true → 9 ≡ given (blitRules n file size)
+        unfolding given
+        refused-by-fill-upward holds =
+            rw (← of-none, some, ← reads, ne-eqb (control / 1 % 2) 1 area, ← of-both, one, ← of-upward, holds)
+
+        module _ (downward : upward ≡ false) (set : Setup) (at : Pointers) (outside : Bool)
+            (of-set : set ≡ setup file) (of-at : at ≡ pointers file) (of-outside : outside ≡ leavesMemory n set at size) where
+          pub refused-by-leaving : outside ≡ true → 10 ≡ given (blitRules n file size)
+          unfolding given
+          refused-by-leaving holds =
+              rw (← of-none, some, ← reads, ne-eqb (control / 1 % 2) 1 area, ← of-both, one, ← of-upward, downward, ← of-set, ← of-at, ← of-outside, holds)
+
+          pub lawful : outside ≡ false → 0 ≡ given (blitRules n file size)
+          unfolding given
+          lawful holds =
+              rw (← of-none, some, ← reads, ne-eqb (control / 1 % 2) 1 area, ← of-both, one, ← of-upward, downward, ← of-set, ← of-at, ← of-outside, holds)
+
+-- memory and file, then the rules of the blit
+module _ (n size : ℕ) (file : List ℕ) (bad : Bool) (of-bad : bad ≡ memorySize n) where
+  pub refused-by-memory : bad ≡ true → 1 ≡ refusal n file size
+  unfolding refusal given
+  refused-by-memory holds = rw (← of-bad, holds)
+
+  module _ (taken : bad ≡ false) (fine : Bool) (of-fine : fine ≡ accepted file) where
+    pub refused-by-file : not fine ≡ true → 2 ≡ refusal n file size
+    unfolding refusal given
+    refused-by-file holds = rw (← of-bad, taken, ← of-fine, holds)
+
+    pub refused-by-blit : (number : ℕ) → not fine ≡ false → number ≡ given (blitRules n file size) → number ≡ refusal n file size
+    unfolding refusal given
+    refused-by-blit number holds rest = rw (← of-bad, taken, ← of-fine, holds) rest

@@ -1,0 +1,226 @@
+-- Laws of the words that a channel touches: a row's two ends tell for the row, and a row for the rest.
+use mathlib.Core.Path.{_≡_, refl, sym, ap, _∙_}
+use Prim.Native.Nat.{ℕ, zero, suc, _+_, _-_, _%_, _<_, _≤_}
+use native.Mathlib.Nat.{mod-eq-of-lt}
+use native.Mathlib.Numerals.{sub-one}
+use native.Mathlib.Decide.{decLt}
+use native.Mathlib.Omega.{arith}
+use mathlib.Core.Bool.{Bool, true, false, _||_, and-false}
+use mathlib.Core.List.{List, [], _∷_, _++_}
+use borrow.Author.Tests.{lt-ltb, le-ltb, le-leb, lt-leb}
+use lib.Dec.{ltb, leb}
+use Rattle.word.specs.declared.types.Direction.{Direction}
+use Rattle.word.specs.declared.types.Direction.the-variants.{Ascending, Descending}
+use Rattle.word.specs.declared.types.Pointer.{Pointer}
+use Rattle.word.specs.Repeat.{repeated}
+use Rattle.word.specs.Pointer.{pointerEnd, moved, passed}
+use Rattle.blit.specs.Touch.{rowTouches, afterRow, touches, leaves, channelLeaves}
+
+-- the first word decides, or the rest do
+leaves-by-first : (n word : ℕ) (all rest : Bool)
+    → (n ≤ word → all ≡ true) → (word < n → all ≡ rest) → all ≡ (leb n word || rest)
+leaves-by-first n word all rest outside inside = by-place (decLt word n)
+  where
+    by-place : Dec (word < n) → all ≡ (leb n word || rest)
+    by-place (yes below) = rw (lt-leb n word below) (inside below)
+    by-place (no above) = let past : n ≤ word = omega arith in rw (le-leb n word past) (outside past)
+
+-- a row upward leaves where its last word does; one that goes round passes 262,143, which lies at n or above
+pub leaves-upward : (n width : ℕ) (pointer : Pointer) → n < pointerEnd → pointer .word < pointerEnd → 1 ≤ width
+    → ltb n (pointer .word + width) ≡ leaves n (rowTouches Ascending width pointer)
+unfolding leaves rowTouches moved
+leaves-upward n zero pointer short small some = absurd (omega arith)
+leaves-upward n (suc zero) pointer short small some =
+    leaves-by-first n (pointer .word) _ _
+    (λ outside. lt-ltb n (pointer .word + 1) (omega arith))
+    (λ inside. le-ltb n (pointer .word + 1) (omega arith))
+leaves-upward n (suc (suc left)) pointer short small some =
+    leaves-by-first n (pointer .word) _ _
+    (λ outside. lt-ltb n (pointer .word + suc (suc left)) (omega arith))
+    (λ inside.
+    let next : (pointer .word + 1) % pointerEnd ≡ pointer .word + 1 = omega arith in
+    let far : pointer .word + suc (suc left) ≡ (pointer .word + 1) % pointerEnd + suc left = omega arith in
+    rw far (leaves-upward n (suc left) (record { word = (pointer .word + 1) % pointerEnd }) short (omega arith) (omega arith)))
+
+-- two tests of order that hold together
+same-test : (a b c d : ℕ) → (a < b → c < d) → (b ≤ a → d ≤ c) → ltb a b ≡ ltb c d
+same-test a b c d yields fails = by-order (decLt a b)
+  where
+    by-order : Dec (a < b) → ltb a b ≡ ltb c d
+    by-order (yes less) = lt-ltb a b less ∙ sym (lt-ltb c d (yields less))
+    by-order (no more) = let past : b ≤ a = omega arith in le-ltb a b past ∙ sym (le-ltb c d (fails past))
+
+-- a row downward leaves at its first word, or where it goes round
+pub leaves-downward : (n width : ℕ) (pointer : Pointer) → n < pointerEnd → pointer .word < pointerEnd → 1 ≤ width
+    → (leb n (pointer .word) || ltb (pointer .word + 1) width) ≡ leaves n (rowTouches Descending width pointer)
+unfolding leaves rowTouches moved
+leaves-downward n zero pointer short small some = absurd (omega arith)
+leaves-downward n (suc zero) pointer short small some =
+    ap (λ (rest : Bool). leb n (pointer .word) || rest) (le-ltb (pointer .word + 1) 1 (omega arith))
+leaves-downward n (suc (suc left)) pointer short small some =
+    leaves-by-first n (pointer .word) _ _
+    (λ outside. rw (le-leb n (pointer .word) outside))
+    (λ inside. rw (lt-leb n (pointer .word) inside)
+    (rest (pointer .word) inside
+    (leaves-downward n (suc left) (record { word = (pointer .word + (pointerEnd - 1)) % pointerEnd }) short (omega arith) (omega arith))))
+  where
+    rest : (word : ℕ) → word < n
+        → (leb n ((word + (pointerEnd - 1)) % pointerEnd) || ltb ((word + (pointerEnd - 1)) % pointerEnd + 1) (suc left))
+        ≡ leaves n (rowTouches Descending (suc left) (record { word = (word + (pointerEnd - 1)) % pointerEnd }))
+        → ltb (word + 1) (suc (suc left)) ≡ leaves n (rowTouches Descending (suc left) (record { word = (word + (pointerEnd - 1)) % pointerEnd }))
+    rest zero inside later =
+        let round : leb n 262143 ≡ true = le-leb n 262143 (omega arith) in
+        lt-ltb 1 (suc (suc left)) (omega arith) ∙ (ap (λ (first : Bool). first || ltb 262144 (suc left)) (sym round) ∙ later)
+    rest (suc word) inside later =
+        let next : (suc word + (pointerEnd - 1)) % pointerEnd ≡ word = omega arith in
+        let below : leb n word ≡ false = lt-leb n word (omega arith) in
+        same-test (suc word + 1) (suc (suc left)) (word + 1) (suc left) (λ less. omega arith) (λ more. omega arith)
+        ∙ ap (λ (first : Bool). first || ltb (word + 1) (suc left)) (sym below)
+        ∙ ap (λ (at : ℕ). leb n at || ltb (at + 1) (suc left)) (sym next)
+        ∙ later
+
+pub leaves-when-first-above : (n width : ℕ) (direction : Direction) (pointer : Pointer)
+    → direction ≡ Descending → n < pointerEnd → pointer .word < pointerEnd → 1 ≤ width → n ≤ pointer .word
+    → true ≡ leaves n (rowTouches direction width pointer)
+leaves-when-first-above n width direction pointer way short small some above =
+    rw (way, ← leaves-downward n width pointer short small some, le-leb n (pointer .word) above)
+
+pub leaves-when-first-below : (n width : ℕ) (direction : Direction) (pointer : Pointer)
+    → direction ≡ Descending → n < pointerEnd → pointer .word < pointerEnd → 1 ≤ width → pointer .word < n
+    → ltb (pointer .word + 1) width ≡ leaves n (rowTouches direction width pointer)
+leaves-when-first-below n width direction pointer way short small some below =
+    rw (way, ← leaves-downward n width pointer short small some, lt-leb n (pointer .word) below)
+
+pub leaves-when-ascending : (n width : ℕ) (direction : Direction) (pointer : Pointer)
+    → direction ≡ Ascending → n < pointerEnd → pointer .word < pointerEnd → 1 ≤ width
+    → ltb n (pointer .word + width) ≡ leaves n (rowTouches direction width pointer)
+leaves-when-ascending n width direction pointer way short small some = rw way (leaves-upward n width pointer short small some)
+
+-- one word and so many more, upward and downward
+up-and-on : (word left : ℕ) → (word + suc left) % pointerEnd ≡ ((word + 1) % pointerEnd + left) % pointerEnd
+up-and-on word left = omega arith
+
+down-and-on : (word left : ℕ) → word < pointerEnd → suc left < pointerEnd
+    → (word + (pointerEnd - suc left)) % pointerEnd ≡ ((word + (pointerEnd - 1)) % pointerEnd + (pointerEnd - left)) % pointerEnd
+down-and-on word left small few = omega arith
+
+-- width moves of one word are one move of width words
+pub moves-are-one : (direction : Direction) (width : ℕ) (pointer : Pointer) → pointer .word < pointerEnd → width < pointerEnd
+    → passed direction width pointer ≡ repeated (λ _. moved direction) width pointer
+unfolding repeated passed moved
+moves-are-one Ascending zero pointer small few = ap (λ (word : ℕ). record { word = word }) (omega arith)
+moves-are-one Ascending (suc width) pointer small few =
+    let whole : suc width % pointerEnd ≡ suc width = mod-eq-of-lt few in
+    let rest : width % pointerEnd ≡ width = mod-eq-of-lt (omega arith) in
+    ap (λ (word : ℕ). record { word = word })
+    (ap (λ (by : ℕ). (pointer .word + by) % pointerEnd) whole
+    ∙ up-and-on (pointer .word) width
+    ∙ ap (λ (by : ℕ). ((pointer .word + 1) % pointerEnd + by) % pointerEnd) (sym rest))
+    ∙ moves-are-one Ascending width (record { word = (pointer .word + 1) % pointerEnd }) (omega arith) (omega arith)
+moves-are-one Descending zero pointer small few = ap (λ (word : ℕ). record { word = word }) (omega arith)
+moves-are-one Descending (suc width) pointer small few =
+    let whole : suc width % pointerEnd ≡ suc width = mod-eq-of-lt few in
+    let rest : width % pointerEnd ≡ width = mod-eq-of-lt (omega arith) in
+    ap (λ (word : ℕ). record { word = word })
+    (ap (λ (by : ℕ). (pointer .word + (pointerEnd - by)) % pointerEnd) whole
+    ∙ down-and-on (pointer .word) width small few
+    ∙ ap (λ (by : ℕ). ((pointer .word + (pointerEnd - 1)) % pointerEnd + (pointerEnd - by)) % pointerEnd) (sym rest))
+    ∙ moves-are-one Descending width (record { word = (pointer .word + (pointerEnd - 1)) % pointerEnd }) (omega arith) (omega arith)
+
+pub passed-lt : (direction : Direction) (words : ℕ) (pointer : Pointer) → passed direction words pointer .word < pointerEnd
+unfolding passed
+passed-lt Ascending words pointer = omega arith
+passed-lt Descending words pointer = omega arith
+
+pub moved-lt : (direction : Direction) (pointer : Pointer) → moved direction pointer .word < pointerEnd
+unfolding moved
+moved-lt Ascending pointer = omega arith
+moved-lt Descending pointer = omega arith
+
+pub afterRow-of-moves : (direction : Direction) (width modulo : ℕ) (pointer end next : Pointer) → pointer .word < pointerEnd → width ≤ 64
+    → end ≡ passed direction width pointer → next ≡ passed direction modulo end
+    → (next ≡ afterRow direction width modulo pointer) × (next .word < pointerEnd)
+unfolding afterRow
+afterRow-of-moves direction width modulo pointer end next small narrow row turn =
+    (turn ∙ ap (passed direction modulo) (row ∙ moves-are-one direction width pointer small (omega arith)), rw turn (passed-lt direction modulo end))
+
+leaves-of-append : (n : ℕ) (first rest : List ℕ) → leaves n (first ++ rest) ≡ (leaves n first || leaves n rest)
+unfolding leaves
+leaves-of-append n [] rest = refl
+leaves-of-append n (word ∷ first) rest =
+    ap (λ (later : Bool). leb n word || later) (leaves-of-append n first rest)
+    ∙ or-assoc (leb n word) (leaves n first) (leaves n rest)
+  where
+    or-assoc : (a b c : Bool) → (a || (b || c)) ≡ ((a || b) || c)
+    or-assoc true b c = refl
+    or-assoc false b c = refl
+
+-- a row that leaves decides
+pub touches-when-row-leaves : (n : ℕ) (direction : Direction) (width modulo left : ℕ) (here : Pointer) (outside whole : Bool)
+    → 0 < left → outside ≡ leaves n (rowTouches direction width here) → outside ≡ true
+    → leaves n (touches direction width modulo left here) ≡ whole → true ≡ whole
+unfolding touches
+touches-when-row-leaves n direction width modulo zero here outside whole more row leave same = absurd (omega arith)
+touches-when-row-leaves n direction width modulo (suc left) here outside whole more row leave same =
+    let rest = touches direction width modulo left (afterRow direction width modulo here) in
+    ap (λ (first : Bool). first || leaves n rest) (sym leave ∙ row)
+    ∙ sym (leaves-of-append n (rowTouches direction width here) rest)
+    ∙ same
+
+-- a row inside is passed
+pub touches-turn : (n : ℕ) (direction : Direction) (width modulo left : ℕ) (here next : Pointer) (outside whole : Bool)
+    → 0 < left → outside ≡ leaves n (rowTouches direction width here) → outside ≡ false → next ≡ afterRow direction width modulo here
+    → leaves n (touches direction width modulo left here) ≡ whole
+    → leaves n (touches direction width modulo (left - 1) next) ≡ whole
+unfolding touches
+touches-turn n direction width modulo zero here next outside whole more row stay turn same = absurd (omega arith)
+touches-turn n direction width modulo (suc left) here next outside whole more row stay turn same =
+    let rest = touches direction width modulo left (afterRow direction width modulo here) in
+    rw (turn, sub-one)
+    (ap (λ (first : Bool). first || leaves n rest) (sym stay ∙ row)
+    ∙ sym (leaves-of-append n (rowTouches direction width here) rest)
+    ∙ same)
+
+pub touches-done : (n : ℕ) (direction : Direction) (width modulo left : ℕ) (here : Pointer) (whole : Bool)
+    → left ≤ 0 → leaves n (touches direction width modulo left here) ≡ whole → false ≡ whole
+unfolding touches leaves
+touches-done n direction width modulo zero here whole none same = same
+touches-done n direction width modulo (suc left) here whole none same = absurd (omega arith)
+
+-- no pointer leaves memory of 262,144 words
+row-stays : (direction : Direction) (width : ℕ) (pointer : Pointer) → pointer .word < pointerEnd
+    → leaves pointerEnd (rowTouches direction width pointer) ≡ false
+unfolding leaves rowTouches
+row-stays direction zero pointer small = refl
+row-stays direction (suc left) pointer small =
+    rw (lt-leb pointerEnd (pointer .word) small) (row-stays direction left (moved direction pointer) (moved-lt direction pointer))
+
+afterRow-lt : (direction : Direction) (width modulo : ℕ) (pointer : Pointer) → afterRow direction width modulo pointer .word < pointerEnd
+unfolding afterRow
+afterRow-lt direction width modulo pointer = passed-lt direction modulo (repeated (λ _. moved direction) width pointer)
+
+pub touches-stay : (direction : Direction) (width modulo rows : ℕ) (pointer : Pointer) → pointer .word < pointerEnd
+    → leaves pointerEnd (touches direction width modulo rows pointer) ≡ false
+unfolding touches leaves
+touches-stay direction width modulo zero pointer small = refl
+touches-stay direction width modulo (suc left) pointer small =
+    leaves-of-append pointerEnd (rowTouches direction width pointer) (touches direction width modulo left (afterRow direction width modulo pointer))
+    ∙ rw (row-stays direction width pointer small)
+    (touches-stay direction width modulo left (afterRow direction width modulo pointer) (afterRow-lt direction width modulo pointer))
+
+module _ (n : ℕ) (direction : Direction) (used : Bool) (width modulo rows : ℕ) (pointer : Pointer) where
+  pub channelLeaves-when-used : (outside : Bool) → used ≡ true → outside ≡ leaves n (touches direction width modulo rows pointer)
+      → outside ≡ channelLeaves n direction used width modulo rows pointer
+  unfolding channelLeaves
+  channelLeaves-when-used outside uses same = rw uses same
+
+  pub channelLeaves-at-end : n ≤ pointerEnd → pointerEnd ≤ n → pointer .word < pointerEnd
+      → false ≡ channelLeaves n direction used width modulo rows pointer
+  unfolding channelLeaves
+  channelLeaves-at-end most least small =
+      let whole : n ≡ pointerEnd = omega arith in
+      rw (whole, touches-stay direction width modulo rows pointer small) (sym (and-false used))
+
+  pub channelLeaves-when-unused : used ≡ false → false ≡ channelLeaves n direction used width modulo rows pointer
+  unfolding channelLeaves
+  channelLeaves-when-unused idle = rw idle

@@ -1,0 +1,15 @@
+-- `blit::finish::masked_a` meets its contract: it is the mask's.
+use Rattle.blit.specs.Finish.{maskedA}
+use borrow.Author.Needs.{needs}
+use Rattle.blit.proofs.finish.masked_a.Statement.{statement}
+use Rattle.blit.proofs.finish.masked_a.Tie as tie
+
+masked-requires : tie.Need-masked-requires
+masked-requires c κs = search needs
+
+returns : tie.Need-returns
+unfolding maskedA
+returns c = search needs
+
+pub masked-a-spec : {M : Type 1} → statement M
+masked-a-spec = tie.close (tie.spec masked-requires returns)

@@ -1,0 +1,94 @@
+-- Paper 01, "Jobs": "The blit called alone, with memory, register file and size, gives [its number] .. and the count".
+use Prim.Native.Nat.{ℕ, _+_}
+use mathlib.Core.Bool.{Bool}
+use mathlib.Core.List.{List}
+use lib.Dec.{eqb}
+use lib.ListN.{length, set}
+use Rattle.word.specs.declared.types.Pointer.{Pointer}
+use Rattle.word.specs.Choice.{if_then_else_}
+use Rattle.word.specs.Pointer.{high, low}
+use Rattle.word.specs.Size.{height, width}
+use Rattle.file.specs.File.{pointerA, pointerB, pointerC, pointerD, sourceA, sourceB, sourceC, flag}
+use Rattle.blit.specs.declared.types.Uses.{Uses}
+use Rattle.blit.specs.declared.types.Pointers.{Pointers}
+use Rattle.blit.specs.declared.types.Sources.{Sources}
+use Rattle.blit.specs.declared.types.Answer.{Answer}
+use Rattle.blit.specs.declared.types.Answer.the-variants.{Done, Refused}
+use Rattle.blit.specs.Setup.{setup}
+use Rattle.blit.specs.Flow.{State, state, start}
+use Rattle.blit.specs.Rows.{rows}
+use Rattle.blit.specs.Refusal.{refusal, refusalNumber}
+
+-- what a blit gives and leaves
+pub record Outcome : Type 0 where
+  pub number : ℕ
+  pub stored : ℕ
+  pub memory : List ℕ
+  pub file : List ℕ
+
+-- "Unused pointers stay"; a used one is written to its two registers
+unfoldable pub putPointer : (used : Bool) → (place : ℕ) → Pointer → (file : List ℕ) → List ℕ
+putPointer used place pointer file =
+    if used then set (set file place (high pointer)) (place + 1) (low pointer) else file
+
+unfoldable pub putPointers : Uses → Pointers → (file : List ℕ) → List ℕ
+putPointers uses pointers file =
+    putPointer (uses .d) pointerD (pointers .d)
+    (putPointer (uses .c) pointerC (pointers .c)
+    (putPointer (uses .b) pointerB (pointers .b)
+    (putPointer (uses .a) pointerA (pointers .a) file)))
+
+-- "The data register of each used source holds the last word it fetched"
+unfoldable pub putSource : (used : Bool) → (place word : ℕ) → (file : List ℕ) → List ℕ
+putSource used place word file = if used then set file place word else file
+
+unfoldable pub putSources : Uses → Sources → (file : List ℕ) → List ℕ
+putSources uses sources file =
+    putSource (uses .c) sourceC (sources .c)
+    (putSource (uses .b) sourceB (sources .b)
+    (putSource (uses .a) sourceA (sources .a) file))
+
+-- "The zero flag becomes 1 exactly when every final word was zero"
+unfoldable pub putFlag : (allzero : Bool) → (file : List ℕ) → List ℕ
+putFlag allzero file = set file flag (if allzero then 1 else 0)
+
+-- the blit, all rows done
+unfoldable pub finished : (memory file : List ℕ) → (size : ℕ) → State
+finished memory file size = rows (setup file) (width size) (height size) (state memory (start file))
+
+-- a blit that is done
+unfoldable pub done : (file : List ℕ) → State → Outcome
+done file end =
+    record {
+      number = 0;
+      stored = end .flow .stored;
+      memory = end .memory;
+      file =
+          putFlag (end .flow .allzero)
+          (putSources (setup file .uses) (end .flow .sources)
+          (putPointers (setup file .uses) (end .flow .pointers) file));
+    }
+
+-- a blit that is refused: nothing is stored, and nothing changes
+unfoldable pub refused : (number : ℕ) → (memory file : List ℕ) → Outcome
+refused number memory file = record { number = number; stored = 0; memory = memory; file = file }
+
+unfoldable pub blit : (memory file : List ℕ) → (size : ℕ) → Outcome
+blit memory file size =
+    if eqb (refusal (length memory) file size) 0
+    then done file (finished memory file size)
+    else refused (refusal (length memory) file size) memory file
+
+-- the paper's number and count for each case of the answer
+abbrev pub answerNumber : Answer → ℕ
+answerNumber (Done stored) = 0
+answerNumber (Refused why) = refusalNumber why
+
+abbrev pub answerStored : Answer → ℕ
+answerStored (Done stored) = stored
+answerStored (Refused why) = 0
+
+-- an answer, and what memory and file hold as it is given
+abbrev pub left : Answer → (memory file : List ℕ) → Outcome
+left answer memory file =
+    record { number = answerNumber answer; stored = answerStored answer; memory = memory; file = file }

@@ -1,0 +1,77 @@
+-- Paper 01, "Numbers given back", the rows of a blit, which "gives 1, 2, 13, 7, 8, 9, 10 in that order".
+-- Blit, runner and folder go by this one definition, a function of N, file and size.
+use Prim.Native.Nat.{ℕ, _*_}
+use mathlib.Core.Bool.{Bool, not, _&&_, _||_}
+use mathlib.Core.List.{List, [], _∷_}
+use lib.Dec.{eqb, leb}
+use Rattle.word.specs.Choice.{Rule, _when_, given}
+use Rattle.word.specs.Pointer.{pointerEnd}
+use Rattle.word.specs.Size.{height, width}
+use Rattle.file.specs.File.{accepted}
+use Rattle.blit.specs.declared.types.Setup.{Setup}
+use Rattle.blit.specs.declared.types.Pointers.{Pointers}
+use Rattle.blit.specs.declared.types.Refusal.{Refusal}
+use Rattle.blit.specs.declared.types.Refusal.the-variants.{MemorySize, RegisterFile, NoWords, Line, BothFills, FillUpward, LeavesMemory}
+use Rattle.blit.specs.declared.types.Verdict.{Verdict}
+use Rattle.blit.specs.declared.types.Verdict.the-variants.{Lawful, Refused}
+use Rattle.blit.specs.Setup.{con1, line, exclusiveFill, inclusiveFill, descending, setup}
+use Rattle.blit.specs.Flow.{pointers}
+use Rattle.blit.specs.Touch.{channelLeaves}
+
+-- "N outside 1 to 262,144"
+unfoldable pub memorySize : (n : ℕ) → Bool
+memorySize n = eqb n 0 || not (leb n pointerEnd)
+
+-- "size decodes to no words"
+unfoldable pub noWords : (size : ℕ) → Bool
+noWords size = eqb (height size * width size) 0
+
+-- "both fill bits set"
+unfoldable pub bothFills : (con1 : ℕ) → Bool
+bothFills con1 = exclusiveFill con1 && inclusiveFill con1
+
+-- "a fill bit set without descending"
+unfoldable pub fillUpward : (con1 : ℕ) → Bool
+fillUpward con1 = (exclusiveFill con1 || inclusiveFill con1) && not (descending con1)
+
+-- "any word a used channel of the blit would touch, lies at N or above"
+unfoldable pub leavesMemory : (n : ℕ) → Setup → Pointers → (size : ℕ) → Bool
+leavesMemory n set at size =
+    channelLeaves n (set .direction) (set .uses .a) (width size) (set .modulos .a) (height size) (at .a)
+    || channelLeaves n (set .direction) (set .uses .b) (width size) (set .modulos .b) (height size) (at .b)
+    || channelLeaves n (set .direction) (set .uses .c) (width size) (set .modulos .c) (height size) (at .c)
+    || channelLeaves n (set .direction) (set .uses .d) (width size) (set .modulos .d) (height size) (at .d)
+
+-- the rules of a blit on a memory and a file that are taken
+abbrev pub blitRules : (n : ℕ) → (file : List ℕ) → (size : ℕ) → List Rule
+blitRules n file size =
+    13 when noWords size
+    ∷ 7 when line (con1 file)
+    ∷ 8 when bothFills (con1 file)
+    ∷ 9 when fillUpward (con1 file)
+    ∷ 10 when leavesMemory n (setup file) (pointers file) size
+    ∷ []
+
+abbrev pub refusals : (n : ℕ) → (file : List ℕ) → (size : ℕ) → List Rule
+refusals n file size =
+    1 when memorySize n
+    ∷ 2 when not (accepted file)
+    ∷ blitRules n file size
+
+-- the number of the refusal; 0 where none applies
+unfoldable pub refusal : (n : ℕ) → (file : List ℕ) → (size : ℕ) → ℕ
+refusal n file size = given (refusals n file size)
+
+-- the paper's number for each case
+abbrev pub refusalNumber : Refusal → ℕ
+refusalNumber MemorySize = 1
+refusalNumber RegisterFile = 2
+refusalNumber NoWords = 13
+refusalNumber Line = 7
+refusalNumber BothFills = 8
+refusalNumber FillUpward = 9
+refusalNumber LeavesMemory = 10
+
+abbrev pub verdictNumber : Verdict → ℕ
+verdictNumber Lawful = 0
+verdictNumber (Refused why) = refusalNumber why

@@ -1,0 +1,34 @@
+-- Paper 01, "Numbers given back": "any word a used channel of the blit would touch".
+-- The words that are really fetched or stored; a pointer that only passes a word doesn't touch it.
+use Prim.Native.Nat.{ℕ, zero, suc}
+use mathlib.Core.Bool.{Bool, false, _&&_, _||_}
+use mathlib.Core.List.{List, [], _∷_, _++_}
+use lib.Dec.{leb}
+use Rattle.word.specs.declared.types.Direction.{Direction}
+use Rattle.word.specs.declared.types.Pointer.{Pointer}
+use Rattle.word.specs.Repeat.{repeated}
+use Rattle.word.specs.Pointer.{moved, passed}
+
+-- the word numbers of a row, by the pointer's own moves
+unfoldable pub rowTouches : Direction → (width : ℕ) → Pointer → List ℕ
+rowTouches direction zero pointer = []
+rowTouches direction (suc left) pointer = pointer .word ∷ rowTouches direction left (moved direction pointer)
+
+-- the pointer after a row's words and modulo
+unfoldable pub afterRow : Direction → (width modulo : ℕ) → Pointer → Pointer
+afterRow direction width modulo pointer = passed direction modulo (repeated (λ _. moved direction) width pointer)
+
+-- the word numbers of all rows
+unfoldable pub touches : Direction → (width modulo rows : ℕ) → Pointer → List ℕ
+touches direction width modulo zero pointer = []
+touches direction width modulo (suc left) pointer =
+    rowTouches direction width pointer ++ touches direction width modulo left (afterRow direction width modulo pointer)
+
+-- one of the words "lies at N or above"
+unfoldable pub leaves : (n : ℕ) → List ℕ → Bool
+leaves n [] = false
+leaves n (word ∷ rest) = leb n word || leaves n rest
+
+-- a used channel leaves memory of n words
+unfoldable pub channelLeaves : (n : ℕ) → Direction → (used : Bool) → (width modulo rows : ℕ) → Pointer → Bool
+channelLeaves n direction used width modulo rows pointer = used && leaves n (touches direction width modulo rows pointer)

@@ -1,0 +1,24 @@
+// A blit that is done: all rows, and what is written back to the register file.
+ghost use mathlib.Core.Path.{_≡_};
+ghost use Rattle.blit.specs.Blit.{finished, done, left};
+use crate::types::Answer;
+
+// Does a blit that nothing refuses, and answers the count of words stored.
+pub fn done(ram: &mut [u16], file: &mut [u16], size: u16) -> u32
+    ensures { λ stored. ⌜
+        left (Answer.Done stored) (now (ram .exit)) (now (file .exit))
+        ≡ done (now (file .entry)) (finished (now (ram .entry)) (now (file .entry)) size) ⌝ }
+{
+    let setup = crate::setup::setup(file);
+    let flow = crate::flow::start(file);
+    let width = word::size::width(size);
+    let height = word::size::height(size);
+    let end = crate::rows::rows(ram, setup, width, height, flow);
+    let uses = setup.uses;
+    let pointers = end.pointers;
+    let sources = end.sources;
+    crate::registers::put_pointers(file, uses, pointers);
+    crate::registers::put_sources(file, uses, sources);
+    crate::registers::put_flag(file, end.allzero);
+    end.stored
+}

@@ -1,0 +1,98 @@
+// The refusals of a blit, in the order of the paper.
+ghost use mathlib.Core.Path.{_≡_};
+ghost use Prim.Native.Nat.{_<_, _≤_};
+ghost use Rattle.word.specs.Choice.{given};
+ghost use Rattle.blit.specs.Refusal.{memorySize, noWords, bothFills, fillUpward, leavesMemory, blitRules, refusal, verdictNumber};
+use crate::types::Pointers;
+use crate::types::Refusal;
+use crate::types::Setup;
+use crate::types::Verdict;
+
+fn memory_size(n: usize) -> bool
+    ensures { λ bad. ⌜ bad ≡ memorySize n ⌝ }
+{
+    (n == 0) | (262144 < n)
+}
+
+fn no_words(size: u16) -> bool
+    ensures { λ none. ⌜ none ≡ noWords size ⌝ }
+{
+    let height = word::size::height(size);
+    let width = word::size::width(size);
+    height * width == 0
+}
+
+fn both_fills(con1: u16) -> bool
+    ensures { λ both. ⌜ both ≡ bothFills con1 ⌝ }
+{
+    (con1 / 16 % 2 == 1) & (con1 / 8 % 2 == 1)
+}
+
+fn fill_upward(con1: u16) -> bool
+    ensures { λ upward. ⌜ upward ≡ fillUpward con1 ⌝ }
+{
+    ((con1 / 16 % 2 == 1) | (con1 / 8 % 2 == 1)) & !(con1 / 2 % 2 == 1)
+}
+
+fn leaves_memory(n: u32, setup: Setup, pointers: Pointers, size: u16) -> bool
+    requires { ⌜ (n ≤ 262144) × (pointers .a .word < 262144) × (pointers .b .word < 262144) × (pointers .c .word < 262144) × (pointers .d .word < 262144) ⌝ }
+    ensures { λ outside. ⌜ outside ≡ leavesMemory n setup pointers size ⌝ }
+{
+    let uses = setup.uses;
+    let modulos = setup.modulos;
+    let direction = setup.direction;
+    let width = word::size::width(size);
+    let height = word::size::height(size);
+    let a = pointers.a;
+    let b = pointers.b;
+    let c = pointers.c;
+    let d = pointers.d;
+    if crate::touch::channel_leaves(n, direction, uses.a, width, modulos.a, height, a) {
+        return true;
+    }
+    if crate::touch::channel_leaves(n, direction, uses.b, width, modulos.b, height, b) {
+        return true;
+    }
+    if crate::touch::channel_leaves(n, direction, uses.c, width, modulos.c, height, c) {
+        return true;
+    }
+    crate::touch::channel_leaves(n, direction, uses.d, width, modulos.d, height, d)
+}
+
+// The refusal of a blit on a memory and a file that are taken.
+fn blit_refusal(n: u32, file: &[u16], size: u16) -> Verdict
+    requires { ⌜ n ≤ 262144 ⌝ }
+    ensures { λ verdict. ⌜ verdictNumber verdict ≡ given (blitRules n (now (file .entry)) size) ⌝ }
+{
+    if no_words(size) {
+        return Verdict::Refused(Refusal::NoWords);
+    }
+    let con1 = word::memory::read(file, 1);
+    if con1 / 1 % 2 == 1 {
+        return Verdict::Refused(Refusal::Line);
+    }
+    if both_fills(con1) {
+        return Verdict::Refused(Refusal::BothFills);
+    }
+    if fill_upward(con1) {
+        return Verdict::Refused(Refusal::FillUpward);
+    }
+    let setup = crate::setup::setup(file);
+    let pointers = crate::flow::pointers(file);
+    if leaves_memory(n, setup, pointers, size) {
+        return Verdict::Refused(Refusal::LeavesMemory);
+    }
+    Verdict::Lawful
+}
+
+pub fn refusal(n: usize, file: &[u16], size: u16) -> Verdict
+    ensures { λ verdict. ⌜ verdictNumber verdict ≡ refusal n (now (file .entry)) size ⌝ }
+{
+    if memory_size(n) {
+        return Verdict::Refused(Refusal::MemorySize);
+    }
+    if !file::accepted(file) {
+        return Verdict::Refused(Refusal::RegisterFile);
+    }
+    blit_refusal(n as u32, file, size)
+}

@@ -1,0 +1,57 @@
+// What a blit that is done writes back to the register file.
+ghost use mathlib.Core.Path.{_≡_};
+ghost use Prim.Native.Nat.{_<_};
+ghost use Rattle.blit.specs.Blit.{putPointer, putPointers, putSource, putSources, putFlag};
+use crate::types::Pointers;
+use crate::types::Sources;
+use crate::types::Uses;
+use word::types::Pointer;
+
+fn put_pointer(file: &mut [u16], used: bool, place: u32, pointer: Pointer)
+    requires { ⌜ place < 20 ⌝ }
+    ensures { λ _. ⌜ now (file .exit) ≡ putPointer used place pointer (now (file .entry)) ⌝ }
+{
+    if used {
+        word::memory::write(file, place, pointer.high());
+        word::memory::write(file, place + 1, pointer.low());
+    }
+}
+
+pub fn put_pointers(file: &mut [u16], uses: Uses, pointers: Pointers)
+    ensures { λ _. ⌜ now (file .exit) ≡ putPointers uses pointers (now (file .entry)) ⌝ }
+{
+    let a = pointers.a;
+    let b = pointers.b;
+    let c = pointers.c;
+    let d = pointers.d;
+    put_pointer(file, uses.a, 8, a);
+    put_pointer(file, uses.b, 6, b);
+    put_pointer(file, uses.c, 4, c);
+    put_pointer(file, uses.d, 10, d);
+}
+
+fn put_source(file: &mut [u16], used: bool, place: u32, word: u16)
+    ensures { λ _. ⌜ now (file .exit) ≡ putSource used place word (now (file .entry)) ⌝ }
+{
+    if used {
+        word::memory::write(file, place, word);
+    }
+}
+
+pub fn put_sources(file: &mut [u16], uses: Uses, sources: Sources)
+    ensures { λ _. ⌜ now (file .exit) ≡ putSources uses sources (now (file .entry)) ⌝ }
+{
+    put_source(file, uses.a, 18, sources.a);
+    put_source(file, uses.b, 17, sources.b);
+    put_source(file, uses.c, 16, sources.c);
+}
+
+pub fn put_flag(file: &mut [u16], allzero: bool)
+    ensures { λ _. ⌜ now (file .exit) ≡ putFlag allzero (now (file .entry)) ⌝ }
+{
+    if allzero {
+        word::memory::write(file, 19, 1);
+    } else {
+        word::memory::write(file, 19, 0);
+    }
+}

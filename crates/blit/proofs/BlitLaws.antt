@@ -12,16 +12,16 @@ use Rattle.word.specs.Pointer.{high, low}
 use Rattle.word.specs.Size.{height, width}
 use Rattle.word.proofs.SizeLaws.{height-le}
 use Rattle.file.specs.File.{flag}
-use Rattle.blit.specs.declared.types.Setup.{Setup}
-use Rattle.blit.specs.declared.types.Flow.{Flow}
+use Rattle.area.specs.declared.types.Setup.{Setup}
+use Rattle.area.specs.declared.types.Flow.{Flow}
 use Rattle.blit.specs.declared.types.Refusal.{Refusal}
 use Rattle.blit.specs.declared.types.Refusal.the-variants.{MemorySize, RegisterFile, NoWords, Line, BothFills, FillUpward, LeavesMemory}
 use Rattle.blit.specs.declared.types.Verdict.{Verdict}
 use Rattle.blit.specs.declared.types.Verdict.the-variants as verdicts
 use Rattle.blit.specs.declared.types.Answer.the-variants.{Done, Refused}
-use Rattle.blit.specs.Setup.{shifts, setup}
-use Rattle.blit.specs.Flow.{State, state, start}
-use Rattle.blit.specs.Rows.{rows}
+use Rattle.area.specs.Setup.{shifts, setup}
+use Rattle.area.specs.Flow.{State, state, start}
+use Rattle.area.specs.Rows.{rows}
 use Rattle.blit.specs.Refusal.{refusal, refusalNumber, verdictNumber}
 use Rattle.blit.specs.Blit.{Outcome, putPointer, putPointers, putSources, putFlag, finished, done, refused, blit, left}
 

@@ -1,6 +1,4 @@
 -- The laws of the definitions in specs/, a file for each.
-pub mod StoreLaws
-pub mod RowsLaws
 pub mod TouchLaws
 pub mod RefusalLaws
 pub mod BlitLaws

@@ -17,10 +17,10 @@ use Rattle.word.specs.Pointer.{pointerEnd, pointer}
 use Rattle.word.specs.Size.{height, width}
 use Rattle.word.proofs.SizeLaws.{height-le, width-le, width-positive}
 use Rattle.file.specs.File.{accepted, pointerA, pointerB, pointerC, pointerD}
-use Rattle.blit.specs.declared.types.Setup.{Setup}
-use Rattle.blit.specs.declared.types.Pointers.{Pointers}
-use Rattle.blit.specs.Setup.{con1, line, setup}
-use Rattle.blit.specs.Flow.{pointerAt, pointers}
+use Rattle.area.specs.declared.types.Setup.{Setup}
+use Rattle.area.specs.declared.types.Pointers.{Pointers}
+use Rattle.area.specs.Setup.{con1, line, setup}
+use Rattle.area.specs.Flow.{pointerAt, pointers}
 use Rattle.blit.specs.Touch.{channelLeaves}
 use Rattle.blit.specs.Refusal.{memorySize, noWords, bothFills, fillUpward, leavesMemory, blitRules, refusal}
 

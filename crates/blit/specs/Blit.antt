@@ -9,14 +9,14 @@ use Rattle.word.specs.Choice.{if_then_else_}
 use Rattle.word.specs.Pointer.{high, low}
 use Rattle.word.specs.Size.{height, width}
 use Rattle.file.specs.File.{pointerA, pointerB, pointerC, pointerD, sourceA, sourceB, sourceC, flag}
-use Rattle.blit.specs.declared.types.Uses.{Uses}
-use Rattle.blit.specs.declared.types.Pointers.{Pointers}
-use Rattle.blit.specs.declared.types.Sources.{Sources}
+use Rattle.area.specs.declared.types.Uses.{Uses}
+use Rattle.area.specs.declared.types.Pointers.{Pointers}
+use Rattle.area.specs.declared.types.Sources.{Sources}
 use Rattle.blit.specs.declared.types.Answer.{Answer}
 use Rattle.blit.specs.declared.types.Answer.the-variants.{Done, Refused}
-use Rattle.blit.specs.Setup.{setup}
-use Rattle.blit.specs.Flow.{State, state, start}
-use Rattle.blit.specs.Rows.{rows}
+use Rattle.area.specs.Setup.{setup}
+use Rattle.area.specs.Flow.{State, state, start}
+use Rattle.area.specs.Rows.{rows}
 use Rattle.blit.specs.Refusal.{refusal, refusalNumber}
 
 -- what a blit gives and leaves

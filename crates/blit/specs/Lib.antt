@@ -1,11 +1,4 @@
--- What a reader must believe of an area blit, in the order of paper 01.
-pub mod Setup
-pub mod Flow
-pub mod Fetch
-pub mod Finish
-pub mod Store
-pub mod Move
-pub mod Rows
+-- What a reader must believe of a whole blit, in the order of paper 01.
 pub mod Touch
 pub mod Refusal
 pub mod Blit

@@ -8,14 +8,14 @@ use Rattle.word.specs.Choice.{Rule, _when_, given}
 use Rattle.word.specs.Pointer.{pointerEnd}
 use Rattle.word.specs.Size.{height, width}
 use Rattle.file.specs.File.{accepted}
-use Rattle.blit.specs.declared.types.Setup.{Setup}
-use Rattle.blit.specs.declared.types.Pointers.{Pointers}
+use Rattle.area.specs.declared.types.Setup.{Setup}
+use Rattle.area.specs.declared.types.Pointers.{Pointers}
 use Rattle.blit.specs.declared.types.Refusal.{Refusal}
 use Rattle.blit.specs.declared.types.Refusal.the-variants.{MemorySize, RegisterFile, NoWords, Line, BothFills, FillUpward, LeavesMemory}
 use Rattle.blit.specs.declared.types.Verdict.{Verdict}
 use Rattle.blit.specs.declared.types.Verdict.the-variants.{Lawful, Refused}
-use Rattle.blit.specs.Setup.{con1, line, exclusiveFill, inclusiveFill, descending, setup}
-use Rattle.blit.specs.Flow.{pointers}
+use Rattle.area.specs.Setup.{con1, line, exclusiveFill, inclusiveFill, descending, setup}
+use Rattle.area.specs.Flow.{pointers}
 use Rattle.blit.specs.Touch.{channelLeaves}
 
 -- "N outside 1 to 262,144"

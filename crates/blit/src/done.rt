@@ -9,11 +9,11 @@ pub fn done(ram: &mut [u16], file: &mut [u16], size: u16) -> u32
         left (Answer.Done stored) (now (ram .exit)) (now (file .exit))
         ≡ done (now (file .entry)) (finished (now (ram .entry)) (now (file .entry)) size) ⌝ }
 {
-    let setup = crate::setup::setup(file);
-    let flow = crate::flow::start(file);
+    let setup = area::setup::setup(file);
+    let flow = area::flow::start(file);
     let width = word::size::width(size);
     let height = word::size::height(size);
-    let end = crate::rows::rows(ram, setup, width, height, flow);
+    let end = area::rows::rows(ram, setup, width, height, flow);
     let uses = setup.uses;
     let pointers = end.pointers;
     let sources = end.sources;

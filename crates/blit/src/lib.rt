@@ -1,14 +1,7 @@
 // The area blit: set-up and flow, one word, rows, refusals, and the blit itself.
 mod done;
-mod fetch;
-mod finish;
-mod flow;
-mod moves;
 mod refuse;
 mod registers;
-mod rows;
-mod setup;
-mod store;
 mod touch;
 pub mod types;
 

@@ -3,9 +3,9 @@ ghost use mathlib.Core.Path.{_≡_};
 ghost use Prim.Native.Nat.{_<_, _≤_};
 ghost use Rattle.word.specs.Choice.{given};
 ghost use Rattle.blit.specs.Refusal.{memorySize, noWords, bothFills, fillUpward, leavesMemory, blitRules, refusal, verdictNumber};
-use crate::types::Pointers;
+use area::types::Pointers;
 use crate::types::Refusal;
-use crate::types::Setup;
+use area::types::Setup;
 use crate::types::Verdict;
 
 fn memory_size(n: usize) -> bool
@@ -77,8 +77,8 @@ fn blit_refusal(n: u32, file: &[u16], size: u16) -> Verdict
     if fill_upward(con1) {
         return Verdict::Refused(Refusal::FillUpward);
     }
-    let setup = crate::setup::setup(file);
-    let pointers = crate::flow::pointers(file);
+    let setup = area::setup::setup(file);
+    let pointers = area::flow::pointers(file);
     if leaves_memory(n, setup, pointers, size) {
         return Verdict::Refused(Refusal::LeavesMemory);
     }

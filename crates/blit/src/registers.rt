@@ -2,9 +2,9 @@
 ghost use mathlib.Core.Path.{_≡_};
 ghost use Prim.Native.Nat.{_<_};
 ghost use Rattle.blit.specs.Blit.{putPointer, putPointers, putSource, putSources, putFlag};
-use crate::types::Pointers;
-use crate::types::Sources;
-use crate::types::Uses;
+use area::types::Pointers;
+use area::types::Sources;
+use area::types::Uses;
 use word::types::Pointer;
 
 fn put_pointer(file: &mut [u16], used: bool, place: u32, pointer: Pointer)

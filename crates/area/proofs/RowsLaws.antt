@@ -1,0 +1,89 @@
+-- Laws of words and rows: how a word is put together from its parts, and how many words are stored.
+use mathlib.Core.Path.{_≡_, refl, sym, ap, _∙_}
+use Prim.Native.Nat.{ℕ, zero, suc, _+_, _*_, _-_, _<_, _≤_}
+use mathlib.Core.Bool.{Bool, true, false}
+use mathlib.Core.List.{List}
+use native.Mathlib.Omega.{arith}
+use lib.Dec.{eqb}
+use Rattle.word.specs.Repeat.{repeated}
+use Rattle.word.proofs.RepeatLaws.{repeated-turn}
+use Rattle.area.specs.declared.types.Uses.{Uses}
+use Rattle.area.specs.declared.types.Setup.{Setup}
+use Rattle.area.specs.declared.types.Flow.{Flow}
+use Rattle.area.specs.declared.types.Finished.{Finished}
+use Rattle.area.specs.Flow.{State, state, withCarry}
+use Rattle.area.specs.Fetch.{fetch}
+use Rattle.area.specs.Finish.{finish}
+use Rattle.area.specs.Store.{store}
+use Rattle.area.specs.Move.{moveOn, rowEnd}
+use Rattle.area.specs.Rows.{finishedWord, storedWord, oneWord, words, rowStart, oneRow, rows}
+use Rattle.area.proofs.StoreLaws.{store-counts}
+
+-- the count of a finished word is that before it
+pub finished-room : (setup : Setup) (uses : Uses) (first last : Bool) (memory : List ℕ) (flow fetched : Flow) (made : Finished)
+    → fetched ≡ fetch uses memory flow → made ≡ finish setup first last fetched
+    → flow .stored < 4294967295 → made .flow .stored < 4294967295
+unfolding fetch finish
+finished-room setup uses first last memory flow fetched made fetches finishes room = rw (finishes, fetches) room
+
+pub oneWord-of-parts : (setup : Setup) (width left : ℕ) (memory after : List ℕ) (flow fetched stored end : Flow) (made : Finished)
+    → fetched ≡ fetch (setup .uses) memory flow
+    → made ≡ finish setup (eqb (left + 1) width) (eqb left 0) fetched
+    → state after stored ≡ store (setup .uses .d) (made .word) (state memory (made .flow))
+    → end ≡ moveOn (setup .direction) (setup .uses) stored
+    → state after end ≡ oneWord setup width left (state memory flow)
+unfolding oneWord storedWord finishedWord
+oneWord-of-parts setup width left memory after flow fetched stored end made fetches finishes stores moves =
+    rw (← fetches, ← finishes, ← stores, moves)
+
+pub oneWord-counts : (setup : Setup) (width left : ℕ) (now : State) → oneWord setup width left now .flow .stored ≤ now .flow .stored + 1
+unfolding oneWord storedWord finishedWord moveOn finish fetch
+oneWord-counts setup width left now =
+    store-counts (setup .uses .d) (finishedWord setup width left now .word)
+    (state (now .memory) (finishedWord setup width left now .flow))
+
+pub words-count : (setup : Setup) (width left : ℕ) (now : State) → words setup width left now .flow .stored ≤ now .flow .stored + left
+unfolding repeated
+words-count setup width zero now = omega arith
+words-count setup width (suc left) now =
+    omega (arith, words-count setup width left (oneWord setup width left now), oneWord-counts setup width left now)
+
+-- room for the count after a word, and after a row
+pub words-room : (setup : Setup) (width left : ℕ) (memory after : List ℕ) (flow next : Flow)
+    → 0 < left → state after next ≡ oneWord setup width (left - 1) (state memory flow)
+    → flow .stored + left < 4294967296 → next .stored + (left - 1) < 4294967296
+words-room setup width left memory after flow next more word room =
+    let count : next .stored ≤ flow .stored + 1 =
+    rw (ap (λ (end : State). end .flow .stored) word) (oneWord-counts setup width (left - 1) (state memory flow)) in
+    omega arith
+
+pub rowStart-room : (setup : Setup) (width : ℕ) (flow started : Flow)
+    → started ≡ withCarry (setup .carry) flow → flow .stored + width < 4294967296 → started .stored + width < 4294967296
+rowStart-room setup width flow started starts room = rw starts room
+
+pub oneRow-of-parts : (setup : Setup) (width : ℕ) (memory after : List ℕ) (flow started end turned : Flow)
+    → started ≡ withCarry (setup .carry) flow
+    → state after end ≡ words setup width width (state memory started)
+    → turned ≡ rowEnd (setup .direction) (setup .uses) (setup .modulos) end
+    → state after turned ≡ oneRow setup width (state memory flow)
+unfolding oneRow rowStart
+oneRow-of-parts setup width memory after flow started end turned starts does turns =
+    let from = rw starts at does in rw (turns, ← from)
+
+pub oneRow-counts : (setup : Setup) (width : ℕ) (now : State) → oneRow setup width now .flow .stored ≤ now .flow .stored + width
+unfolding oneRow rowStart rowEnd
+oneRow-counts setup width now = words-count setup width width (rowStart setup now)
+
+pub rows-room : (setup : Setup) (width left : ℕ) (memory after : List ℕ) (flow next : Flow)
+    → 0 < left → width ≤ 64 → state after next ≡ oneRow setup width (state memory flow)
+    → flow .stored + left * 64 < 4294967296 → next .stored + (left - 1) * 64 < 4294967296
+rows-room setup width left memory after flow next more narrow row room =
+    let count : next .stored ≤ flow .stored + width =
+    rw (ap (λ (end : State). end .flow .stored) row) (oneRow-counts setup width (state memory flow)) in
+    omega arith
+
+pub rows-turn : (setup : Setup) (width left : ℕ) (memory after : List ℕ) (flow next : Flow)
+    → 0 < left → state after next ≡ oneRow setup width (state memory flow)
+    → rows setup width (left - 1) (state after next) ≡ rows setup width left (state memory flow)
+rows-turn setup width left memory after flow next more row =
+    repeated-turn (λ _. oneRow setup width) left (state memory flow) (state after next) _ more row refl

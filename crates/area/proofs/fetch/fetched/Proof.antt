@@ -1,0 +1,20 @@
+-- `area::fetch::fetched` meets its contract, used or not.
+use Rattle.word.proofs.ChoiceLaws.{if-when-true, if-when-false}
+use Rattle.area.specs.Fetch.{fetched}
+use borrow.Author.Needs.{needs}
+use Rattle.area.proofs.fetch.fetched.Statement.{statement}
+use Rattle.area.proofs.fetch.fetched.Tie as tie
+
+read-requires : tie.Need-read-requires
+read-requires c κs = search needs
+
+returns : tie.Need-returns
+unfolding fetched
+returns c = search (needs, if-when-true)
+
+returns-2 : tie.Need-returns-2
+unfolding fetched
+returns-2 c = search (needs, if-when-false)
+
+pub fetched-spec : {M : Type 1} → statement M
+fetched-spec = tie.close (tie.spec read-requires returns returns-2)

@@ -1,0 +1,20 @@
+-- `area::moves::stepped` meets its contract, used or not.
+use Rattle.word.proofs.ChoiceLaws.{if-when-true, if-when-false}
+use Rattle.area.specs.Move.{stepped}
+use borrow.Author.Needs.{needs}
+use Rattle.area.proofs.moves.stepped.Statement.{statement}
+use Rattle.area.proofs.moves.stepped.Tie as tie
+
+moved-requires : tie.Need-moved-requires
+moved-requires c κs = search needs
+
+returns : tie.Need-returns
+unfolding stepped
+returns c = search (needs, if-when-true)
+
+returns-2 : tie.Need-returns-2
+unfolding stepped
+returns-2 c = search (needs, if-when-false)
+
+pub stepped-spec : {M : Type 1} → statement M
+stepped-spec = tie.close (tie.spec moved-requires returns returns-2)

@@ -1,0 +1,20 @@
+-- `area::moves::turned` meets its contract, used or not.
+use Rattle.word.proofs.ChoiceLaws.{if-when-true, if-when-false}
+use Rattle.area.specs.Move.{turned}
+use borrow.Author.Needs.{needs}
+use Rattle.area.proofs.moves.turned.Statement.{statement}
+use Rattle.area.proofs.moves.turned.Tie as tie
+
+passed-requires : tie.Need-passed-requires
+passed-requires c κs = search needs
+
+returns : tie.Need-returns
+unfolding turned
+returns c = search (needs, if-when-true)
+
+returns-2 : tie.Need-returns-2
+unfolding turned
+returns-2 c = search (needs, if-when-false)
+
+pub turned-spec : {M : Type 1} → statement M
+turned-spec = tie.close (tie.spec passed-requires returns returns-2)

@@ -1,0 +1,38 @@
+-- `area::rows::one_word` meets its contract: its four calls are the definition's parts, in their order.
+use Rattle.area.proofs.RowsLaws.{finished-room, oneWord-of-parts}
+use borrow.Author.Needs.{needs}
+use Rattle.area.proofs.rows.one_word.Statement.{statement}
+use Rattle.area.proofs.rows.one_word.Tie as tie
+
+fetch-requires : tie.Need-fetch-requires
+fetch-requires c κs = search needs
+
+add-finish : tie.Need-add-finish
+add-finish c = search needs
+
+finish-requires : tie.Need-finish-requires
+finish-requires c κs = search needs
+
+store-requires : tie.Need-store-requires
+store-requires c κs = search finished-room
+
+move-on-requires : tie.Need-move-on-requires
+move-on-requires c κs = search needs
+
+same-length : tie.Need-same-length
+same-length c = search needs
+
+returns : tie.Need-returns
+returns c = search oneWord-of-parts
+
+pub one-word-spec : {M : Type 1} → statement M
+one-word-spec =
+    tie.close
+    (tie.spec
+    fetch-requires
+    add-finish
+    finish-requires
+    store-requires
+    move-on-requires
+    same-length
+    returns)

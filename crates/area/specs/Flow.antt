@@ -1,0 +1,116 @@
+-- Paper 01, "The area blit": what changes as a blit goes on, how it starts, and memory beside it.
+use Prim.Native.Nat.{ℕ, _+_}
+use mathlib.Core.Bool.{Bool, true}
+use mathlib.Core.List.{List}
+use lib.ListN.{getD}
+use Rattle.word.specs.declared.types.Pointer.{Pointer}
+use Rattle.word.specs.Pointer.{pointer}
+use Rattle.file.specs.File.{pointerA, pointerB, pointerC, pointerD, sourceA, sourceB, sourceC}
+use Rattle.area.specs.declared.types.Pointers.{Pointers}
+use Rattle.area.specs.declared.types.Sources.{Sources}
+use Rattle.area.specs.declared.types.Earlier.{Earlier}
+use Rattle.area.specs.declared.types.Flow.{Flow}
+
+-- the pointer whose high half stands at a place of the file
+unfoldable pub pointerAt : (file : List ℕ) → (place : ℕ) → Pointer
+pointerAt file place = pointer (getD file place 0) (getD file (place + 1) 0)
+
+unfoldable pub pointers : (file : List ℕ) → Pointers
+pointers file =
+    record {
+      a = pointerAt file pointerA;
+      b = pointerAt file pointerB;
+      c = pointerAt file pointerC;
+      d = pointerAt file pointerD;
+    }
+
+-- the data registers
+unfoldable pub sources : (file : List ℕ) → Sources
+sources file = record { a = getD file sourceA 0; b = getD file sourceB 0; c = getD file sourceC 0 }
+
+-- "The earlier word is zero at the blit's start"
+unfoldable pub start : (file : List ℕ) → Flow
+start file =
+    record {
+      pointers = pointers file;
+      sources = sources file;
+      earlier = record { a = 0; b = 0 };
+      carry = 0;
+      allzero = true;
+      stored = 0;
+    }
+
+-- memory and the flow
+pub record State : Type 0 where
+  pub memory : List ℕ
+  pub flow : Flow
+
+abbrev pub state : (memory : List ℕ) → Flow → State
+state memory flow = record { memory = memory; flow = flow }
+
+-- a flow with one part changed
+abbrev pub withPointers : Pointers → Flow → Flow
+withPointers new flow =
+    record {
+      pointers = new;
+      sources = flow .sources;
+      earlier = flow .earlier;
+      carry = flow .carry;
+      allzero = flow .allzero;
+      stored = flow .stored;
+    }
+
+abbrev pub withSources : Sources → Flow → Flow
+withSources new flow =
+    record {
+      pointers = flow .pointers;
+      sources = new;
+      earlier = flow .earlier;
+      carry = flow .carry;
+      allzero = flow .allzero;
+      stored = flow .stored;
+    }
+
+abbrev pub withEarlier : Earlier → Flow → Flow
+withEarlier new flow =
+    record {
+      pointers = flow .pointers;
+      sources = flow .sources;
+      earlier = new;
+      carry = flow .carry;
+      allzero = flow .allzero;
+      stored = flow .stored;
+    }
+
+abbrev pub withCarry : ℕ → Flow → Flow
+withCarry new flow =
+    record {
+      pointers = flow .pointers;
+      sources = flow .sources;
+      earlier = flow .earlier;
+      carry = new;
+      allzero = flow .allzero;
+      stored = flow .stored;
+    }
+
+abbrev pub withAllzero : Bool → Flow → Flow
+withAllzero new flow =
+    record {
+      pointers = flow .pointers;
+      sources = flow .sources;
+      earlier = flow .earlier;
+      carry = flow .carry;
+      allzero = new;
+      stored = flow .stored;
+    }
+
+abbrev pub withStored : ℕ → Flow → Flow
+withStored new flow =
+    record {
+      pointers = flow .pointers;
+      sources = flow .sources;
+      earlier = flow .earlier;
+      carry = flow .carry;
+      allzero = flow .allzero;
+      stored = new;
+    }

@@ -1,0 +1,105 @@
+// Words row by row.
+ghost use mathlib.Core.Path.{_≡_};
+ghost use Prim.Native.Nat.{_+_, _*_, _<_, _≤_};
+ghost use Rattle.area.specs.Flow.{state, withCarry};
+ghost use Rattle.area.specs.Rows.{oneWord, words, oneRow, rows};
+use crate::types::Flow;
+use crate::types::Setup;
+
+// One word: fetched, finished, stored, and the pointers moved on. So many of its row are left after it.
+fn one_word(ram: &mut [u16], setup: Setup, width: u32, left: u32, flow: Flow) -> Flow
+    requires { ⌜ (setup .shifts .a < 16) × (setup .shifts .b < 16) × (flow .stored < 4294967295) × (left < 4294967295) ⌝ }
+    ensures { λ after. ⌜
+        state (now (ram .exit)) after
+        ≡ oneWord setup width left (state (now (ram .entry)) flow) ⌝ }
+{
+    let uses = setup.uses;
+    let direction = setup.direction;
+    let fetched = crate::fetch::fetch(ram, uses, flow);
+    let made = crate::finish::finish(setup, left + 1 == width, left == 0, fetched);
+    let finished = made.flow;
+    let after = crate::store::store(ram, uses.d, made.word, finished);
+    crate::moves::move_on(direction, uses, after)
+}
+
+// The words of a row.
+fn words(ram: &mut [u16], setup: Setup, width: u32, flow: Flow) -> Flow
+    requires { ⌜ (setup .shifts .a < 16) × (setup .shifts .b < 16) × (flow .stored + width < 4294967296) ⌝ }
+    ensures { λ after. ⌜
+        state (now (ram .exit)) after
+        ≡ words setup width width (state (now (ram .entry)) flow) ⌝ }
+{
+    let mut here = flow;
+    let mut left = width;
+    while 0 < left {
+        here = one_word(ram, setup, width, left - 1, here);
+        left = left - 1;
+    }
+    here
+}
+
+// The carry starts at carry-in on every row.
+fn row_start(setup: Setup, flow: Flow) -> Flow
+    ensures { λ after. ⌜ after ≡ withCarry (setup .carry) flow ⌝ }
+{
+    let pointers = flow.pointers;
+    let sources = flow.sources;
+    let earlier = flow.earlier;
+    Flow {
+        pointers,
+        sources,
+        earlier,
+        carry: setup.carry,
+        allzero: flow.allzero,
+        stored: flow.stored,
+    }
+}
+
+fn one_row(ram: &mut [u16], setup: Setup, width: u32, flow: Flow) -> Flow
+    requires { ⌜ (setup .shifts .a < 16) × (setup .shifts .b < 16) × (flow .stored + width < 4294967296) ⌝ }
+    ensures { λ after. ⌜
+        state (now (ram .exit)) after
+        ≡ oneRow setup width (state (now (ram .entry)) flow) ⌝ }
+{
+    let uses = setup.uses;
+    let modulos = setup.modulos;
+    let direction = setup.direction;
+    let end = words(ram, setup, width, row_start(setup, flow));
+    crate::moves::row_end(direction, uses, modulos, end)
+}
+
+// The flow after some rows, and how many rows are left.
+pub struct Rest {
+    pub left: u32,
+    pub flow: Flow,
+}
+
+// Does one or more of the rows left and says how many are left after that.
+fn some_rows(ram: &mut [u16], setup: Setup, width: u32, left: u32, flow: Flow) -> Rest
+    requires { ⌜ (setup .shifts .a < 16) × (setup .shifts .b < 16) × (0 < left) × (width ≤ 64) × (flow .stored + left * 64 < 4294967296) ⌝ }
+    ensures { λ rest. ⌜ (rest .left < left) × (rest .flow .stored + rest .left * 64 < 4294967296)
+        × (rows setup width (rest .left) (state (now (ram .exit)) (rest .flow))
+        ≡ rows setup width left (state (now (ram .entry)) flow)) ⌝ }
+{
+    let after = one_row(ram, setup, width, flow);
+    Rest {
+        left: left - 1,
+        flow: after,
+    }
+}
+
+pub fn rows(ram: &mut [u16], setup: Setup, width: u32, height: u32, flow: Flow) -> Flow
+    requires { ⌜ (setup .shifts .a < 16) × (setup .shifts .b < 16) × (width ≤ 64) × (flow .stored + height * 64 < 4294967296) ⌝ }
+    ensures { λ after. ⌜
+        state (now (ram .exit)) after
+        ≡ rows setup width height (state (now (ram .entry)) flow) ⌝ }
+{
+    let mut here = flow;
+    let mut left = height;
+    while 0 < left {
+        let rest = some_rows(ram, setup, width, left, here);
+        left = rest.left;
+        here = rest.flow;
+    }
+    here
+}

@@ -1,0 +1,85 @@
+// The decoder: what stands at a place of a job.
+ghost use mathlib.Core.Path.{_≡_};
+ghost use Prim.Native.Nat.{_+_, _<_};
+ghost use lib.ListN.{length, drop};
+ghost use Rattle.job.specs.declared.types.Kind;
+ghost use Rattle.job.specs.Step.{kind, begun, stepAt};
+use crate::types::Kind;
+use crate::types::Read;
+use crate::types::Step;
+
+pub fn kind(first: u16) -> Kind
+    ensures { λ begins. ⌜ begins ≡ kind first ⌝ }
+{
+    let place = file::place(first);
+    if place < file::FLAG {
+        return Kind::Register(place);
+    }
+    if first == 0x058 {
+        return Kind::Size;
+    }
+    if first < 0x8000 {
+        return Kind::Nothing;
+    }
+    if first <= 0x8007 {
+        return Kind::Store(first - 0x8000);
+    }
+    if first == 0xC000 {
+        return Kind::Flag(0);
+    }
+    if first == 0xC001 {
+        return Kind::Flag(1);
+    }
+    Kind::Nothing
+}
+
+// The rest of a step whose first word stands at a place of the job.
+fn register_at(job: &[u16], at: usize, place: u32) -> Read
+    requires { ⌜ at < length (now job) ⌝ }
+    ensures { λ read. ⌜ read ≡ begun (Kind.Register place) at (drop (at + 1) (now (job .entry))) ⌝ }
+{
+    if job.len() - at < 2 {
+        return Read::CutOff;
+    }
+    Read::Step(Step::Register(place, job[at + 1]), at + 2)
+}
+
+fn size_at(job: &[u16], at: usize) -> Read
+    requires { ⌜ at < length (now job) ⌝ }
+    ensures { λ read. ⌜ read ≡ begun Kind.Size at (drop (at + 1) (now (job .entry))) ⌝ }
+{
+    if job.len() - at < 2 {
+        return Read::CutOff;
+    }
+    Read::Step(Step::Size(job[at + 1]), at + 2)
+}
+
+fn store_at(job: &[u16], at: usize, high: u16) -> Read
+    requires { ⌜ at < length (now job) ⌝ }
+    ensures { λ read. ⌜ read ≡ begun (Kind.Store high) at (drop (at + 1) (now (job .entry))) ⌝ }
+{
+    if job.len() - at < 3 {
+        return Read::CutOff;
+    }
+    let low = job[at + 1];
+    if low % 2 == 1 {
+        return Read::OddStore;
+    }
+    let to = word::pointer::pointer(high, low);
+    Read::Step(Step::Store(to.word, job[at + 2]), at + 3)
+}
+
+pub fn step_at(job: &[u16], at: usize) -> Read
+    ensures { λ read. ⌜ read ≡ stepAt (now (job .entry)) at ⌝ }
+{
+    if job.len() <= at {
+        return Read::End;
+    }
+    match kind(job[at]) {
+        Kind::Register(place) => register_at(job, at, place),
+        Kind::Size => size_at(job, at),
+        Kind::Store(high) => store_at(job, at, high),
+        Kind::Flag(flag) => Read::Step(Step::Flag(flag), at + 1),
+        Kind::Nothing => Read::NoStep,
+    }
+}

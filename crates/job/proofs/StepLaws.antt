@@ -118,7 +118,16 @@ module _ (job : List ℕ) (at : ℕ) where
   unfolding stepAt front
   stepAt-at-end past = rw (drop-of-length-le job past)
 
-  pub stepAt-of-kind : (begins : Kind) (read : Read) → at < length job → begins ≡ kind (getD job at 0)
-      → read ≡ begun begins at (drop (at + 1) job) → read ≡ stepAt job at
-  unfolding stepAt front
-  stepAt-of-kind begins read inside same rest = rw (drop-of-word job at (at + 1) inside (omega arith), ← same) rest
+  -- the first word's kind decides
+  module _ (begins : Kind) (inside : at < length job) (first : begins ≡ kind (getD job at 0)) where
+    pub stepAt-of-kind : (arm : Kind) (read : Read) → begins ≡ arm → read ≡ begun arm at (drop (at + 1) job) → read ≡ stepAt job at
+    unfolding stepAt front
+    stepAt-of-kind arm read same rest = rw (drop-of-word job at (at + 1) inside (omega arith), ← first, same) rest
+
+    pub stepAt-of-flag : (flag : ℕ) → begins ≡ Kind.Flag flag → Read.Step (Step.Flag flag) (at + 1) ≡ stepAt job at
+    unfolding begun found operands
+    stepAt-of-flag flag same = stepAt-of-kind (Kind.Flag flag) (Read.Step (Step.Flag flag) (at + 1)) same refl
+
+    pub stepAt-of-nothing : begins ≡ Kind.Nothing → Read.NoStep ≡ stepAt job at
+    unfolding begun
+    stepAt-of-nothing same = stepAt-of-kind Kind.Nothing Read.NoStep same refl

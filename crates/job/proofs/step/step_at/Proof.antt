@@ -1,4 +1,4 @@
-use Rattle.job.proofs.StepLaws.{stepAt-at-end, stepAt-of-kind}
+use Rattle.job.proofs.StepLaws.{stepAt-at-end, stepAt-of-kind, stepAt-of-flag, stepAt-of-nothing}
 use borrow.Author.Needs.{needs}
 use Rattle.job.proofs.step.step_at.Statement.{statement}
 use Rattle.job.proofs.step.step_at.Tie as tie
@@ -63,23 +63,23 @@ enum-told-2 c = search needs
 
 -- src/step.rt:72:1
 returns-2 : tie.Need-returns-2
-returns-2 c = ?
+returns-2 c = search stepAt-of-kind
 
 -- src/step.rt:72:1
 returns-3 : tie.Need-returns-3
-returns-3 c = ?
+returns-3 c = search stepAt-of-kind
 
 -- src/step.rt:72:1
 returns-4 : tie.Need-returns-4
-returns-4 c = ?
+returns-4 c = search stepAt-of-kind
 
 -- src/step.rt:72:1
 returns-5 : tie.Need-returns-5
-returns-5 c = ?
+returns-5 c = search stepAt-of-flag
 
 -- src/step.rt:72:1
 returns-6 : tie.Need-returns-6
-returns-6 c = ?
+returns-6 c = search stepAt-of-nothing
 
 pub step-at-spec : {M : Type 1} → statement M
 step-at-spec =

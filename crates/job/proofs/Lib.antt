@@ -1,2 +1,3 @@
 -- The laws of the definitions in specs/, a file for each.
 pub mod StepLaws
+pub mod StepsLaws

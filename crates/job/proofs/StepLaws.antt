@@ -7,7 +7,7 @@ use mathlib.Core.Bool.{Bool, true, false, _&&_}
 use mathlib.Core.List.{List, [], _∷_, _++_}
 use borrow.Author.Tests.{lt-ltb, le-ltb, le-leb, lt-leb, eq-eqb, ne-eqb}
 use lib.Dec.{eqb, leb, ltb}
-use lib.ListN.{length, getD, drop, drop-of-length-le}
+use lib.ListN.{length, getD, drop, length-drop, drop-of-length-le}
 use lib.Seq.{drop-cons}
 use Rattle.word.specs.Choice.{if_then_else_}
 use Rattle.word.specs.Pointer.{pointer}
@@ -131,3 +131,77 @@ module _ (job : List ℕ) (at : ℕ) where
     pub stepAt-of-nothing : begins ≡ Kind.Nothing → Read.NoStep ≡ stepAt job at
     unfolding begun
     stepAt-of-nothing same = stepAt-of-kind Kind.Nothing Read.NoStep same refl
+
+-- what is known of what was read at the front of a run: of a step, that its words stand in the run, and the next place
+abbrev InRun : (at : ℕ) → (words : List ℕ) → Read → Type 0
+InRun at words (Read.Step step next) = (next ≡ at + (1 + operands step)) × (1 + operands step ≤ length words)
+InRun at words Read.End = Unit
+InRun at words Read.NoStep = Unit
+InRun at words Read.CutOff = Unit
+InRun at words Read.OddStore = Unit
+
+begun-in-run : (begins : Kind) (at first : ℕ) (rest : List ℕ) → InRun at (first ∷ rest) (begun begins at rest)
+unfolding begun found operands
+begun-in-run Kind.Nothing at first rest = tt
+begun-in-run (Kind.Register place) at first [] = tt
+begun-in-run (Kind.Register place) at first (value ∷ rest) = (refl, omega arith)
+begun-in-run Kind.Size at first [] = tt
+begun-in-run Kind.Size at first (value ∷ rest) = (refl, omega arith)
+begun-in-run (Kind.Store high) at first [] = tt
+begun-in-run (Kind.Store high) at first (low ∷ []) = tt
+begun-in-run (Kind.Store high) at first (low ∷ value ∷ rest) = by-test (isOdd low)
+  where
+    by-test : (odd : Bool)
+        → InRun at (first ∷ low ∷ value ∷ rest) (if odd then Read.OddStore else found at (Step.Store (pointer high low .word) value))
+    by-test true = tt
+    by-test false = (refl, omega arith)
+begun-in-run (Kind.Flag flag) at first rest = (refl, omega arith)
+
+front-in-run : (at : ℕ) (words : List ℕ) → InRun at words (front at words)
+unfolding front
+front-in-run at [] = tt
+front-in-run at (first ∷ rest) = begun-in-run (kind first) at first rest
+
+module _ (at : ℕ) (words : List ℕ) (step : Step) (next : ℕ) (reads : front at words ≡ Read.Step step next) where
+  step-in-run : InRun at words (Read.Step step next)
+  step-in-run = rw reads at (front-in-run at words)
+
+  pub front-next : next ≡ at + (1 + operands step)
+  front-next = step-in-run .0
+
+  pub front-le : 1 + operands step ≤ length words
+  front-le = step-in-run .1
+
+module _ (job : List ℕ) (at : ℕ) (step : Step) (next : ℕ) (reads : stepAt job at ≡ Read.Step step next) where
+  -- the next place is past the step's words
+  pub stepAt-next : next ≡ at + (1 + operands step)
+  unfolding stepAt
+  stepAt-next = front-next at (drop at job) step next reads
+
+  -- a step moves on, and stays within the job
+  pub stepAt-moves : (at < next) × (next ≤ length job)
+  unfolding stepAt
+  stepAt-moves =
+      let past = front-next at (drop at job) step next reads in
+      let inside = front-le at (drop at job) step next reads in
+      (omega arith, omega (arith, length-drop at job))
+
+-- words after a run change nothing of a step at its front
+begun-of-append : (begins : Kind) (at : ℕ) (rest more : List ℕ) (step : Step) (next : ℕ)
+    → begun begins at rest ≡ Read.Step step next → begun begins at (rest ++ more) ≡ Read.Step step next
+unfolding begun
+begun-of-append Kind.Nothing at rest more step next reads = reads
+begun-of-append (Kind.Register place) at [] more step next reads = let n : _≡_ {A = ℕ} 0 1 = cc in absurd (omega arith)
+begun-of-append (Kind.Register place) at (value ∷ rest) more step next reads = reads
+begun-of-append Kind.Size at [] more step next reads = let n : _≡_ {A = ℕ} 0 1 = cc in absurd (omega arith)
+begun-of-append Kind.Size at (value ∷ rest) more step next reads = reads
+begun-of-append (Kind.Store high) at [] more step next reads = let n : _≡_ {A = ℕ} 0 1 = cc in absurd (omega arith)
+begun-of-append (Kind.Store high) at (low ∷ []) more step next reads = let n : _≡_ {A = ℕ} 0 1 = cc in absurd (omega arith)
+begun-of-append (Kind.Store high) at (low ∷ value ∷ rest) more step next reads = reads
+begun-of-append (Kind.Flag flag) at rest more step next reads = reads
+
+pub front-of-append : (at : ℕ) (words more : List ℕ) (step : Step) (next : ℕ)
+    → front at words ≡ Read.Step step next → front at (words ++ more) ≡ Read.Step step next
+unfolding front
+front-of-append at [] more step next reads = let n : _≡_ {A = ℕ} 0 1 = cc in absurd (omega arith)
+front-of-append at (first ∷ rest) more step next reads = begun-of-append (kind first) at rest more step next reads

@@ -1,20 +1,49 @@
--- Laws of the list of a job's steps: how it begins at a place, by what stands there, and that it is cut where a step ends.
+-- Laws of the list of a job's steps: how it begins at a place, by what stands there, and that it falls apart where a step ends.
 use mathlib.Core.Path.{_≡_, refl, sym, ap, _∙_}
-use Prim.Native.Nat.{ℕ, zero, suc, _+_, _-_, _%_, _<_, _≤_}
-use native.Mathlib.Nat.{add-zero, add-assoc}
+use Prim.Native.Nat.{ℕ, zero, suc, _+_, _<_, _≤_}
+use native.Mathlib.Nat.{add-zero}
 use native.Mathlib.Omega.{arith}
 use mathlib.Core.Bool.{Bool, true, false, _&&_}
 use mathlib.Core.List.{List, [], _∷_, _++_}
-use lib.Dec.{eqb}
-use lib.ListN.{length, getD, drop, length-drop, drop-of-length-le}
+use lib.ListN.{length, drop, drop-of-length-le}
 use lib.Seq.{drop-drop}
-use Rattle.word.specs.Choice.{if_then_else_}
-use Rattle.word.specs.Pointer.{pointer}
-use Rattle.job.specs.declared.types.Kind.{Kind}
 use Rattle.job.specs.declared.types.Step.{Step}
 use Rattle.job.specs.declared.types.Read.{Read}
-use Rattle.job.specs.Step.{kind, operands, found, isOdd, begun, front, stepAt}
+use Rattle.job.specs.Step.{operands, front, stepAt}
 use Rattle.job.specs.Steps.{Placed, placed, following, stepsFrom, steps}
+use Rattle.job.proofs.StepLaws.{front-next, front-le, front-of-append}
 
--- Of a step that was begun: its words stand in the run, the next place is past them, and words after the run change nothing.
-record Whole (read : Read) (at : ℕ) (rest : List ℕ) ..
+-- the words that belong to the step before are passed over
+pub stepsFrom-of-skip : (skip at : ℕ) (words : List ℕ) → stepsFrom skip at words ≡ stepsFrom 0 (at + skip) (drop skip words)
+unfolding stepsFrom
+stepsFrom-of-skip zero at words = rw add-zero
+stepsFrom-of-skip (suc skip) at [] = refl
+stepsFrom-of-skip (suc skip) at (word ∷ rest) =
+    let same : at + 1 + skip ≡ at + suc skip = omega arith in
+    stepsFrom-of-skip skip (at + 1) rest ∙ ap (λ (place : ℕ). stepsFrom 0 place (drop skip rest)) same
+
+pub steps-at-end : (job : List ℕ) (at : ℕ) → length job ≤ at → stepsFrom 0 at (drop at job) ≡ []
+unfolding stepsFrom
+steps-at-end job at past = rw (drop-of-length-le job past)
+
+-- a run that begins with a step
+stepsFrom-of-step : (at : ℕ) (words : List ℕ) (step : Step) (next : ℕ) → front at words ≡ Read.Step step next
+    → stepsFrom 0 at words ≡ placed at (Read.Step step next) ∷ stepsFrom 0 next (drop (suc (operands step)) words)
+unfolding stepsFrom following front
+stepsFrom-of-step at [] step next reads = let n : _≡_ {A = ℕ} 0 1 = cc in absurd (omega arith)
+stepsFrom-of-step at (first ∷ rest) step next reads =
+    let past = front-next at (first ∷ rest) step next reads in
+    let same : at + 1 + operands step ≡ next = omega arith in
+    ap (λ (read : Read). placed at read ∷ stepsFrom (following read) (at + 1) rest) reads
+    ∙ ap (λ (later : List Placed). placed at (Read.Step step next) ∷ later)
+    (stepsFrom-of-skip (operands step) (at + 1) rest ∙ ap (λ (place : ℕ). stepsFrom 0 place (drop (operands step) rest)) same)
+
+pub steps-of-step : (job : List ℕ) (at : ℕ) (step : Step) (next : ℕ) → stepAt job at ≡ Read.Step step next
+    → stepsFrom 0 at (drop at job) ≡ placed at (Read.Step step next) ∷ stepsFrom 0 next (drop next job)
+unfolding stepAt
+steps-of-step job at step next reads =
+    let past = front-next at (drop at job) step next reads in
+    let same : at + suc (operands step) ≡ next = omega arith in
+    stepsFrom-of-step at (drop at job) step next reads
+    ∙ ap (λ (later : List ℕ). placed at (Read.Step step next) ∷ stepsFrom 0 next later)
+    (drop-drop (suc (operands step)) at job ∙ ap (λ (place : ℕ). drop place job) same)

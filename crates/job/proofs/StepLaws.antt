@@ -1,62 +1,22 @@
--- Laws of a step: what a first word begins, what its rest makes of it, and what stands at a place of a job.
+-- Laws of a step: what the words after a first word make of it, and what stands at a place of a job.
 use mathlib.Core.Path.{_≡_, refl, sym, ap, _∙_}
 use Prim.Native.Nat.{ℕ, zero, suc, _+_, _-_, _%_, _<_, _≤_}
 use native.Mathlib.Decide.{decLt}
 use native.Mathlib.Omega.{arith}
-use mathlib.Core.Bool.{Bool, true, false, _&&_}
+use mathlib.Core.Bool.{Bool, true, false}
 use mathlib.Core.List.{List, [], _∷_, _++_}
-use borrow.Author.Tests.{lt-ltb, le-ltb, le-leb, lt-leb, eq-eqb, ne-eqb}
-use lib.Dec.{eqb, leb, ltb}
+use borrow.Author.Tests.{eq-eqb, ne-eqb}
+use lib.Dec.{eqb}
 use lib.ListN.{length, getD, drop, length-drop, drop-of-length-le}
 use lib.Seq.{drop-cons}
 use Rattle.word.specs.Choice.{if_then_else_}
 use Rattle.word.specs.Pointer.{pointer}
 use Rattle.word.specs.declared.types.Pointer.{Pointer}
-use Rattle.file.specs.File.{isRegister, place, flag}
 use Rattle.job.specs.declared.types.Kind.{Kind}
 use Rattle.job.specs.declared.types.Step.{Step}
 use Rattle.job.specs.declared.types.Read.{Read}
-use Rattle.job.specs.Step.{kind, operands, found, isOdd, begun, front, stepAt}
-
-pub kind-when-register : (first at : ℕ) → at ≡ place first → at < flag → Kind.Register at ≡ kind first
-unfolding kind isRegister
-kind-when-register first at stands inside = rw (← stands, lt-ltb at flag inside)
-
--- what no offset of the table begins; at is where the table's search ends
-module _ (first at : ℕ) (stands : at ≡ place first) (none : flag ≤ at) where
-  pub kind-when-size : first ≡ 0x058 → Kind.Size ≡ kind first
-  unfolding kind isRegister
-  kind-when-size same = rw (← stands, le-ltb at flag none, eq-eqb first 0x058 same)
-
-  pub kind-when-low : (first ≡ 0x058 → ⊥) → first < 0x8000 → Kind.Nothing ≡ kind first
-  unfolding kind isRegister
-  kind-when-low other low =
-      rw
-      (← stands, le-ltb at flag none, ne-eqb first 0x058 other, lt-leb 0x8000 first low, ne-eqb first 0xC000 (λ same. omega arith), ne-eqb first 0xC001 (λ same. omega arith))
-
-  pub kind-when-store : 0x8000 ≤ first → first ≤ 0x8007 → Kind.Store (first - 0x8000) ≡ kind first
-  unfolding kind isRegister
-  kind-when-store from to =
-      rw (← stands, le-ltb at flag none, ne-eqb first 0x058 (λ same. omega arith), le-leb 0x8000 first from, le-leb first 0x8007 to)
-
-  module _ (past : 0x8007 < first) where
-    pub kind-when-clear : first ≡ 0xC000 → Kind.Flag 0 ≡ kind first
-    unfolding kind isRegister
-    kind-when-clear same =
-        rw
-        (← stands, le-ltb at flag none, ne-eqb first 0x058 (λ same. omega arith), le-leb 0x8000 first (omega arith), lt-leb first 0x8007 past, eq-eqb first 0xC000 same)
-
-    pub kind-when-set : first ≡ 0xC001 → Kind.Flag 1 ≡ kind first
-    unfolding kind isRegister
-    kind-when-set same =
-        rw
-        (← stands, le-ltb at flag none, ne-eqb first 0x058 (λ same. omega arith), le-leb 0x8000 first (omega arith), lt-leb first 0x8007 past, ne-eqb first 0xC000 (λ clear. omega arith), eq-eqb first 0xC001 same)
-
-    pub kind-when-high : (first ≡ 0xC000 → ⊥) → (first ≡ 0xC001 → ⊥) → Kind.Nothing ≡ kind first
-    unfolding kind isRegister
-    kind-when-high clear set =
-        rw
-        (← stands, le-ltb at flag none, ne-eqb first 0x058 (λ same. omega arith), le-leb 0x8000 first (omega arith), lt-leb first 0x8007 past, ne-eqb first 0xC000 clear, ne-eqb first 0xC001 set)
+use Rattle.job.specs.Kind.{kind}
+use Rattle.job.specs.Step.{operands, found, isOdd, begun, front, stepAt}
 
 -- the words after a step's first, at the job's end and before it
 drop-of-word : (job : List ℕ) (at next : ℕ) → at < length job → next ≡ suc at → drop at job ≡ getD job at 0 ∷ drop next job
@@ -185,6 +145,32 @@ module _ (job : List ℕ) (at : ℕ) (step : Step) (next : ℕ) (reads : stepAt 
       let past = front-next at (drop at job) step next reads in
       let inside = front-le at (drop at job) step next reads in
       (omega arith, omega (arith, length-drop at job))
+
+-- only past the last word does the end stand
+begun-is-some : (begins : Kind) (at : ℕ) (rest : List ℕ) → begun begins at rest ≡ Read.End → ⊥
+unfolding begun found
+begun-is-some Kind.Nothing at rest reads = let n : _≡_ {A = ℕ} 0 1 = cc in omega arith
+begun-is-some (Kind.Register place) at [] reads = let n : _≡_ {A = ℕ} 0 1 = cc in omega arith
+begun-is-some (Kind.Register place) at (value ∷ rest) reads = let n : _≡_ {A = ℕ} 0 1 = cc in omega arith
+begun-is-some Kind.Size at [] reads = let n : _≡_ {A = ℕ} 0 1 = cc in omega arith
+begun-is-some Kind.Size at (value ∷ rest) reads = let n : _≡_ {A = ℕ} 0 1 = cc in omega arith
+begun-is-some (Kind.Store high) at [] reads = let n : _≡_ {A = ℕ} 0 1 = cc in omega arith
+begun-is-some (Kind.Store high) at (low ∷ []) reads = let n : _≡_ {A = ℕ} 0 1 = cc in omega arith
+begun-is-some (Kind.Store high) at (low ∷ value ∷ rest) reads = by-test (isOdd low) reads
+  where
+    by-test : (odd : Bool) → (if odd then Read.OddStore else found at (Step.Store (pointer high low .word) value)) ≡ Read.End → ⊥
+    by-test true reads = let n : _≡_ {A = ℕ} 0 1 = cc in omega arith
+    by-test false reads = let n : _≡_ {A = ℕ} 0 1 = cc in omega arith
+begun-is-some (Kind.Flag flag) at rest reads = let n : _≡_ {A = ℕ} 0 1 = cc in omega arith
+
+front-of-end : (at : ℕ) (words : List ℕ) → front at words ≡ Read.End → length words ≡ 0
+unfolding front
+front-of-end at [] reads = refl
+front-of-end at (first ∷ rest) reads = absurd (begun-is-some (kind first) at rest reads)
+
+pub stepAt-of-end : (job : List ℕ) (at : ℕ) → stepAt job at ≡ Read.End → length job ≤ at
+unfolding stepAt
+stepAt-of-end job at reads = let none = front-of-end at (drop at job) reads in omega (arith, length-drop at job)
 
 -- words after a run change nothing of a step at its front
 begun-of-append : (begins : Kind) (at : ℕ) (rest more : List ℕ) (step : Step) (next : ℕ)

@@ -3,15 +3,14 @@ use mathlib.Core.Path.{_≡_, refl, sym, ap, _∙_}
 use Prim.Native.Nat.{ℕ, zero, suc, _+_, _<_, _≤_}
 use native.Mathlib.Nat.{add-zero}
 use native.Mathlib.Omega.{arith}
-use mathlib.Core.Bool.{Bool, true, false, _&&_}
-use mathlib.Core.List.{List, [], _∷_, _++_}
+use mathlib.Core.List.{List, [], _∷_}
 use lib.ListN.{length, drop, drop-of-length-le}
 use lib.Seq.{drop-drop}
 use Rattle.job.specs.declared.types.Step.{Step}
 use Rattle.job.specs.declared.types.Read.{Read}
-use Rattle.job.specs.Step.{operands, front, stepAt}
+use Rattle.job.specs.Step.{operands, front, stepAt, readNumber}
 use Rattle.job.specs.Steps.{Placed, placed, following, stepsFrom, steps}
-use Rattle.job.proofs.StepLaws.{front-next, front-le, front-of-append}
+use Rattle.job.proofs.StepLaws.{front-next, stepAt-of-end}
 
 -- the words that belong to the step before are passed over
 pub stepsFrom-of-skip : (skip at : ℕ) (words : List ℕ) → stepsFrom skip at words ≡ stepsFrom 0 (at + skip) (drop skip words)
@@ -25,6 +24,9 @@ stepsFrom-of-skip (suc skip) at (word ∷ rest) =
 pub steps-at-end : (job : List ℕ) (at : ℕ) → length job ≤ at → stepsFrom 0 at (drop at job) ≡ []
 unfolding stepsFrom
 steps-at-end job at past = rw (drop-of-length-le job past)
+
+pub steps-of-end : (job : List ℕ) (at : ℕ) → stepAt job at ≡ Read.End → stepsFrom 0 at (drop at job) ≡ []
+steps-of-end job at reads = steps-at-end job at (stepAt-of-end job at reads)
 
 -- a run that begins with a step
 stepsFrom-of-step : (at : ℕ) (words : List ℕ) (step : Step) (next : ℕ) → front at words ≡ Read.Step step next
@@ -47,3 +49,37 @@ steps-of-step job at step next reads =
     stepsFrom-of-step at (drop at job) step next reads
     ∙ ap (λ (later : List ℕ). placed at (Read.Step step next) ∷ stepsFrom 0 next later)
     (drop-drop (suc (operands step)) at job ∙ ap (λ (place : ℕ). drop place job) same)
+
+-- a run that begins with anything else: it stands first, at its place
+module _ (job : List ℕ) (at : ℕ) where
+  stepsFrom-of-fault : (words : List ℕ) (read : Read) → following read ≡ 0 → (read ≡ Read.End → ⊥) → front at words ≡ read
+      → stepsFrom 0 at words ≡ placed at read ∷ stepsFrom 0 (at + 1) (drop 1 words)
+  unfolding stepsFrom front
+  stepsFrom-of-fault [] read alone some reads = absurd (some (sym reads))
+  stepsFrom-of-fault (first ∷ rest) read alone some reads =
+      ap (λ (read : Read). placed at read ∷ stepsFrom (following read) (at + 1) rest) reads
+      ∙ ap (λ (skip : ℕ). placed at read ∷ stepsFrom skip (at + 1) rest) alone
+
+  pub steps-of-fault : (read : Read) → stepAt job at ≡ read → 0 < readNumber read
+      → stepsFrom 0 at (drop at job) ≡ placed at read ∷ stepsFrom 0 (at + 1) (drop (at + 1) job)
+  unfolding stepAt readNumber following
+  steps-of-fault (Read.Step step next) reads faulty = absurd (omega arith)
+  steps-of-fault Read.End reads faulty = absurd (omega arith)
+  steps-of-fault Read.NoStep reads faulty = rw (← drop-drop 1 at job) (stepsFrom-of-fault (drop at job) Read.NoStep refl (λ same. let n : _≡_ {A = ℕ} 0 1 = cc in omega arith) reads)
+  steps-of-fault Read.CutOff reads faulty = rw (← drop-drop 1 at job) (stepsFrom-of-fault (drop at job) Read.CutOff refl (λ same. let n : _≡_ {A = ℕ} 0 1 = cc in omega arith) reads)
+  steps-of-fault Read.OddStore reads faulty = rw (← drop-drop 1 at job) (stepsFrom-of-fault (drop at job) Read.OddStore refl (λ same. let n : _≡_ {A = ℕ} 0 1 = cc in omega arith) reads)
+
+  pub steps-of-nothing : stepAt job at ≡ Read.NoStep
+      → stepsFrom 0 at (drop at job) ≡ placed at Read.NoStep ∷ stepsFrom 0 (at + 1) (drop (at + 1) job)
+  unfolding readNumber
+  steps-of-nothing reads = steps-of-fault Read.NoStep reads (omega arith)
+
+  pub steps-of-cut : stepAt job at ≡ Read.CutOff
+      → stepsFrom 0 at (drop at job) ≡ placed at Read.CutOff ∷ stepsFrom 0 (at + 1) (drop (at + 1) job)
+  unfolding readNumber
+  steps-of-cut reads = steps-of-fault Read.CutOff reads (omega arith)
+
+  pub steps-of-odd : stepAt job at ≡ Read.OddStore
+      → stepsFrom 0 at (drop at job) ≡ placed at Read.OddStore ∷ stepsFrom 0 (at + 1) (drop (at + 1) job)
+  unfolding readNumber
+  steps-of-odd reads = steps-of-fault Read.OddStore reads (omega arith)

@@ -1,27 +1,15 @@
 -- Paper 01, "Jobs": the steps of a job, and what stands at a place of it.
-use Prim.Native.Nat.{ℕ, _+_, _-_, _%_}
-use mathlib.Core.Bool.{Bool, _&&_}
+use Prim.Native.Nat.{ℕ, _+_, _%_}
+use mathlib.Core.Bool.{Bool}
 use mathlib.Core.List.{List, [], _∷_}
-use lib.Dec.{eqb, leb}
+use lib.Dec.{eqb}
 use lib.ListN.{drop}
 use Rattle.word.specs.Choice.{if_then_else_}
 use Rattle.word.specs.Pointer.{pointer}
-use Rattle.file.specs.File.{isRegister, place}
 use Rattle.job.specs.declared.types.Kind.{Kind}
 use Rattle.job.specs.declared.types.Step.{Step}
 use Rattle.job.specs.declared.types.Read.{Read}
-
--- "register write: an offset of the table or 058, then the value"
--- "store: 8000 to 8007 (last digit the high half), low half, value"
--- "flag: C000 or C001, sets the zero flag to 0 or 1"
-unfoldable pub kind : (first : ℕ) → Kind
-kind first =
-    if isRegister first then Kind.Register (place first) else
-    if eqb first 0x058 then Kind.Size else
-    if leb 0x8000 first && leb first 0x8007 then Kind.Store (first - 0x8000) else
-    if eqb first 0xC000 then Kind.Flag 0 else
-    if eqb first 0xC001 then Kind.Flag 1 else
-    Kind.Nothing
+use Rattle.job.specs.Kind.{kind}
 
 -- the words of a step after its first: the value; the low half and the value; none
 unfoldable pub operands : Step → ℕ

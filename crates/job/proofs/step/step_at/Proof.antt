@@ -1,83 +1,60 @@
+-- `job::step::step_at` meets its contract: past the end there is no word, and elsewhere the first word's kind decides.
 use Rattle.job.proofs.StepLaws.{stepAt-at-end, stepAt-of-kind, stepAt-of-flag, stepAt-of-nothing}
 use borrow.Author.Needs.{needs}
 use Rattle.job.proofs.step.step_at.Statement.{statement}
 use Rattle.job.proofs.step.step_at.Tie as tie
-use Rattle.job.proofs.step.step_at.Reads as reads
-use Rattle.job.proofs.step.step_at.Lts as lts
-use Rattle.job.proofs.step.kind.Reads as kind-reads
-use Rattle.job.proofs.step.register_at.Reads as register-at-reads
-use Rattle.job.proofs.step.size_at.Reads as size-at-reads
-use Rattle.job.proofs.step.store_at.Reads as store-at-reads
 
--- src/step.rt:76:9
 returns : tie.Need-returns
 returns c = search stepAt-at-end
 
--- src/step.rt:78:16
 mul-kind : tie.Need-mul-kind
 mul-kind c = search needs
 
--- src/step.rt:78:16
 shared-slice-read-kind : tie.Need-shared-slice-read-kind
 shared-slice-read-kind c = search needs
 
--- src/step.rt:78:11
 kind-requires : tie.Need-kind-requires
 kind-requires c κs = search needs
 
--- src/step.rt:79:24
 enum-known-place : tie.Need-enum-known-place
 enum-known-place c = search needs
 
--- src/step.rt:79:34
 register-at-requires : tie.Need-register-at-requires
 register-at-requires c κs = search needs
 
--- src/step.rt:80:23
 enum-told : tie.Need-enum-told
 enum-told c = search needs
 
--- src/step.rt:80:23
 size-at-requires : tie.Need-size-at-requires
 size-at-requires c κs = search needs
 
--- src/step.rt:81:21
 enum-known-high : tie.Need-enum-known-high
 enum-known-high c = search needs
 
--- src/step.rt:81:30
 store-at-requires : tie.Need-store-at-requires
 store-at-requires c κs = search needs
 
--- src/step.rt:82:20
 enum-known-flag : tie.Need-enum-known-flag
 enum-known-flag c = search needs
 
--- src/step.rt:82:58
 add-t13 : tie.Need-add-t13
 add-t13 c = search needs
 
--- src/step.rt:83:26
 enum-told-2 : tie.Need-enum-told-2
 enum-told-2 c = search needs
 
--- src/step.rt:72:1
 returns-2 : tie.Need-returns-2
 returns-2 c = search stepAt-of-kind
 
--- src/step.rt:72:1
 returns-3 : tie.Need-returns-3
 returns-3 c = search stepAt-of-kind
 
--- src/step.rt:72:1
 returns-4 : tie.Need-returns-4
 returns-4 c = search stepAt-of-kind
 
--- src/step.rt:72:1
 returns-5 : tie.Need-returns-5
 returns-5 c = search stepAt-of-flag
 
--- src/step.rt:72:1
 returns-6 : tie.Need-returns-6
 returns-6 c = search stepAt-of-nothing
 

@@ -2,7 +2,8 @@
 use mathlib.Core.Path.{refl}
 use Rattle.word.specs.Pointer.{pointer}
 use Rattle.file.specs.File.{registers, placeIn, place, isRegister}
-use Rattle.job.specs.Step.{kind, operands, found, begun, front, stepAt, readNumber}
+use Rattle.job.specs.Kind.{kind}
+use Rattle.job.specs.Step.{operands, found, begun, front, stepAt, readNumber}
 use Rattle.job.specs.Examples.{examples}
 use Rattle.job.proofs.theorems.first_words.Statement.{statement}
 use Rattle.job.proofs.theorems.first_words.Tie as tie

@@ -32,19 +32,19 @@ module _ (job : List ℕ) (at : ℕ) where
   rest-of-value : 2 ≤ length job - at → drop (at + 1) job ≡ getD job (at + 1) 0 ∷ drop (at + 2) job
   rest-of-value more = drop-of-word job (at + 1) (at + 2) (omega arith) (omega arith)
 
-  pub begun-of-register : (place : ℕ) → 2 ≤ length job - at
-      → Read.Step (Step.Register place (getD job (at + 1) 0)) (at + 2) ≡ begun (Kind.Register place) at (drop (at + 1) job)
+  pub begun-of-register : (place value : ℕ) → 2 ≤ length job - at → value ≡ getD job (at + 1) 0
+      → Read.Step (Step.Register place value) (at + 2) ≡ begun (Kind.Register place) at (drop (at + 1) job)
   unfolding begun found operands
-  begun-of-register place more = rw (rest-of-value more)
+  begun-of-register place value more same = rw (rest-of-value more, same)
 
   pub begun-of-register-cut : (place : ℕ) → length job - at < 2 → Read.CutOff ≡ begun (Kind.Register place) at (drop (at + 1) job)
   unfolding begun
   begun-of-register-cut place cut = rw (rest-at-end cut)
 
-  pub begun-of-size : 2 ≤ length job - at
-      → Read.Step (Step.Size (getD job (at + 1) 0)) (at + 2) ≡ begun Kind.Size at (drop (at + 1) job)
+  pub begun-of-size : (value : ℕ) → 2 ≤ length job - at → value ≡ getD job (at + 1) 0
+      → Read.Step (Step.Size value) (at + 2) ≡ begun Kind.Size at (drop (at + 1) job)
   unfolding begun found operands
-  begun-of-size more = rw (rest-of-value more)
+  begun-of-size value more same = rw (rest-of-value more, same)
 
   pub begun-of-size-cut : length job - at < 2 → Read.CutOff ≡ begun Kind.Size at (drop (at + 1) job)
   unfolding begun
@@ -55,16 +55,17 @@ module _ (job : List ℕ) (at : ℕ) where
       rest-of-value (omega arith)
       ∙ ap (λ (rest : List ℕ). getD job (at + 1) 0 ∷ rest) (drop-of-word job (at + 2) (at + 3) (omega arith) (omega arith))
 
-  pub begun-of-store : (high : ℕ) (to : Pointer) → 3 ≤ length job - at
-      → (getD job (at + 1) 0 % 2 ≡ 1 → ⊥) → to ≡ pointer high (getD job (at + 1) 0)
-      → Read.Step (Step.Store (to .word) (getD job (at + 2) 0)) (at + 3) ≡ begun (Kind.Store high) at (drop (at + 1) job)
+  pub begun-of-store : (high low value : ℕ) (to : Pointer) → to ≡ pointer high low → low ≡ getD job (at + 1) 0
+      → value ≡ getD job (at + 2) 0 → 3 ≤ length job - at → (low % 2 ≡ 1 → ⊥)
+      → Read.Step (Step.Store (to .word) value) (at + 3) ≡ begun (Kind.Store high) at (drop (at + 1) job)
   unfolding begun found operands
-  begun-of-store high to more even same = rw (rest-of-two more, ne-eqb (getD job (at + 1) 0 % 2) 1 even, same)
+  begun-of-store high low value to address first last more even =
+      rw (rest-of-two more, ← first, ne-eqb (low % 2) 1 even, address, last)
 
-  pub begun-of-odd : (high : ℕ) → 3 ≤ length job - at → getD job (at + 1) 0 % 2 ≡ 1
+  pub begun-of-odd : (high low : ℕ) → 3 ≤ length job - at → low ≡ getD job (at + 1) 0 → low % 2 ≡ 1
       → Read.OddStore ≡ begun (Kind.Store high) at (drop (at + 1) job)
   unfolding begun
-  begun-of-odd high more odd = rw (rest-of-two more, eq-eqb (getD job (at + 1) 0 % 2) 1 odd)
+  begun-of-odd high low more first odd = rw (rest-of-two more, ← first, eq-eqb (low % 2) 1 odd)
 
   pub begun-of-store-cut : (high : ℕ) → length job - at < 3 → Read.CutOff ≡ begun (Kind.Store high) at (drop (at + 1) job)
   unfolding begun
@@ -79,10 +80,10 @@ module _ (job : List ℕ) (at : ℕ) where
   stepAt-at-end past = rw (drop-of-length-le job past)
 
   -- the first word's kind decides
-  module _ (begins : Kind) (inside : at < length job) (first : begins ≡ kind (getD job at 0)) where
+  module _ (first : ℕ) (begins : Kind) (inside : at < length job) (here : first ≡ getD job at 0) (first-kind : begins ≡ kind first) where
     pub stepAt-of-kind : (arm : Kind) (read : Read) → begins ≡ arm → read ≡ begun arm at (drop (at + 1) job) → read ≡ stepAt job at
     unfolding stepAt front
-    stepAt-of-kind arm read same rest = rw (drop-of-word job at (at + 1) inside (omega arith), ← first, same) rest
+    stepAt-of-kind arm read same rest = rw (drop-of-word job at (at + 1) inside (omega arith), ← here, ← first-kind, same) rest
 
     pub stepAt-of-flag : (flag : ℕ) → begins ≡ Kind.Flag flag → Read.Step (Step.Flag flag) (at + 1) ≡ stepAt job at
     unfolding begun found operands

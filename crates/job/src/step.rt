@@ -1,7 +1,7 @@
 // The decoder: what stands at a place of a job.
 ghost use mathlib.Core.Path.{_≡_};
 ghost use Prim.Native.Nat.{_+_, _<_};
-ghost use lib.ListN.{length, drop};
+ghost use lib.ListN.{length, getD, drop};
 ghost use Rattle.job.specs.declared.types.Kind;
 ghost use Rattle.job.specs.Kind.{kind};
 ghost use Rattle.job.specs.Step.{begun, stepAt};
@@ -34,40 +34,54 @@ pub fn kind(first: u16) -> Kind
     Kind::Nothing
 }
 
-// The rest of a step whose first word stands at a place of the job.
+// The word at a place of the job; 0 past the end.
+fn word_at(job: &[u16], at: usize) -> u16
+    ensures { λ word. ⌜ word ≡ getD (now (job .entry)) at 0 ⌝ }
+{
+    if at < job.len() {
+        return job[at];
+    }
+    0
+}
+
+// The step whose first word stands at a place of the job, and is a register's offset.
 fn register_at(job: &[u16], at: usize, place: u32) -> Read
     requires { ⌜ at < length (now job) ⌝ }
     ensures { λ read. ⌜ read ≡ begun (Kind.Register place) at (drop (at + 1) (now (job .entry))) ⌝ }
 {
-    if job.len() - at < 2 {
-        return Read::CutOff;
+    let words = job.len() - at;
+    if 2 <= words {
+        return Read::Step(Step::Register(place, word_at(job, at + 1)), at + 2);
     }
-    Read::Step(Step::Register(place, job[at + 1]), at + 2)
+    Read::CutOff
 }
 
 fn size_at(job: &[u16], at: usize) -> Read
     requires { ⌜ at < length (now job) ⌝ }
     ensures { λ read. ⌜ read ≡ begun Kind.Size at (drop (at + 1) (now (job .entry))) ⌝ }
 {
-    if job.len() - at < 2 {
-        return Read::CutOff;
+    let words = job.len() - at;
+    if 2 <= words {
+        return Read::Step(Step::Size(word_at(job, at + 1)), at + 2);
     }
-    Read::Step(Step::Size(job[at + 1]), at + 2)
+    Read::CutOff
 }
 
+// The refusals in their order: cut off, then odd.
 fn store_at(job: &[u16], at: usize, high: u16) -> Read
     requires { ⌜ at < length (now job) ⌝ }
     ensures { λ read. ⌜ read ≡ begun (Kind.Store high) at (drop (at + 1) (now (job .entry))) ⌝ }
 {
-    if job.len() - at < 3 {
+    let words = job.len() - at;
+    let low = word_at(job, at + 1);
+    if words < 3 {
         return Read::CutOff;
     }
-    let low = job[at + 1];
     if low % 2 == 1 {
         return Read::OddStore;
     }
     let to = word::pointer::pointer(high, low);
-    Read::Step(Step::Store(to.word, job[at + 2]), at + 3)
+    Read::Step(Step::Store(to.word, word_at(job, at + 2)), at + 3)
 }
 
 pub fn step_at(job: &[u16], at: usize) -> Read
@@ -76,7 +90,7 @@ pub fn step_at(job: &[u16], at: usize) -> Read
     if job.len() <= at {
         return Read::End;
     }
-    match kind(job[at]) {
+    match kind(word_at(job, at)) {
         Kind::Register(place) => register_at(job, at, place),
         Kind::Size => size_at(job, at),
         Kind::Store(high) => store_at(job, at, high),

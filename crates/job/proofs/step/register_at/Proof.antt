@@ -4,27 +4,24 @@ use borrow.Author.Needs.{needs}
 use Rattle.job.proofs.step.register_at.Statement.{statement}
 use Rattle.job.proofs.step.register_at.Tie as tie
 
-sub-if1 : tie.Need-sub-if1
-sub-if1 c = search needs
+sub-words : tie.Need-sub-words
+sub-words c = search needs
 
-returns : tie.Need-returns
-returns c = search begun-of-register-cut
+add-word-at : tie.Need-add-word-at
+add-word-at c = search needs
 
-add-t4 : tie.Need-add-t4
-add-t4 c = search needs
-
-mul-t5 : tie.Need-mul-t5
-mul-t5 c = search needs
-
-shared-slice-read-t8 : tie.Need-shared-slice-read-t8
-shared-slice-read-t8 c = search needs
+word-at-requires : tie.Need-word-at-requires
+word-at-requires c κs = search needs
 
 add-t10 : tie.Need-add-t10
 add-t10 c = search needs
 
+returns : tie.Need-returns
+returns c = search begun-of-register
+
 returns-2 : tie.Need-returns-2
-returns-2 c = search begun-of-register
+returns-2 c = search begun-of-register-cut
 
 pub register-at-spec : {M : Type 1} → statement M
 register-at-spec =
-    tie.close (tie.spec sub-if1 returns add-t4 mul-t5 shared-slice-read-t8 add-t10 returns-2)
+    tie.close (tie.spec sub-words add-word-at word-at-requires add-t10 returns returns-2)

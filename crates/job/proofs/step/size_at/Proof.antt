@@ -4,27 +4,23 @@ use borrow.Author.Needs.{needs}
 use Rattle.job.proofs.step.size_at.Statement.{statement}
 use Rattle.job.proofs.step.size_at.Tie as tie
 
-sub-if1 : tie.Need-sub-if1
-sub-if1 c = search needs
+sub-words : tie.Need-sub-words
+sub-words c = search needs
 
-returns : tie.Need-returns
-returns c = search begun-of-size-cut
+add-word-at : tie.Need-add-word-at
+add-word-at c = search needs
 
-add-t3 : tie.Need-add-t3
-add-t3 c = search needs
-
-mul-t4 : tie.Need-mul-t4
-mul-t4 c = search needs
-
-shared-slice-read-t7 : tie.Need-shared-slice-read-t7
-shared-slice-read-t7 c = search needs
+word-at-requires : tie.Need-word-at-requires
+word-at-requires c κs = search needs
 
 add-t9 : tie.Need-add-t9
 add-t9 c = search needs
 
+returns : tie.Need-returns
+returns c = search begun-of-size
+
 returns-2 : tie.Need-returns-2
-returns-2 c = search begun-of-size
+returns-2 c = search begun-of-size-cut
 
 pub size-at-spec : {M : Type 1} → statement M
-size-at-spec =
-    tie.close (tie.spec sub-if1 returns add-t3 mul-t4 shared-slice-read-t7 add-t9 returns-2)
+size-at-spec = tie.close (tie.spec sub-words add-word-at word-at-requires add-t9 returns returns-2)

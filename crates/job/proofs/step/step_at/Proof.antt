@@ -7,11 +7,8 @@ use Rattle.job.proofs.step.step_at.Tie as tie
 returns : tie.Need-returns
 returns c = search stepAt-at-end
 
-mul-kind : tie.Need-mul-kind
-mul-kind c = search needs
-
-shared-slice-read-kind : tie.Need-shared-slice-read-kind
-shared-slice-read-kind c = search needs
+word-at-requires : tie.Need-word-at-requires
+word-at-requires c κs = search needs
 
 kind-requires : tie.Need-kind-requires
 kind-requires c κs = search needs
@@ -37,8 +34,8 @@ store-at-requires c κs = search needs
 enum-known-flag : tie.Need-enum-known-flag
 enum-known-flag c = search needs
 
-add-t13 : tie.Need-add-t13
-add-t13 c = search needs
+add-t12 : tie.Need-add-t12
+add-t12 c = search needs
 
 enum-told-2 : tie.Need-enum-told-2
 enum-told-2 c = search needs
@@ -63,8 +60,7 @@ step-at-spec =
     tie.close
     (tie.spec
     returns
-    mul-kind
-    shared-slice-read-kind
+    word-at-requires
     kind-requires
     enum-known-place
     register-at-requires
@@ -73,7 +69,7 @@ step-at-spec =
     enum-known-high
     store-at-requires
     enum-known-flag
-    add-t13
+    add-t12
     enum-told-2
     returns-2
     returns-3

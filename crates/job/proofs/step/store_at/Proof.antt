@@ -14,7 +14,7 @@ word-at-requires : tie.Need-word-at-requires
 word-at-requires c κs = search needs
 
 returns : tie.Need-returns
-returns c = search begun-of-store-cut
+returns c = search (needs, begun-of-store-cut)
 
 returns-2 : tie.Need-returns-2
 returns-2 c = search begun-of-odd

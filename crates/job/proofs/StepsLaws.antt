@@ -9,7 +9,7 @@ use lib.Seq.{drop-drop}
 use Rattle.job.specs.declared.types.Step.{Step}
 use Rattle.job.specs.declared.types.Read.{Read}
 use Rattle.job.specs.Step.{operands, front, stepAt, readNumber}
-use Rattle.job.specs.Steps.{Placed, placed, following, stepsFrom, steps}
+use Rattle.job.specs.Steps.{Placed, placed, following, stepsFrom}
 use Rattle.job.proofs.StepLaws.{front-next, stepAt-of-end}
 
 -- the words that belong to the step before are passed over
@@ -50,24 +50,33 @@ steps-of-step job at step next reads =
     ∙ ap (λ (later : List ℕ). placed at (Read.Step step next) ∷ stepsFrom 0 next later)
     (drop-drop (suc (operands step)) at job ∙ ap (λ (place : ℕ). drop place job) same)
 
--- a run that begins with anything else: it stands first, at its place
+-- what is refused has a number; no word after the first belongs to it, and it is not the end
+following-of-fault : (read : Read) → 0 < readNumber read → following read ≡ 0
+unfolding readNumber following
+following-of-fault (Read.Step step next) faulty = absurd (omega arith)
+following-of-fault Read.End faulty = refl
+following-of-fault Read.NoStep faulty = refl
+following-of-fault Read.CutOff faulty = refl
+following-of-fault Read.OddStore faulty = refl
+
+end-is-no-fault : (read : Read) → 0 < readNumber read → read ≡ Read.End → ⊥
+unfolding readNumber
+end-is-no-fault read faulty same = omega (arith, ap readNumber same)
+
+-- a run that begins with what is refused: it stands first, at its place
 module _ (job : List ℕ) (at : ℕ) where
-  stepsFrom-of-fault : (words : List ℕ) (read : Read) → following read ≡ 0 → (read ≡ Read.End → ⊥) → front at words ≡ read
+  stepsFrom-of-fault : (words : List ℕ) (read : Read) → front at words ≡ read → 0 < readNumber read
       → stepsFrom 0 at words ≡ placed at read ∷ stepsFrom 0 (at + 1) (drop 1 words)
   unfolding stepsFrom front
-  stepsFrom-of-fault [] read alone some reads = absurd (some (sym reads))
-  stepsFrom-of-fault (first ∷ rest) read alone some reads =
+  stepsFrom-of-fault [] read reads faulty = absurd (end-is-no-fault read faulty (sym reads))
+  stepsFrom-of-fault (first ∷ rest) read reads faulty =
       ap (λ (read : Read). placed at read ∷ stepsFrom (following read) (at + 1) rest) reads
-      ∙ ap (λ (skip : ℕ). placed at read ∷ stepsFrom skip (at + 1) rest) alone
+      ∙ ap (λ (skip : ℕ). placed at read ∷ stepsFrom skip (at + 1) rest) (following-of-fault read faulty)
 
   pub steps-of-fault : (read : Read) → stepAt job at ≡ read → 0 < readNumber read
       → stepsFrom 0 at (drop at job) ≡ placed at read ∷ stepsFrom 0 (at + 1) (drop (at + 1) job)
-  unfolding stepAt readNumber following
-  steps-of-fault (Read.Step step next) reads faulty = absurd (omega arith)
-  steps-of-fault Read.End reads faulty = absurd (omega arith)
-  steps-of-fault Read.NoStep reads faulty = rw (← drop-drop 1 at job) (stepsFrom-of-fault (drop at job) Read.NoStep refl (λ same. let n : _≡_ {A = ℕ} 0 1 = cc in omega arith) reads)
-  steps-of-fault Read.CutOff reads faulty = rw (← drop-drop 1 at job) (stepsFrom-of-fault (drop at job) Read.CutOff refl (λ same. let n : _≡_ {A = ℕ} 0 1 = cc in omega arith) reads)
-  steps-of-fault Read.OddStore reads faulty = rw (← drop-drop 1 at job) (stepsFrom-of-fault (drop at job) Read.OddStore refl (λ same. let n : _≡_ {A = ℕ} 0 1 = cc in omega arith) reads)
+  unfolding stepAt
+  steps-of-fault read reads faulty = rw (← drop-drop 1 at job) (stepsFrom-of-fault (drop at job) read reads faulty)
 
   pub steps-of-nothing : stepAt job at ≡ Read.NoStep
       → stepsFrom 0 at (drop at job) ≡ placed at Read.NoStep ∷ stepsFrom 0 (at + 1) (drop (at + 1) job)

@@ -1,5 +1,5 @@
 -- Paper 01, "Jobs": a job as the list of its steps, in their order, each with "the word index" of its first word.
--- What is no step stands in the list too, at its place. A run stops there, so what comes after it in the list has no meaning.
+-- What is refused stands in the list too, at its place. A run stops there: what follows it in the list means nothing.
 use Prim.Native.Nat.{ℕ, zero, suc, _+_}
 use mathlib.Core.List.{List, [], _∷_}
 use Rattle.job.specs.declared.types.Step.{Step}

@@ -1,7 +1,7 @@
 // The types that the definitions of a job speak of.
 
-// What a step's first word begins: a register's write, with the register's place in the file; a write of BLTSIZE; a store, with the high half of its
-// address; a flag step, with the flag; or no step.
+// What a step's first word begins: a register's write, with the register's place in the file; a write of BLTSIZE;
+// a store, with the high half of its address; a flag step, with the flag; or no step.
 pub enum Kind {
     Register(u32),
     Size,
@@ -10,7 +10,8 @@ pub enum Kind {
     Nothing,
 }
 
-// One step of a job. A register's write carries the register's place in the file and the value as written; a store its word number and the value.
+// One step of a job. A register's write carries the register's place in the file and the value as written;
+// a store the number of the word that it goes to, and the value.
 pub enum Step {
     Register(u32, u16),
     Size(u16),

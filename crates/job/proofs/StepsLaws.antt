@@ -1,4 +1,4 @@
--- Laws of the list of a job's steps: how it begins at a place, by what stands there, and that it falls apart where a step ends.
+-- Laws of the list of a job's steps: how it begins at a place, by what stands there.
 use mathlib.Core.Path.{_≡_, refl, sym, ap, _∙_}
 use Prim.Native.Nat.{ℕ, zero, suc, _+_, _<_, _≤_}
 use native.Mathlib.Nat.{add-zero}

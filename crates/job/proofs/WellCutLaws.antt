@@ -59,7 +59,7 @@ unfolding Alike front
 front-anywhere at to [] = (refl, refl)
 front-anywhere at to (first ∷ rest) = begun-anywhere (kind first) at to rest
 
-faultless-anywhere : (skip at to : ℕ) (words : List ℕ) → faultless (stepsFrom skip at words) ≡ faultless (stepsFrom skip to words)
+pub faultless-anywhere : (skip at to : ℕ) (words : List ℕ) → faultless (stepsFrom skip at words) ≡ faultless (stepsFrom skip to words)
 unfolding Alike faultless stepsFrom
 faultless-anywhere skip at to [] = refl
 faultless-anywhere zero at to (first ∷ rest) =
@@ -106,7 +106,7 @@ pub steps-of-append : (at : ℕ) (first rest : List ℕ) → wellCut first ≡ t
 unfolding wellCut
 steps-of-append at first rest whole = stepsFrom-of-append 0 at first rest (omega arith) (faultless-anywhere 0 at 0 first ∙ whole)
 
-faultless-of-append : (these others : List Placed) → faultless these ≡ true → faultless (these ++ others) ≡ faultless others
+pub faultless-of-append : (these others : List Placed) → faultless these ≡ true → faultless (these ++ others) ≡ faultless others
 unfolding faultless
 faultless-of-append [] others whole = refl
 faultless-of-append (one ∷ rest) others whole =

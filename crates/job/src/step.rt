@@ -9,6 +9,7 @@ use crate::types::Kind;
 use crate::types::Read;
 use crate::types::Step;
 
+// What a first word begins. Past the table and 058, no word below 8000 begins a step.
 pub fn kind(first: u16) -> Kind
     ensures { λ begins. ⌜ begins ≡ kind first ⌝ }
 {
@@ -44,7 +45,7 @@ fn word_at(job: &[u16], at: usize) -> u16
     0
 }
 
-// The step whose first word stands at a place of the job, and is a register's offset.
+// The step whose first word stands at a place of the job, by what that word begins: a register's write, a size, a store.
 fn register_at(job: &[u16], at: usize, place: u32) -> Read
     requires { ⌜ at < length (now job) ⌝ }
     ensures { λ read. ⌜ read ≡ begun (Kind.Register place) at (drop (at + 1) (now (job .entry))) ⌝ }
@@ -67,7 +68,7 @@ fn size_at(job: &[u16], at: usize) -> Read
     Read::CutOff
 }
 
-// The refusals in their order: cut off, then odd.
+// A store's refusals in their order: cut off, then odd.
 fn store_at(job: &[u16], at: usize, high: u16) -> Read
     requires { ⌜ at < length (now job) ⌝ }
     ensures { λ read. ⌜ read ≡ begun (Kind.Store high) at (drop (at + 1) (now (job .entry))) ⌝ }
@@ -84,6 +85,7 @@ fn store_at(job: &[u16], at: usize, high: u16) -> Read
     Read::Step(Step::Store(to.word, word_at(job, at + 2)), at + 3)
 }
 
+// What stands at a place of a job, at any place: past the last word it is the end.
 pub fn step_at(job: &[u16], at: usize) -> Read
     ensures { λ read. ⌜ read ≡ stepAt (now (job .entry)) at ⌝ }
 {

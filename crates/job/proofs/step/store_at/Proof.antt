@@ -1,5 +1,6 @@
 -- `job::step::store_at` meets its contract: the low half and the value follow, or the job ends; only then is the low half tried.
 use Rattle.job.proofs.StepLaws.{begun-of-store, begun-of-odd, begun-of-store-cut}
+use native.Mathlib.Omega.{arith}
 use borrow.Author.Needs.{needs}
 use Rattle.job.proofs.step.store_at.Statement.{statement}
 use Rattle.job.proofs.step.store_at.Tie as tie
@@ -14,7 +15,7 @@ word-at-requires : tie.Need-word-at-requires
 word-at-requires c κs = search needs
 
 returns : tie.Need-returns
-returns c = search (needs, begun-of-store-cut)
+returns c = begun-of-store-cut _ _ _ (omega arith)
 
 returns-2 : tie.Need-returns-2
 returns-2 c = search begun-of-odd

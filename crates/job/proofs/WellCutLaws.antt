@@ -1,0 +1,125 @@
+-- Laws of a run of words that ends where a step ends: the list of its steps, and the steps of what follows it, stand one after the other.
+use mathlib.Core.Path.{_≡_, refl, ap, _∙_}
+use Prim.Native.Nat.{ℕ, zero, suc, _+_, _≤_}
+use native.Mathlib.Nat.{add-zero}
+use native.Mathlib.Omega.{arith}
+use mathlib.Core.Bool.{Bool, true, false, _&&_}
+use mathlib.Core.List.{List, [], _∷_, _++_}
+use lib.ListN.{length}
+use Rattle.word.specs.Choice.{if_then_else_}
+use Rattle.word.specs.Pointer.{pointer}
+use Rattle.job.specs.declared.types.Kind.{Kind}
+use Rattle.job.specs.declared.types.Step.{Step}
+use Rattle.job.specs.declared.types.Read.{Read}
+use Rattle.job.specs.Kind.{kind}
+use Rattle.job.specs.Step.{operands, found, isOdd, begun, front}
+use Rattle.job.specs.Steps.{Placed, placed, following, stepsFrom, steps}
+use Rattle.job.proofs.StepLaws.{front-le, front-of-append}
+
+unfoldable pub isStep : Read → Bool
+isStep (Read.Step step next) = true
+isStep Read.End = false
+isStep Read.NoStep = false
+isStep Read.CutOff = false
+isStep Read.OddStore = false
+
+-- every one of a list is a step
+unfoldable pub faultless : List Placed → Bool
+faultless [] = true
+faultless (one ∷ rest) = isStep (one .read) && faultless rest
+
+-- a run of words that is whole steps
+unfoldable pub wellCut : (words : List ℕ) → Bool
+wellCut words = faultless (steps words)
+
+-- where a run stands in the job decides neither whether a step is at its front nor how long it is
+Alike : (this other : Read) → Type 0
+Alike this other = (isStep this ≡ isStep other) × (following this ≡ following other)
+
+begun-anywhere : (begins : Kind) (at to : ℕ) (rest : List ℕ) → Alike (begun begins at rest) (begun begins to rest)
+unfolding Alike begun found isStep following
+begun-anywhere Kind.Nothing at to rest = (refl, refl)
+begun-anywhere (Kind.Register place) at to [] = (refl, refl)
+begun-anywhere (Kind.Register place) at to (value ∷ rest) = (refl, refl)
+begun-anywhere Kind.Size at to [] = (refl, refl)
+begun-anywhere Kind.Size at to (value ∷ rest) = (refl, refl)
+begun-anywhere (Kind.Store high) at to [] = (refl, refl)
+begun-anywhere (Kind.Store high) at to (low ∷ []) = (refl, refl)
+begun-anywhere (Kind.Store high) at to (low ∷ value ∷ rest) = by-test (isOdd low)
+  where
+    by-test : (odd : Bool)
+        → Alike (if odd then Read.OddStore else found at (Step.Store (pointer high low .word) value))
+        (if odd then Read.OddStore else found to (Step.Store (pointer high low .word) value))
+    by-test true = (refl, refl)
+    by-test false = (refl, refl)
+begun-anywhere (Kind.Flag flag) at to rest = (refl, refl)
+
+front-anywhere : (at to : ℕ) (words : List ℕ) → Alike (front at words) (front to words)
+unfolding Alike front
+front-anywhere at to [] = (refl, refl)
+front-anywhere at to (first ∷ rest) = begun-anywhere (kind first) at to rest
+
+pub faultless-anywhere : (skip at to : ℕ) (words : List ℕ) → faultless (stepsFrom skip at words) ≡ faultless (stepsFrom skip to words)
+unfolding Alike faultless stepsFrom
+faultless-anywhere skip at to [] = refl
+faultless-anywhere zero at to (first ∷ rest) =
+    let alike = front-anywhere at to (first ∷ rest) in
+    ap (λ (one : Bool). one && faultless (stepsFrom (following (front at (first ∷ rest))) (at + 1) rest)) (alike .0)
+    ∙ ap (λ (skip : ℕ). isStep (front to (first ∷ rest)) && faultless (stepsFrom skip (at + 1) rest)) (alike .1)
+    ∙ ap (λ (others : Bool). isStep (front to (first ∷ rest)) && others)
+    (faultless-anywhere (following (front to (first ∷ rest))) (at + 1) (to + 1) rest)
+faultless-anywhere (suc skip) at to (word ∷ rest) = faultless-anywhere skip (at + 1) (to + 1) rest
+
+-- a run, and what comes after it, from within the run's first step
+stepsFrom-of-append : (skip at : ℕ) (words more : List ℕ) → skip ≤ length words → faultless (stepsFrom skip at words) ≡ true
+    → stepsFrom skip at (words ++ more) ≡ stepsFrom skip at words ++ stepsFrom 0 (at + length words) more
+unfolding stepsFrom faultless isStep following
+stepsFrom-of-append zero at [] more inside whole = rw add-zero
+stepsFrom-of-append (suc skip) at [] more inside whole = absurd (omega arith)
+stepsFrom-of-append zero at (first ∷ rest) more inside whole =
+    by-read (front at (first ∷ rest)) refl whole (λ skip. stepsFrom-of-append skip (at + 1) rest more)
+  where
+    by-read : (read : Read) → front at (first ∷ rest) ≡ read
+        → (isStep read && faultless (stepsFrom (following read) (at + 1) rest)) ≡ true
+        → ((skip : ℕ) → skip ≤ length rest → faultless (stepsFrom skip (at + 1) rest) ≡ true
+        → stepsFrom skip (at + 1) (rest ++ more) ≡ stepsFrom skip (at + 1) rest ++ stepsFrom 0 (at + 1 + length rest) more)
+        → stepsFrom 0 at (first ∷ rest ++ more)
+        ≡ placed at read ∷ (stepsFrom (following read) (at + 1) rest ++ stepsFrom 0 (at + suc (length rest)) more)
+    by-read (Read.Step step next) reads whole later =
+        let fits = front-le at (first ∷ rest) step next reads in
+        let same : at + 1 + length rest ≡ at + suc (length rest) = omega arith in
+        ap (λ (read : Read). placed at read ∷ stepsFrom (following read) (at + 1) (rest ++ more)) (front-of-append at (first ∷ rest) more step next reads)
+        ∙ ap (λ (others : List Placed). placed at (Read.Step step next) ∷ others)
+        (later (operands step) (omega arith) whole ∙ ap (λ (place : ℕ). stepsFrom (operands step) (at + 1) rest ++ stepsFrom 0 place more) same)
+    by-read Read.End reads whole later = let n : _≡_ {A = ℕ} 0 1 = cc in absurd (omega arith)
+    by-read Read.NoStep reads whole later = let n : _≡_ {A = ℕ} 0 1 = cc in absurd (omega arith)
+    by-read Read.CutOff reads whole later = let n : _≡_ {A = ℕ} 0 1 = cc in absurd (omega arith)
+    by-read Read.OddStore reads whole later = let n : _≡_ {A = ℕ} 0 1 = cc in absurd (omega arith)
+stepsFrom-of-append (suc skip) at (word ∷ rest) more inside whole =
+    let same : at + 1 + length rest ≡ at + suc (length rest) = omega arith in
+    stepsFrom-of-append skip (at + 1) rest more (omega arith) whole
+    ∙ ap (λ (place : ℕ). stepsFrom skip (at + 1) rest ++ stepsFrom 0 place more) same
+
+-- a job falls apart where a step ends
+pub steps-of-append : (at : ℕ) (first rest : List ℕ) → wellCut first ≡ true
+    → stepsFrom 0 at (first ++ rest) ≡ stepsFrom 0 at first ++ stepsFrom 0 (at + length first) rest
+unfolding wellCut
+steps-of-append at first rest whole = stepsFrom-of-append 0 at first rest (omega arith) (faultless-anywhere 0 at 0 first ∙ whole)
+
+pub faultless-of-append : (these others : List Placed) → faultless these ≡ true → faultless (these ++ others) ≡ faultless others
+unfolding faultless
+faultless-of-append [] others whole = refl
+faultless-of-append (one ∷ rest) others whole =
+    by-test (isStep (one .read)) whole (λ later. faultless-of-append rest others later)
+  where
+    by-test : (good : Bool) → (good && faultless rest) ≡ true
+        → (faultless rest ≡ true → faultless (rest ++ others) ≡ faultless others) → (good && faultless (rest ++ others)) ≡ faultless others
+    by-test true whole later = later whole
+    by-test false whole later = let n : _≡_ {A = ℕ} 0 1 = cc in absurd (omega arith)
+
+pub wellCut-of-append : (first rest : List ℕ) → wellCut first ≡ true → wellCut (first ++ rest) ≡ wellCut rest
+unfolding wellCut
+wellCut-of-append first rest whole =
+    ap faultless (stepsFrom-of-append 0 0 first rest (omega arith) whole)
+    ∙ faultless-of-append (steps first) (stepsFrom 0 (0 + length first) rest) whole
+    ∙ faultless-anywhere 0 (0 + length first) 0 rest

@@ -1,0 +1,5 @@
+// A job's steps: what its first words begin, the step at a place, and a reader that stands on the job.
+pub mod reader;
+pub mod step;
+pub mod theorems;
+pub mod types;

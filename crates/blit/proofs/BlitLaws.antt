@@ -18,12 +18,13 @@ use Rattle.blit.specs.declared.types.Refusal.{Refusal}
 use Rattle.blit.specs.declared.types.Refusal.the-variants.{MemorySize, RegisterFile, NoWords, Line, BothFills, FillUpward, LeavesMemory}
 use Rattle.blit.specs.declared.types.Verdict.{Verdict}
 use Rattle.blit.specs.declared.types.Verdict.the-variants as verdicts
+use Rattle.blit.specs.declared.types.Answer.{Answer}
 use Rattle.blit.specs.declared.types.Answer.the-variants.{Done, Refused}
 use Rattle.area.specs.Setup.{shifts, setup}
 use Rattle.area.specs.Flow.{State, state, start}
 use Rattle.area.specs.Rows.{rows}
-use Rattle.blit.specs.Refusal.{refusal, refusalNumber, verdictNumber}
-use Rattle.blit.specs.Blit.{Outcome, putPointer, putPointers, putSources, putFlag, finished, done, refused, blit, left}
+use Rattle.blit.specs.Refusal.{stepRefusal, refusal, refusalNumber, verdictNumber}
+use Rattle.blit.specs.Blit.{Outcome, putPointer, putPointers, putSources, putFlag, finished, done, refused, answered, blitStep, blit, left}
 
 pub putPointer-when-used : (used : Bool) (place up down : ℕ) (pointer : Pointer) (file one two : List ℕ)
     → used ≡ true → up ≡ high pointer → one ≡ set file place up → down ≡ low pointer → two ≡ set one (place + 1) down
@@ -69,13 +70,11 @@ done-of-parts size wide tall memory after file one two three set flow end sets s
     let sources-all = rw sets at sources in
     rw (← does-all, flags, sources-all, points-all)
 
-pub blit-when-done : (memory file after changed : List ℕ) (size stored : ℕ)
-    → (verdict : Verdict) → verdict ≡ verdicts.Lawful → verdictNumber verdict ≡ refusal (length memory) file size
-    → left (Done stored) after changed ≡ done file (finished memory file size)
-    → left (Done stored) after changed ≡ blit memory file size
-unfolding blit
-blit-when-done memory file after changed size stored verdict lawful number does =
-    let none = rw lawful at number in rw (← none) does
+pub answered-when-done : (memory file after changed : List ℕ) (size stored : ℕ) (verdict : Verdict)
+    → verdict ≡ verdicts.Lawful → left (Done stored) after changed ≡ done file (finished memory file size)
+    → left (Done stored) after changed ≡ answered (verdictNumber verdict) memory file size
+unfolding answered
+answered-when-done memory file after changed size stored verdict lawful does = rw lawful does
 
 refusal-is-some : (why : Refusal) → eqb (refusalNumber why) 0 ≡ false
 refusal-is-some MemorySize = refl
@@ -86,9 +85,19 @@ refusal-is-some BothFills = refl
 refusal-is-some FillUpward = refl
 refusal-is-some LeavesMemory = refl
 
-pub blit-when-refused : (memory file : List ℕ) (size : ℕ) (why : Refusal)
-    → (verdict : Verdict) → verdict ≡ verdicts.Refused why → verdictNumber verdict ≡ refusal (length memory) file size
-    → left (Refused why) memory file ≡ blit memory file size
-unfolding blit refused
-blit-when-refused memory file size why verdict against number =
-    let some = rw against at number in rw (← some, refusal-is-some why)
+pub answered-when-refused : (memory file : List ℕ) (size : ℕ) (why : Refusal) (verdict : Verdict)
+    → verdict ≡ verdicts.Refused why → left (Refused why) memory file ≡ answered (verdictNumber verdict) memory file size
+unfolding answered refused
+answered-when-refused memory file size why verdict against = rw (against, refusal-is-some why)
+
+pub blit-of-answer : (memory file after changed : List ℕ) (size number : ℕ) (answer : Answer)
+    → number ≡ refusal (length memory) file size → left answer after changed ≡ answered number memory file size
+    → left answer after changed ≡ blit memory file size
+unfolding blit
+blit-of-answer memory file after changed size number answer same does = rw (← same) does
+
+pub blitStep-of-answer : (memory file after changed : List ℕ) (size number : ℕ) (answer : Answer)
+    → number ≡ stepRefusal (length memory) file size → left answer after changed ≡ answered number memory file size
+    → left answer after changed ≡ blitStep memory file size
+unfolding blitStep
+blitStep-of-answer memory file after changed size number answer same does = rw (← same) does

@@ -22,7 +22,7 @@ use Rattle.area.specs.declared.types.Pointers.{Pointers}
 use Rattle.area.specs.Setup.{con1, line, setup}
 use Rattle.area.specs.Flow.{pointerAt, pointers}
 use Rattle.blit.specs.Touch.{channelLeaves}
-use Rattle.blit.specs.Refusal.{memorySize, noWords, bothFills, fillUpward, leavesMemory, blitRules, refusal}
+use Rattle.blit.specs.Refusal.{memorySize, noWords, bothFills, fillUpward, leavesMemory, stepRefusal, refusal}
 
 -- the far end tested the other way round
 pub memorySize-is-beyond : (n : ℕ) → (eqb n 0 || ltb pointerEnd n) ≡ memorySize n
@@ -41,22 +41,6 @@ pub words-fit : (size rows words : ℕ) → rows ≡ height size → words ≡ w
 words-fit size rows words tall wide =
     let most : height size * width size ≤ 1024 * 64 = mul-le-mul (height-le size) (width-le size) in
     rw (tall, wide) (record { fits = omega arith })
-
-true-is-not-false : (first : Bool) → (first || true) ≡ false → ⊥
-true-is-not-false true wrong = let z : _≡_ {A = ℕ} 0 1 = cc in omega arith
-true-is-not-false false wrong = let z : _≡_ {A = ℕ} 0 1 = cc in omega arith
-
-pub memorySize-le : (n : ℕ) (bad : Bool) → bad ≡ memorySize n → bad ≡ false → n ≤ pointerEnd
-memorySize-le n bad same fine = by-order (decLt pointerEnd n)
-  where
-    by-order : Dec (pointerEnd < n) → n ≤ pointerEnd
-    by-order (yes far) =
-        let test : (eqb n 0 || true) ≡ false = ap (λ (beyond : Bool). eqb n 0 || beyond) (sym (lt-ltb pointerEnd n far)) ∙ memorySize-is-beyond n ∙ sym same ∙ fine in
-        absurd (true-is-not-false (eqb n 0) test)
-    by-order (no near) = omega arith
-
-pub memorySize-fits : (n : ℕ) (bad : Bool) → bad ≡ memorySize n → bad ≡ false → Fits w32 n
-memorySize-fits n bad same fine = record { fits = omega (arith, memorySize-le n bad same fine) }
 
 pub width-is-some : (size words : ℕ) → words ≡ width size → 1 ≤ words
 width-is-some size words wide = rw wide (width-positive size)
@@ -105,35 +89,35 @@ module _ (n : ℕ) (set : Setup) (at : Pointers) (size wide tall : ℕ) (width-i
 
 -- the rules of a blit, one after the other
 module _ (n size : ℕ) (file : List ℕ) (none : Bool) (of-none : none ≡ noWords size) where
-  pub refused-by-size : none ≡ true → 13 ≡ given (blitRules n file size)
-  unfolding given
+  pub refused-by-size : none ≡ true → 13 ≡ stepRefusal n file size
+  unfolding stepRefusal given
   refused-by-size holds = rw (← of-none, holds)
 
   module _ (some : none ≡ false) (control : ℕ) (reads : control ≡ con1 file) where
-    pub refused-by-line : control / 1 % 2 ≡ 1 → 7 ≡ given (blitRules n file size)
-    unfolding given
+    pub refused-by-line : control / 1 % 2 ≡ 1 → 7 ≡ stepRefusal n file size
+    unfolding stepRefusal given
     refused-by-line holds = rw (← of-none, some, ← reads, eq-eqb (control / 1 % 2) 1 holds)
 
     module _ (area : control / 1 % 2 ≡ 1 → ⊥) (both : Bool) (of-both : both ≡ bothFills control) where
-      pub refused-by-both-fills : both ≡ true → 8 ≡ given (blitRules n file size)
-      unfolding given
+      pub refused-by-both-fills : both ≡ true → 8 ≡ stepRefusal n file size
+      unfolding stepRefusal given
       refused-by-both-fills holds = rw (← of-none, some, ← reads, ne-eqb (control / 1 % 2) 1 area, ← of-both, holds)
 
       module _ (one : both ≡ false) (upward : Bool) (of-upward : upward ≡ fillUpward control) where
-        pub refused-by-fill-upward : upward ≡ true → 9 ≡ given (blitRules n file size)
-        unfolding given
+        pub refused-by-fill-upward : upward ≡ true → 9 ≡ stepRefusal n file size
+        unfolding stepRefusal given
         refused-by-fill-upward holds =
             rw (← of-none, some, ← reads, ne-eqb (control / 1 % 2) 1 area, ← of-both, one, ← of-upward, holds)
 
         module _ (downward : upward ≡ false) (set : Setup) (at : Pointers) (outside : Bool)
             (of-set : set ≡ setup file) (of-at : at ≡ pointers file) (of-outside : outside ≡ leavesMemory n set at size) where
-          pub refused-by-leaving : outside ≡ true → 10 ≡ given (blitRules n file size)
-          unfolding given
+          pub refused-by-leaving : outside ≡ true → 10 ≡ stepRefusal n file size
+          unfolding stepRefusal given
           refused-by-leaving holds =
               rw (← of-none, some, ← reads, ne-eqb (control / 1 % 2) 1 area, ← of-both, one, ← of-upward, downward, ← of-set, ← of-at, ← of-outside, holds)
 
-          pub lawful : outside ≡ false → 0 ≡ given (blitRules n file size)
-          unfolding given
+          pub lawful : outside ≡ false → 0 ≡ stepRefusal n file size
+          unfolding stepRefusal given
           lawful holds =
               rw (← of-none, some, ← reads, ne-eqb (control / 1 % 2) 1 area, ← of-both, one, ← of-upward, downward, ← of-set, ← of-at, ← of-outside, holds)
 
@@ -148,6 +132,6 @@ module _ (n size : ℕ) (file : List ℕ) (bad : Bool) (of-bad : bad ≡ memoryS
     unfolding refusal given
     refused-by-file holds = rw (← of-bad, taken, ← of-fine, holds)
 
-    pub refused-by-blit : (number : ℕ) → not fine ≡ false → number ≡ given (blitRules n file size) → number ≡ refusal n file size
-    unfolding refusal given
+    pub refused-by-blit : (number : ℕ) → not fine ≡ false → number ≡ stepRefusal n file size → number ≡ refusal n file size
+    unfolding refusal stepRefusal given
     refused-by-blit number holds rest = rw (← of-bad, taken, ← of-fine, holds) rest

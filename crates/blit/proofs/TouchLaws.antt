@@ -187,26 +187,26 @@ unfolding touches leaves
 touches-done n direction width modulo zero here whole none same = same
 touches-done n direction width modulo (suc left) here whole none same = absurd (omega arith)
 
--- no pointer leaves memory of 262,144 words
-row-stays : (direction : Direction) (width : ℕ) (pointer : Pointer) → pointer .word < pointerEnd
-    → leaves pointerEnd (rowTouches direction width pointer) ≡ false
+-- no pointer leaves memory of 262,144 words or more
+row-stays : (n : ℕ) (direction : Direction) (width : ℕ) (pointer : Pointer) → pointerEnd ≤ n → pointer .word < pointerEnd
+    → leaves n (rowTouches direction width pointer) ≡ false
 unfolding leaves rowTouches
-row-stays direction zero pointer small = refl
-row-stays direction (suc left) pointer small =
-    rw (lt-leb pointerEnd (pointer .word) small) (row-stays direction left (moved direction pointer) (moved-lt direction pointer))
+row-stays n direction zero pointer long small = refl
+row-stays n direction (suc left) pointer long small =
+    rw (lt-leb n (pointer .word) (omega arith)) (row-stays n direction left (moved direction pointer) long (moved-lt direction pointer))
 
 afterRow-lt : (direction : Direction) (width modulo : ℕ) (pointer : Pointer) → afterRow direction width modulo pointer .word < pointerEnd
 unfolding afterRow
 afterRow-lt direction width modulo pointer = passed-lt direction modulo (repeated (λ _. moved direction) width pointer)
 
-pub touches-stay : (direction : Direction) (width modulo rows : ℕ) (pointer : Pointer) → pointer .word < pointerEnd
-    → leaves pointerEnd (touches direction width modulo rows pointer) ≡ false
+pub touches-stay : (n : ℕ) (direction : Direction) (width modulo rows : ℕ) (pointer : Pointer) → pointerEnd ≤ n → pointer .word < pointerEnd
+    → leaves n (touches direction width modulo rows pointer) ≡ false
 unfolding touches leaves
-touches-stay direction width modulo zero pointer small = refl
-touches-stay direction width modulo (suc left) pointer small =
-    leaves-of-append pointerEnd (rowTouches direction width pointer) (touches direction width modulo left (afterRow direction width modulo pointer))
-    ∙ rw (row-stays direction width pointer small)
-    (touches-stay direction width modulo left (afterRow direction width modulo pointer) (afterRow-lt direction width modulo pointer))
+touches-stay n direction width modulo zero pointer long small = refl
+touches-stay n direction width modulo (suc left) pointer long small =
+    leaves-of-append n (rowTouches direction width pointer) (touches direction width modulo left (afterRow direction width modulo pointer))
+    ∙ rw (row-stays n direction width pointer long small)
+    (touches-stay n direction width modulo left (afterRow direction width modulo pointer) long (afterRow-lt direction width modulo pointer))
 
 module _ (n : ℕ) (direction : Direction) (used : Bool) (width modulo rows : ℕ) (pointer : Pointer) where
   pub channelLeaves-when-used : (outside : Bool) → used ≡ true → outside ≡ leaves n (touches direction width modulo rows pointer)
@@ -214,12 +214,10 @@ module _ (n : ℕ) (direction : Direction) (used : Bool) (width modulo rows : �
   unfolding channelLeaves
   channelLeaves-when-used outside uses same = rw uses same
 
-  pub channelLeaves-at-end : n ≤ pointerEnd → pointerEnd ≤ n → pointer .word < pointerEnd
+  pub channelLeaves-at-end : pointerEnd ≤ n → pointer .word < pointerEnd
       → false ≡ channelLeaves n direction used width modulo rows pointer
   unfolding channelLeaves
-  channelLeaves-at-end most least small =
-      let whole : n ≡ pointerEnd = omega arith in
-      rw (whole, touches-stay direction width modulo rows pointer small) (sym (and-false used))
+  channelLeaves-at-end long small = rw (touches-stay n direction width modulo rows pointer long small) (sym (and-false used))
 
   pub channelLeaves-when-unused : used ≡ false → false ≡ channelLeaves n direction used width modulo rows pointer
   unfolding channelLeaves

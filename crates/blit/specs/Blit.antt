@@ -17,7 +17,7 @@ use Rattle.blit.specs.declared.types.Answer.the-variants.{Done, Refused}
 use Rattle.area.specs.Setup.{setup}
 use Rattle.area.specs.Flow.{State, state, start}
 use Rattle.area.specs.Rows.{rows}
-use Rattle.blit.specs.Refusal.{refusal, refusalNumber}
+use Rattle.blit.specs.Refusal.{stepRefusal, refusal, refusalNumber}
 
 -- what a blit gives and leaves
 pub record Outcome : Type 0 where
@@ -73,11 +73,18 @@ done file end =
 unfoldable pub refused : (number : ℕ) → (memory file : List ℕ) → Outcome
 refused number memory file = record { number = number; stored = 0; memory = memory; file = file }
 
+-- a blit with the number of its refusal; 0 where it is done
+unfoldable pub answered : (number : ℕ) → (memory file : List ℕ) → (size : ℕ) → Outcome
+answered number memory file size =
+    if eqb number 0 then done file (finished memory file size) else
+    refused number memory file
+
+-- the blit of a job's step, and the blit called alone
+unfoldable pub blitStep : (memory file : List ℕ) → (size : ℕ) → Outcome
+blitStep memory file size = answered (stepRefusal (length memory) file size) memory file size
+
 unfoldable pub blit : (memory file : List ℕ) → (size : ℕ) → Outcome
-blit memory file size =
-    if eqb (refusal (length memory) file size) 0
-    then done file (finished memory file size)
-    else refused (refusal (length memory) file size) memory file
+blit memory file size = answered (refusal (length memory) file size) memory file size
 
 -- the paper's number and count for each case of the answer
 abbrev pub answerNumber : Answer → ℕ

@@ -42,7 +42,7 @@ leavesMemory n set at size =
     || channelLeaves n (set .direction) (set .uses .c) (width size) (set .modulos .c) (height size) (at .c)
     || channelLeaves n (set .direction) (set .uses .d) (width size) (set .modulos .d) (height size) (at .d)
 
--- the rules of a blit on a memory and a file that are taken
+-- the rules of a job's blit, for which memory and file have been taken: "13, 7, 8, 9, 10"
 abbrev pub blitRules : (n : ℕ) → (file : List ℕ) → (size : ℕ) → List Rule
 blitRules n file size =
     13 when noWords size
@@ -58,7 +58,10 @@ refusals n file size =
     ∷ 2 when not (accepted file)
     ∷ blitRules n file size
 
--- the number of the refusal; 0 where none applies
+-- the number of the refusal, of a job's blit and of the blit called alone; 0 where none applies
+unfoldable pub stepRefusal : (n : ℕ) → (file : List ℕ) → (size : ℕ) → ℕ
+stepRefusal n file size = given (blitRules n file size)
+
 unfoldable pub refusal : (n : ℕ) → (file : List ℕ) → (size : ℕ) → ℕ
 refusal n file size = given (refusals n file size)
 

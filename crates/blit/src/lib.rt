@@ -6,8 +6,8 @@ mod touch;
 pub mod types;
 
 ghost use mathlib.Core.Path.{_≡_};
-ghost use Rattle.blit.specs.Refusal.{refusal, verdictNumber};
-ghost use Rattle.blit.specs.Blit.{blit, left};
+ghost use Rattle.blit.specs.Refusal.{stepRefusal, refusal, verdictNumber};
+ghost use Rattle.blit.specs.Blit.{blitStep, blit, left};
 use crate::types::Answer;
 use crate::types::Verdict;
 
@@ -18,6 +18,13 @@ pub fn refusal(n: usize, file: &[u16], size: u16) -> Verdict
     crate::refuse::refusal(n, file, size)
 }
 
+// The refusal of a job's blit, whose memory and file have been taken.
+pub fn step_refusal(n: usize, file: &[u16], size: u16) -> Verdict
+    ensures { λ verdict. ⌜ verdictNumber verdict ≡ stepRefusal n (now (file .entry)) size ⌝ }
+{
+    crate::refuse::step_refusal(n, file, size)
+}
+
 // Does a blit. A refused one changes nothing.
 pub fn blit(ram: &mut [u16], file: &mut [u16], size: u16) -> Answer
     ensures { λ answer. ⌜
@@ -25,11 +32,15 @@ pub fn blit(ram: &mut [u16], file: &mut [u16], size: u16) -> Answer
         ≡ blit (now (ram .entry)) (now (file .entry)) size ⌝ }
 {
     let verdict = crate::refuse::refusal(ram.len(), file, size);
-    match verdict {
-        Verdict::Refused(why) => Answer::Refused(why),
-        Verdict::Lawful => {
-            let stored = crate::done::done(ram, file, size);
-            Answer::Done(stored)
-        }
-    }
+    crate::done::answered(ram, file, size, verdict)
+}
+
+// Does the blit of a job's step, whose memory and file have been taken. A refused one changes nothing.
+pub fn blit_step(ram: &mut [u16], file: &mut [u16], size: u16) -> Answer
+    ensures { λ answer. ⌜
+        left answer (now (ram .exit)) (now (file .exit))
+        ≡ blitStep (now (ram .entry)) (now (file .entry)) size ⌝ }
+{
+    let verdict = crate::refuse::step_refusal(ram.len(), file, size);
+    crate::done::answered(ram, file, size, verdict)
 }

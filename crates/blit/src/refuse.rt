@@ -1,12 +1,11 @@
 // The refusals of a blit, in the order of the paper.
 ghost use mathlib.Core.Path.{_≡_};
-ghost use Prim.Native.Nat.{_<_, _≤_};
-ghost use Rattle.word.specs.Choice.{given};
-ghost use Rattle.blit.specs.Refusal.{memorySize, noWords, bothFills, fillUpward, leavesMemory, blitRules, refusal, verdictNumber};
-use area::types::Pointers;
+ghost use Prim.Native.Nat.{_<_};
+ghost use Rattle.blit.specs.Refusal.{memorySize, noWords, bothFills, fillUpward, leavesMemory, stepRefusal, refusal, verdictNumber};
 use crate::types::Refusal;
-use area::types::Setup;
 use crate::types::Verdict;
+use area::types::Pointers;
+use area::types::Setup;
 
 fn memory_size(n: usize) -> bool
     ensures { λ bad. ⌜ bad ≡ memorySize n ⌝ }
@@ -34,8 +33,8 @@ fn fill_upward(con1: u16) -> bool
     ((con1 / 16 % 2 == 1) | (con1 / 8 % 2 == 1)) & !(con1 / 2 % 2 == 1)
 }
 
-fn leaves_memory(n: u32, setup: Setup, pointers: Pointers, size: u16) -> bool
-    requires { ⌜ (n ≤ 262144) × (pointers .a .word < 262144) × (pointers .b .word < 262144) × (pointers .c .word < 262144) × (pointers .d .word < 262144) ⌝ }
+fn leaves_memory(n: usize, setup: Setup, pointers: Pointers, size: u16) -> bool
+    requires { ⌜ (pointers .a .word < 262144) × (pointers .b .word < 262144) × (pointers .c .word < 262144) × (pointers .d .word < 262144) ⌝ }
     ensures { λ outside. ⌜ outside ≡ leavesMemory n setup pointers size ⌝ }
 {
     let uses = setup.uses;
@@ -59,10 +58,9 @@ fn leaves_memory(n: u32, setup: Setup, pointers: Pointers, size: u16) -> bool
     crate::touch::channel_leaves(n, direction, uses.d, width, modulos.d, height, d)
 }
 
-// The refusal of a blit on a memory and a file that are taken.
-fn blit_refusal(n: u32, file: &[u16], size: u16) -> Verdict
-    requires { ⌜ n ≤ 262144 ⌝ }
-    ensures { λ verdict. ⌜ verdictNumber verdict ≡ given (blitRules n (now (file .entry)) size) ⌝ }
+// The refusal of a job's blit, whose memory and file have been taken.
+pub fn step_refusal(n: usize, file: &[u16], size: u16) -> Verdict
+    ensures { λ verdict. ⌜ verdictNumber verdict ≡ stepRefusal n (now (file .entry)) size ⌝ }
 {
     if no_words(size) {
         return Verdict::Refused(Refusal::NoWords);
@@ -94,5 +92,5 @@ pub fn refusal(n: usize, file: &[u16], size: u16) -> Verdict
     if !file::accepted(file) {
         return Verdict::Refused(Refusal::RegisterFile);
     }
-    blit_refusal(n as u32, file, size)
+    step_refusal(n, file, size)
 }

@@ -54,7 +54,7 @@ fn rows_leave(
 
 // Memory that a pointer can't leave is found inside at once.
 pub fn channel_leaves(
-    n: u32,
+    n: usize,
     direction: Direction,
     used: bool,
     width: u32,
@@ -62,12 +62,12 @@ pub fn channel_leaves(
     rows: u32,
     pointer: Pointer,
 ) -> bool
-    requires { ⌜ (n ≤ 262144) × (pointer .word < 262144) × (1 ≤ width) × (width ≤ 64) ⌝ }
+    requires { ⌜ (pointer .word < 262144) × (1 ≤ width) × (width ≤ 64) ⌝ }
     ensures { λ outside. ⌜ outside ≡ channelLeaves n direction used width modulo rows pointer ⌝ }
 {
     if used {
         if n < 262144 {
-            return rows_leave(n, direction, width, modulo, rows, pointer);
+            return rows_leave(n as u32, direction, width, modulo, rows, pointer);
         }
         return false;
     }

@@ -1,5 +1,5 @@
 -- `blit::refuse::refusal` meets its contract: memory and file are tried first, then the rules of the blit.
-use Rattle.blit.proofs.RefusalLaws.{memorySize-le, memorySize-fits, refused-by-memory, refused-by-file, refused-by-blit}
+use Rattle.blit.proofs.RefusalLaws.{refused-by-memory, refused-by-file, refused-by-blit}
 use borrow.Author.Needs.{needs}
 use Rattle.blit.proofs.refuse.refusal.Statement.{statement}
 use Rattle.blit.proofs.refuse.refusal.Tie as tie
@@ -16,11 +16,8 @@ accepted-requires c κs = search needs
 returns-2 : tie.Need-returns-2
 returns-2 c = search refused-by-file
 
-cast-blit-refusal : tie.Need-cast-blit-refusal
-cast-blit-refusal c = search memorySize-fits
-
-blit-refusal-requires : tie.Need-blit-refusal-requires
-blit-refusal-requires c κs = search memorySize-le
+step-refusal-requires : tie.Need-step-refusal-requires
+step-refusal-requires c κs = search needs
 
 returns-3 : tie.Need-returns-3
 returns-3 c = search refused-by-blit
@@ -33,6 +30,5 @@ refusal-spec =
     returns
     accepted-requires
     returns-2
-    cast-blit-refusal
-    blit-refusal-requires
+    step-refusal-requires
     returns-3)

@@ -4,6 +4,9 @@ use borrow.Author.Needs.{needs}
 use Rattle.blit.proofs.touch.channel_leaves.Statement.{statement}
 use Rattle.blit.proofs.touch.channel_leaves.Tie as tie
 
+cast-rows-leave : tie.Need-cast-rows-leave
+cast-rows-leave c = search needs
+
 rows-leave-requires : tie.Need-rows-leave-requires
 rows-leave-requires c κs = search needs
 
@@ -17,4 +20,5 @@ returns-3 : tie.Need-returns-3
 returns-3 c = search channelLeaves-when-unused
 
 pub channel-leaves-spec : {M : Type 1} → statement M
-channel-leaves-spec = tie.close (tie.spec rows-leave-requires returns returns-2 returns-3)
+channel-leaves-spec =
+    tie.close (tie.spec cast-rows-leave rows-leave-requires returns returns-2 returns-3)

@@ -1,8 +1,8 @@
--- `blit::refuse::blit_refusal` meets its contract: each test is a rule of the list, in the list's order.
+-- `blit::refuse::step_refusal` meets its contract: each test is a rule of the list, in the list's order.
 use Rattle.blit.proofs.RefusalLaws.{pointers-lt-a, pointers-lt-b, pointers-lt-c, pointers-lt-d, refused-by-size, refused-by-line, refused-by-both-fills, refused-by-fill-upward, refused-by-leaving, lawful}
 use borrow.Author.Needs.{needs}
-use Rattle.blit.proofs.refuse.blit_refusal.Statement.{statement}
-use Rattle.blit.proofs.refuse.blit_refusal.Tie as tie
+use Rattle.blit.proofs.refuse.step_refusal.Statement.{statement}
+use Rattle.blit.proofs.refuse.step_refusal.Tie as tie
 
 no-words-requires : tie.Need-no-words-requires
 no-words-requires c κs = search needs
@@ -43,8 +43,8 @@ returns-5 c = search refused-by-leaving
 returns-6 : tie.Need-returns-6
 returns-6 c = search lawful
 
-pub blit-refusal-spec : {M : Type 1} → statement M
-blit-refusal-spec =
+pub step-refusal-spec : {M : Type 1} → statement M
+step-refusal-spec =
     tie.close
     (tie.spec
     no-words-requires

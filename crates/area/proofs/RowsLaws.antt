@@ -5,8 +5,9 @@ use mathlib.Core.Bool.{Bool, true, false}
 use mathlib.Core.List.{List}
 use native.Mathlib.Omega.{arith}
 use lib.Dec.{eqb}
+use lib.ListN.{length}
 use Rattle.word.specs.Repeat.{repeated}
-use Rattle.word.proofs.RepeatLaws.{repeated-turn}
+use Rattle.word.proofs.RepeatLaws.{repeated-turn, repeated-keeps}
 use Rattle.area.specs.declared.types.Uses.{Uses}
 use Rattle.area.specs.declared.types.Setup.{Setup}
 use Rattle.area.specs.declared.types.Flow.{Flow}
@@ -17,7 +18,7 @@ use Rattle.area.specs.Finish.{finish}
 use Rattle.area.specs.Store.{store}
 use Rattle.area.specs.Move.{moveOn, rowEnd}
 use Rattle.area.specs.Rows.{finishedWord, storedWord, oneWord, words, rowStart, oneRow, rows}
-use Rattle.area.proofs.StoreLaws.{store-counts}
+use Rattle.area.proofs.StoreLaws.{store-counts, store-keeps-length}
 
 -- the count of a finished word is that before it
 pub finished-room : (setup : Setup) (uses : Uses) (first last : Bool) (memory : List ℕ) (flow fetched : Flow) (made : Finished)
@@ -87,3 +88,30 @@ pub rows-turn : (setup : Setup) (width left : ℕ) (memory after : List ℕ) (fl
     → rows setup width (left - 1) (state after next) ≡ rows setup width left (state memory flow)
 rows-turn setup width left memory after flow next more row =
     repeated-turn (λ _. oneRow setup width) left (state memory flow) (state after next) _ more row refl
+
+-- all rows store at most 64 words each
+pub rows-count : (setup : Setup) (width left : ℕ) (now : State) → width ≤ 64
+    → rows setup width left now .flow .stored ≤ now .flow .stored + left * 64
+unfolding repeated
+rows-count setup width zero now narrow = omega arith
+rows-count setup width (suc left) now narrow =
+    omega (arith, rows-count setup width left (oneRow setup width now) narrow, oneRow-counts setup width now)
+
+-- memory keeps its length
+pub oneWord-keeps-length : (setup : Setup) (width left : ℕ) (now : State)
+    → length (oneWord setup width left now .memory) ≡ length (now .memory)
+unfolding oneWord storedWord
+oneWord-keeps-length setup width left now =
+    store-keeps-length (setup .uses .d) (finishedWord setup width left now .word)
+    (state (now .memory) (finishedWord setup width left now .flow))
+
+pub oneRow-keeps-length : (setup : Setup) (width : ℕ) (now : State)
+    → length (oneRow setup width now .memory) ≡ length (now .memory)
+unfolding oneRow rowStart
+oneRow-keeps-length setup width now =
+    repeated-keeps (oneWord setup width) (λ (end : State). length (end .memory)) (oneWord-keeps-length setup width) width (rowStart setup now)
+
+pub rows-keep-length : (setup : Setup) (width left : ℕ) (now : State)
+    → length (rows setup width left now .memory) ≡ length (now .memory)
+rows-keep-length setup width left now =
+    repeated-keeps (λ _. oneRow setup width) (λ (end : State). length (end .memory)) (λ _. oneRow-keeps-length setup width) left now

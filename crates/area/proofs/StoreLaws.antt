@@ -20,3 +20,8 @@ pub store-counts : (used : Bool) (word : ℕ) (now : State) → store used word 
 unfolding store
 store-counts true word now = omega arith
 store-counts false word now = omega arith
+
+pub store-keeps-length : (used : Bool) (word : ℕ) (now : State) → length (store used word now .memory) ≡ length (now .memory)
+unfolding store
+store-keeps-length true word now = length-set (now .memory) (now .flow .pointers .d .word) word
+store-keeps-length false word now = refl

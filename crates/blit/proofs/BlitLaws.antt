@@ -5,12 +5,12 @@ use mathlib.Core.Bool.{Bool, true, false}
 use mathlib.Core.List.{List}
 use native.Mathlib.Omega.{arith}
 use lib.Dec.{eqb}
-use lib.ListN.{length, set}
+use lib.ListN.{length, set, length-set}
 use Rattle.word.specs.declared.types.Pointer.{Pointer}
 use Rattle.word.specs.Choice.{if_then_else_}
 use Rattle.word.specs.Pointer.{high, low}
 use Rattle.word.specs.Size.{height, width}
-use Rattle.word.proofs.SizeLaws.{height-le}
+use Rattle.word.proofs.SizeLaws.{height-le, width-le}
 use Rattle.file.specs.File.{flag}
 use Rattle.area.specs.declared.types.Setup.{Setup}
 use Rattle.area.specs.declared.types.Flow.{Flow}
@@ -23,8 +23,9 @@ use Rattle.blit.specs.declared.types.Answer.the-variants.{Done, Refused}
 use Rattle.area.specs.Setup.{shifts, setup}
 use Rattle.area.specs.Flow.{State, state, start}
 use Rattle.area.specs.Rows.{rows}
+use Rattle.area.proofs.RowsLaws.{rows-count, rows-keep-length}
 use Rattle.blit.specs.Refusal.{stepRefusal, refusal, refusalNumber, verdictNumber}
-use Rattle.blit.specs.Blit.{Outcome, putPointer, putPointers, putSources, putFlag, finished, done, refused, answered, blitStep, blit, left}
+use Rattle.blit.specs.Blit.{Outcome, putPointer, putPointers, putSource, putSources, putFlag, finished, done, refused, answered, blitStep, blit, left}
 
 pub putPointer-when-used : (used : Bool) (place up down : ℕ) (pointer : Pointer) (file one two : List ℕ)
     → used ≡ true → up ≡ high pointer → one ≡ set file place up → down ≡ low pointer → two ≡ set one (place + 1) down
@@ -101,3 +102,62 @@ pub blitStep-of-answer : (memory file after changed : List ℕ) (size number : �
     → left answer after changed ≡ blitStep memory file size
 unfolding blitStep
 blitStep-of-answer memory file after changed size number answer same does = rw (← same) does
+
+-- what a blit keeps: the lengths of memory and file
+putPointer-keeps-length : (used : Bool) (place : ℕ) (pointer : Pointer) (file : List ℕ) → length (putPointer used place pointer file) ≡ length file
+unfolding putPointer
+putPointer-keeps-length true place pointer file = simp length-set
+putPointer-keeps-length false place pointer file = refl
+
+putSource-keeps-length : (used : Bool) (place word : ℕ) (file : List ℕ) → length (putSource used place word file) ≡ length file
+unfolding putSource
+putSource-keeps-length true place word file = simp length-set
+putSource-keeps-length false place word file = refl
+
+pub done-keeps-length : (file : List ℕ) (end : State) → length (done file end .file) ≡ length file
+unfolding done putFlag putSources putPointers
+done-keeps-length file end = simp (length-set, putSource-keeps-length, putPointer-keeps-length)
+
+pub answered-keeps-memory-length : (number : ℕ) (memory file : List ℕ) (size : ℕ)
+    → length (answered number memory file size .memory) ≡ length memory
+unfolding answered done refused finished
+answered-keeps-memory-length number memory file size = by-number (eqb number 0)
+  where
+    by-number : (none : Bool)
+        → length ((if none then done file (finished memory file size) else refused number memory file) .memory) ≡ length memory
+    by-number true = rows-keep-length (setup file) (width size) (height size) (state memory (start file))
+    by-number false = refl
+
+pub answered-keeps-file-length : (number : ℕ) (memory file : List ℕ) (size : ℕ)
+    → length (answered number memory file size .file) ≡ length file
+unfolding answered refused
+answered-keeps-file-length number memory file size = by-number (eqb number 0)
+  where
+    by-number : (none : Bool)
+        → length ((if none then done file (finished memory file size) else refused number memory file) .file) ≡ length file
+    by-number true = done-keeps-length file (finished memory file size)
+    by-number false = refl
+
+-- a blit stores at most 1,024 rows of 64 words
+pub answered-counts : (number : ℕ) (memory file : List ℕ) (size : ℕ) → answered number memory file size .stored ≤ 65536
+unfolding answered done refused finished start
+answered-counts number memory file size = by-number (eqb number 0)
+  where
+    by-number : (none : Bool)
+        → (if none then done file (finished memory file size) else refused number memory file) .stored ≤ 65536
+    by-number true =
+        omega (arith, rows-count (setup file) (width size) (height size) (state memory (start file)) (width-le size), height-le size)
+    by-number false = omega arith
+
+-- the same of a job's blit
+pub blitStep-keeps-memory-length : (memory file : List ℕ) (size : ℕ) → length (blitStep memory file size .memory) ≡ length memory
+unfolding blitStep
+blitStep-keeps-memory-length memory file size = answered-keeps-memory-length (stepRefusal (length memory) file size) memory file size
+
+pub blitStep-keeps-file-length : (memory file : List ℕ) (size : ℕ) → length (blitStep memory file size .file) ≡ length file
+unfolding blitStep
+blitStep-keeps-file-length memory file size = answered-keeps-file-length (stepRefusal (length memory) file size) memory file size
+
+pub blitStep-counts : (memory file : List ℕ) (size : ℕ) → blitStep memory file size .stored ≤ 65536
+unfolding blitStep
+blitStep-counts memory file size = answered-counts (stepRefusal (length memory) file size) memory file size

@@ -1,3 +1,5 @@
 -- The laws of the definitions in specs/, a file for each.
 pub mod StoreLaws
 pub mod RowsLaws
+pub mod ChannelLaws
+pub mod CopyLaws

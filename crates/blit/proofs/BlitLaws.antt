@@ -77,7 +77,7 @@ pub answered-when-done : (memory file after changed : List ℕ) (size stored : �
 unfolding answered
 answered-when-done memory file after changed size stored verdict lawful does = rw lawful does
 
-refusal-is-some : (why : Refusal) → eqb (refusalNumber why) 0 ≡ false
+pub refusal-is-some : (why : Refusal) → eqb (refusalNumber why) 0 ≡ false
 refusal-is-some MemorySize = refl
 refusal-is-some RegisterFile = refl
 refusal-is-some NoWords = refl

@@ -2,3 +2,8 @@
 pub mod TouchLaws
 pub mod RefusalLaws
 pub mod BlitLaws
+pub mod OnlyDChanges
+pub mod OneAnswer
+pub mod UnusedStay
+pub mod ThirteenIsNeverGiven
+pub mod CopyOfOneRow

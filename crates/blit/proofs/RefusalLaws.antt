@@ -12,7 +12,7 @@ use borrow.Author.Tests.{lt-ltb, le-ltb, le-leb, lt-leb, eq-eqb, ne-eqb}
 use lib.Dec.{eqb, leb, ltb, lit<}
 use lib.ListN.{getD}
 use Rattle.word.specs.declared.types.Pointer.{Pointer}
-use Rattle.word.specs.Choice.{Rule, _when_, given}
+use Rattle.word.specs.Choice.{if_then_else_, Rule, _when_, given}
 use Rattle.word.specs.Pointer.{pointerEnd, pointer}
 use Rattle.word.specs.Size.{height, width}
 use Rattle.word.proofs.SizeLaws.{height-le, width-le, width-positive}
@@ -135,3 +135,38 @@ module _ (n size : ℕ) (file : List ℕ) (bad : Bool) (of-bad : bad ≡ memoryS
     pub refused-by-blit : (number : ℕ) → not fine ≡ false → number ≡ stepRefusal n file size → number ≡ refusal n file size
     unfolding refusal stepRefusal given
     refused-by-blit number holds rest = rw (← of-bad, taken, ← of-fine, holds) rest
+
+-- the numbers by their tests alone
+abbrev pub numbered : (memory file none line both upward leaving : Bool) → ℕ
+numbered memory file none line both upward leaving =
+    if memory then 1 else
+    if file then 2 else
+    if none then 13 else
+    if line then 7 else
+    if both then 8 else
+    if upward then 9 else
+    if leaving then 10 else
+    0
+
+pub refusal-is-numbered : (n : ℕ) (file : List ℕ) (size : ℕ)
+    → refusal n file size
+    ≡ numbered (memorySize n) (not (accepted file)) (noWords size) (line (con1 file)) (bothFills (con1 file)) (fillUpward (con1 file))
+    (leavesMemory n (setup file) (pointers file) size)
+unfolding refusal given
+refusal-is-numbered n file size = refl
+
+numbered-of-none : (memory file none line both upward leaving : Bool) → numbered memory file none line both upward leaving ≡ 0 → leaving ≡ false
+numbered-of-none true file none line both upward leaving lawful = absurd (omega arith)
+numbered-of-none false true none line both upward leaving lawful = absurd (omega arith)
+numbered-of-none false false true line both upward leaving lawful = absurd (omega arith)
+numbered-of-none false false false true both upward leaving lawful = absurd (omega arith)
+numbered-of-none false false false false true upward leaving lawful = absurd (omega arith)
+numbered-of-none false false false false false true leaving lawful = absurd (omega arith)
+numbered-of-none false false false false false false true lawful = absurd (omega arith)
+numbered-of-none false false false false false false false lawful = refl
+
+-- a blit that nothing refuses doesn't leave memory
+pub refusal-of-none : (n : ℕ) (file : List ℕ) (size : ℕ) → refusal n file size ≡ 0 → leavesMemory n (setup file) (pointers file) size ≡ false
+refusal-of-none n file size lawful =
+    numbered-of-none (memorySize n) (not (accepted file)) (noWords size) (line (con1 file)) (bothFills (con1 file)) (fillUpward (con1 file))
+    (leavesMemory n (setup file) (pointers file) size) (sym (refusal-is-numbered n file size) ∙ lawful)

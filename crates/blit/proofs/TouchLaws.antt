@@ -5,7 +5,7 @@ use native.Mathlib.Nat.{mod-eq-of-lt}
 use native.Mathlib.Numerals.{sub-one}
 use native.Mathlib.Decide.{decLt}
 use native.Mathlib.Omega.{arith}
-use mathlib.Core.Bool.{Bool, true, false, _||_, and-false}
+use mathlib.Core.Bool.{Bool, true, false, _||_, and-false, or-assoc}
 use mathlib.Core.List.{List, [], _∷_, _++_}
 use borrow.Author.Tests.{lt-ltb, le-ltb, le-leb, lt-leb}
 use lib.Dec.{ltb, leb}
@@ -144,16 +144,12 @@ unfolding afterRow
 afterRow-of-moves direction width modulo pointer end next small narrow row turn =
     (turn ∙ ap (passed direction modulo) (row ∙ moves-are-one direction width pointer small (omega arith)), rw turn (passed-lt direction modulo end))
 
-leaves-of-append : (n : ℕ) (first rest : List ℕ) → leaves n (first ++ rest) ≡ (leaves n first || leaves n rest)
+pub leaves-of-append : (n : ℕ) (first rest : List ℕ) → leaves n (first ++ rest) ≡ (leaves n first || leaves n rest)
 unfolding leaves
 leaves-of-append n [] rest = refl
 leaves-of-append n (word ∷ first) rest =
     ap (λ (later : Bool). leb n word || later) (leaves-of-append n first rest)
-    ∙ or-assoc (leb n word) (leaves n first) (leaves n rest)
-  where
-    or-assoc : (a b c : Bool) → (a || (b || c)) ≡ ((a || b) || c)
-    or-assoc true b c = refl
-    or-assoc false b c = refl
+    ∙ sym (or-assoc (leb n word) (leaves n first) (leaves n rest))
 
 -- a row that leaves decides
 pub touches-when-row-leaves : (n : ℕ) (direction : Direction) (width modulo left : ℕ) (here : Pointer) (outside whole : Bool)

@@ -1,4 +1,9 @@
--- What a reader must believe of a whole blit, in the order of paper 01.
+-- What a reader must believe of a whole blit, in the order of paper 01, and what is proved of it.
 pub mod Touch
 pub mod Refusal
 pub mod Blit
+pub mod OnlyDChanges
+pub mod UnusedStay
+pub mod CopyOfOneRow
+pub mod ThirteenIsNeverGiven
+pub mod OneAnswer

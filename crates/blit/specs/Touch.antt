@@ -3,7 +3,7 @@
 use Prim.Native.Nat.{ℕ, zero, suc}
 use mathlib.Core.Bool.{Bool, false, _&&_, _||_}
 use mathlib.Core.List.{List, [], _∷_, _++_}
-use lib.Dec.{leb}
+use lib.Dec.{eqb, leb}
 use Rattle.word.specs.declared.types.Direction.{Direction}
 use Rattle.word.specs.declared.types.Pointer.{Pointer}
 use Rattle.word.specs.Repeat.{repeated}
@@ -28,6 +28,11 @@ touches direction width modulo (suc left) pointer =
 unfoldable pub leaves : (n : ℕ) → List ℕ → Bool
 leaves n [] = false
 leaves n (word ∷ rest) = leb n word || leaves n rest
+
+-- one of the words is this one
+unfoldable pub among : (word : ℕ) → List ℕ → Bool
+among word [] = false
+among word (touched ∷ rest) = eqb touched word || among word rest
 
 -- a used channel leaves memory of n words
 unfoldable pub channelLeaves : (n : ℕ) → Direction → (used : Bool) → (width modulo rows : ℕ) → Pointer → Bool

@@ -2,6 +2,7 @@
 mod done;
 mod refuse;
 mod registers;
+pub mod theorems;
 mod touch;
 pub mod types;
 

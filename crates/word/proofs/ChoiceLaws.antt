@@ -5,7 +5,7 @@ use native.Mathlib.Nat.{not-suc-le-zero}
 use native.Mathlib.Numerals.{sub-one}
 use native.Mathlib.Decide.{decLt}
 use native.Mathlib.Omega.{arith}
-use mathlib.Core.Bool.{Bool, true, false, _&&_}
+use mathlib.Core.Bool.{Bool, true, false, _&&_, _||_}
 use mathlib.Core.List.{List, [], _∷_}
 use lib.Dec.{T}
 use Rattle.word.specs.Choice.{if_then_else_, every, Rule, _when_, given}
@@ -26,6 +26,15 @@ and-left false b both = both
 and-right : (a b : Bool) → T (a && b) → T b
 and-right true b both = both
 and-right false b both = absurd both
+
+-- neither of two tests holds
+pub or-left : (a b : Bool) → (a || b) ≡ false → a ≡ false
+or-left true b neither = neither
+or-left false b neither = refl
+
+pub or-right : (a b : Bool) → (a || b) ≡ false → b ≡ false
+or-right true b neither = let n : _≡_ {A = ℕ} 0 1 = cc in absurd (omega arith)
+or-right false b neither = neither
 
 -- a test that was computed at every number below n holds at each
 pub every-at : (test : ℕ → Bool) (n : ℕ) → T (every test n) → (k : ℕ) → k < n → T (test k)

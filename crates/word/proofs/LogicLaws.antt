@@ -70,3 +70,17 @@ logic-is-tree f a b c ha hb hc =
 pub logic-lt : (function a b c : ℕ) → logic function a b c < 65536
 unfolding logic
 logic-lt function a b c = ofBits-lt (λ i. bit function (4 * bit a i + 2 * bit b i + bit c i)) 16 (λ i. bit-lt function (4 * bit a i + 2 * bit b i + bit c i))
+
+-- function F0 gives A
+f0-of-bits : (a b c : ℕ) → a < 2 → b < 2 → c < 2 → a ≡ bit 0xF0 (4 * a + 2 * b + c)
+f0-of-bits a b c ha hb hc =
+    bit-cases (λ a. a ≡ bit 0xF0 (4 * a + 2 * b + c))
+    (bit-cases (λ b. 0 ≡ bit 0xF0 (0 + 2 * b + c)) (bit-cases (λ c. 0 ≡ bit 0xF0 (0 + c)) refl refl c hc) (bit-cases (λ c. 0 ≡ bit 0xF0 (2 + c)) refl refl c hc) b hb)
+    (bit-cases (λ b. 1 ≡ bit 0xF0 (4 + 2 * b + c)) (bit-cases (λ c. 1 ≡ bit 0xF0 (4 + c)) refl refl c hc) (bit-cases (λ c. 1 ≡ bit 0xF0 (6 + c)) refl refl c hc) b hb)
+    a ha
+
+pub logic-of-f0 : (a b c : ℕ) → a < 2 ^ 16 → logic 0xF0 a b c ≡ a
+unfolding logic
+logic-of-f0 a b c small =
+    sym (ofBits-is-unique (λ i. bit 0xF0 (4 * bit a i + 2 * bit b i + bit c i)) 16 a small
+    (λ i inside. f0-of-bits (bit a i) (bit b i) (bit c i) (bit-lt a i) (bit-lt b i) (bit-lt c i)))

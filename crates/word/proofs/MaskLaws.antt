@@ -1,8 +1,9 @@
 -- Laws of the masks of A.
-use mathlib.Core.Path.{_≡_, refl}
-use Prim.Native.Nat.{ℕ}
+use mathlib.Core.Path.{_≡_, refl, ap, _∙_}
+use Prim.Native.Nat.{ℕ, _<_}
+use native.Mathlib.Nat.{mod-eq-of-lt}
 use mathlib.Core.Bool.{Bool, true, false}
-use lib.Bits.{bitAnd}
+use lib.Bits.{bitAnd, and-mask}
 use Rattle.word.specs.Choice.{if_then_else_}
 use Rattle.word.specs.Mask.{maskedWhen, masked}
 
@@ -18,3 +19,14 @@ pub masked-of-both : (first last : Bool) (afwm alwm word one both : ℕ)
     → one ≡ maskedWhen first afwm word → both ≡ maskedWhen last alwm one → both ≡ masked first last afwm alwm word
 unfolding masked
 masked-of-both first last afwm alwm word one both early late = rw (← early) late
+
+-- masks of all ones keep the word
+maskedWhen-by-ones : (applies : Bool) (word : ℕ) → word < 65536 → maskedWhen applies 0xFFFF word ≡ word
+unfolding maskedWhen
+maskedWhen-by-ones true word small = and-mask word 16 ∙ mod-eq-of-lt small
+maskedWhen-by-ones false word small = refl
+
+pub masked-by-ones : (first last : Bool) (word : ℕ) → word < 65536 → masked first last 0xFFFF 0xFFFF word ≡ word
+unfolding masked
+masked-by-ones first last word small =
+    ap (maskedWhen last 0xFFFF) (maskedWhen-by-ones first word small) ∙ maskedWhen-by-ones last word small

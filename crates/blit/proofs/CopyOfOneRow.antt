@@ -1,0 +1,212 @@
+-- A copy of one row: each word is the one at A's pointer, and no store of the row comes to a word of A that is still to be fetched.
+use mathlib.Core.Path.{_≡_, refl, sym, ap, _∙_}
+use Prim.Native.Nat.{ℕ, zero, suc, _+_, _-_, _%_, _<_, _≤_}
+use native.Mathlib.Nat.{zero-lt-suc, not-suc-le-zero}
+use native.Mathlib.Decide.{decLt}
+use native.Mathlib.Omega.{arith}
+use mathlib.Core.Bool.{Bool, true, false, _&&_, _||_}
+use mathlib.Core.List.{List, [], _∷_, _++_, append-nil}
+use borrow.Author.Tests.{ne-eqb, eqb-true, eqb-false, leb-false}
+use lib.Dec.{eqb, leb}
+use lib.ListN.{length, getD, set, length-set, List·getD-eq-default}
+use lib.Seq.{getD-set-other, getD-set-same, set-out}
+use Rattle.word.specs.declared.types.Direction.{Direction}
+use Rattle.word.specs.declared.types.Direction.the-variants.{Ascending, Descending}
+use Rattle.word.specs.declared.types.Pointer.{Pointer}
+use Rattle.word.specs.declared.types.Fill.the-variants.{Off}
+use Rattle.word.specs.Choice.{if_then_else_}
+use Rattle.word.specs.Repeat.{repeated}
+use Rattle.word.specs.Pointer.{pointerEnd, moved, passed}
+use Rattle.word.specs.Size.{height, width}
+use Rattle.word.proofs.ChoiceLaws.{or-left, or-right}
+use Rattle.word.proofs.SizeLaws.{width-le}
+use Rattle.file.specs.File.{pointerD}
+use Rattle.area.specs.declared.types.Setup.{Setup}
+use Rattle.area.specs.Setup.{con0, con1, uses, shifts, direction, fill, masks, setup}
+use Rattle.area.specs.Flow.{State, state, pointers, start}
+use Rattle.area.specs.Rows.{oneWord, words, rowStart, oneRow, rows}
+use Rattle.area.proofs.ChannelLaws.{oneWord-stores, oneWord-moves-a, oneWord-moves-d}
+use Rattle.area.proofs.CopyLaws.{Copying, finishedWord-copies, oneWord-hands-on}
+use Rattle.area.specs.declared.types.Pointers.{Pointers}
+use Rattle.blit.specs.Touch.{rowTouches, afterRow, touches, among, leaves, channelLeaves}
+use Rattle.blit.specs.Refusal.{refusal, leavesMemory}
+use Rattle.blit.specs.Blit.{finished, done, answered, blit}
+use Rattle.blit.specs.CopyOfOneRow.{plain, Copies, spot, CopyOfOneRow}
+use Rattle.blit.proofs.TouchLaws.{moves-are-one, moved-lt, leaves-of-append}
+use Rattle.blit.proofs.RefusalLaws.{refusal-of-none, pointerAt-lt}
+use Rattle.blit.proofs.OnlyDChanges.{words-change-no-other}
+
+-- a word that is no spot of a row isn't touched by it
+among-of-none : (direction : Direction) (word left : ℕ) (pointer : Pointer) → ((j : ℕ) → j < left → spot direction j pointer ≡ word → ⊥)
+    → among word (rowTouches direction left pointer) ≡ false
+unfolding among rowTouches repeated
+among-of-none direction word zero pointer none = refl
+among-of-none direction word (suc left) pointer none =
+    rw (ne-eqb (pointer .word) word (none 0 (zero-lt-suc left)))
+    (among-of-none direction word left (moved direction pointer) (λ j inside. none (suc j) (omega arith)))
+
+-- a row doesn't come back to its first word
+spot-moves-on : (direction : Direction) (j : ℕ) (pointer : Pointer) → pointer .word < pointerEnd → j < 64
+    → spot direction j (moved direction pointer) ≡ pointer .word → ⊥
+unfolding moved passed
+spot-moves-on Ascending j pointer small few back =
+    let at = ap (λ (p : Pointer). p .word) (moves-are-one Ascending j (moved Ascending pointer) (moved-lt Ascending pointer) (omega arith)) ∙ back in
+    omega arith
+spot-moves-on Descending j pointer small few back =
+    let at = ap (λ (p : Pointer). p .word) (moves-are-one Descending j (moved Descending pointer) (moved-lt Descending pointer) (omega arith)) ∙ back in
+    omega arith
+
+-- what holds of the first word and of those after it
+first-or-later : (left : ℕ) (Holds : ℕ → Type 0) → Holds 0 → ((i : ℕ) → i < left → Holds (suc i)) → (i : ℕ) → i < suc left → Holds i
+first-or-later left Holds first later zero within = first
+first-or-later left Holds first later (suc i) within = later i (omega arith)
+
+-- words stay words under a store of one
+set-keeps-words : (memory : List ℕ) (at word : ℕ) → ((place : ℕ) → getD memory place 0 < 65536) → word < 65536
+    → (place : ℕ) → getD (set memory at word) place 0 < 65536
+set-keeps-words memory at word all small place = by-place (eqb at place) refl (decLt at (length memory))
+  where
+    by-place : (here : Bool) → eqb at place ≡ here → Dec (at < length memory) → getD (set memory at word) place 0 < 65536
+    by-place false apart inside = rw (getD-set-other memory at place word 0 (λ same. eqb-false at place apart (sym same))) (all place)
+    by-place true same (yes inside) = rw (← eqb-true at place same, getD-set-same memory at word 0 inside) small
+    by-place true same (no outside) = rw (set-out memory at word (omega arith)) (all place)
+
+module _ (setup : Setup) (copying : Copying setup) (width : ℕ) where
+  -- a row's words, of which so many are left, are copied
+  row-copies : (left : ℕ) (now : State)
+      → left ≤ 64
+      → ((place : ℕ) → getD (now .memory) place 0 < 65536)
+      → now .flow .earlier .a < 65536
+      → now .flow .pointers .d .word < pointerEnd
+      → ((j : ℕ) → j < left → spot (setup .direction) j (now .flow .pointers .d) < length (now .memory))
+      → ((i j : ℕ) → i < left → j < left → spot (setup .direction) i (now .flow .pointers .a) ≡ spot (setup .direction) j (now .flow .pointers .d) → ⊥)
+      → (i : ℕ) → i < left
+      → getD (words setup width left now .memory) (spot (setup .direction) i (now .flow .pointers .d)) 0
+      ≡ getD (now .memory) (spot (setup .direction) i (now .flow .pointers .a)) 0
+  unfolding repeated
+  row-copies zero now few all before small inside apart i within = absurd (not-suc-le-zero within)
+  row-copies (suc left) now few all before small inside apart i within =
+      let next : State = oneWord setup width left now in
+      let a : Pointer = now .flow .pointers .a in
+      let d : Pointer = now .flow .pointers .d in
+      let word : ℕ = getD (now .memory) (a .word) 0 in
+      let stores : next .memory ≡ set (now .memory) (d .word) word =
+      oneWord-stores setup width left now (copying .d)
+      ∙ ap (set (now .memory) (d .word)) (finishedWord-copies setup copying width left now (all (a .word)) before) in
+      let to-a : next .flow .pointers .a ≡ moved (setup .direction) a = oneWord-moves-a setup width left now (copying .a) in
+      let to-d : next .flow .pointers .d ≡ moved (setup .direction) d = oneWord-moves-d setup width left now (copying .d) in
+      let elsewhere : getD (words setup width left next .memory) (d .word) 0 ≡ getD (next .memory) (d .word) 0 =
+      words-change-no-other setup (copying .d) width (d .word) left next
+      (among-of-none (setup .direction) (d .word) left (next .flow .pointers .d)
+      (λ j short. rw to-d (spot-moves-on (setup .direction) j d small (omega arith)))) in
+      first-or-later left (λ i. getD (words setup width left next .memory) (spot (setup .direction) i d) 0 ≡ getD (now .memory) (spot (setup .direction) i a) 0)
+      (elsewhere
+      ∙ ap (λ (memory : List ℕ). getD memory (d .word) 0) stores
+      ∙ getD-set-same (now .memory) (d .word) word 0 (inside 0 (zero-lt-suc left)))
+      (λ i short.
+      ap (λ (at : Pointer). getD (words setup width left next .memory) (spot (setup .direction) i at) 0) (sym to-d)
+      ∙ row-copies left next (omega arith)
+      (λ place. rw stores (set-keeps-words (now .memory) (d .word) word all (all (a .word)) place))
+      (rw (oneWord-hands-on setup copying width left now (all (a .word)) before) (all (a .word)))
+      (rw to-d (moved-lt (setup .direction) d))
+      (λ j few. rw (to-d, stores, length-set) (inside (suc j) (omega arith)))
+      (λ i j this other. rw (to-a, to-d) (apart (suc i) (suc j) (omega arith) (omega arith)))
+      i short
+      ∙ ap (λ (memory : List ℕ). getD memory (spot (setup .direction) i (next .flow .pointers .a)) 0) stores
+      ∙ ap (λ (at : Pointer). getD (set (now .memory) (d .word) word) (spot (setup .direction) i at) 0) to-a
+      ∙ getD-set-other (now .memory) (d .word) (spot (setup .direction) (suc i) a) word 0 (apart (suc i) 0 (omega arith) (zero-lt-suc left)))
+      i within
+
+-- the words of a row that doesn't leave memory lie inside
+spot-inside : (direction : Direction) (n left : ℕ) (pointer : Pointer) → leaves n (rowTouches direction left pointer) ≡ false
+    → (j : ℕ) → j < left → spot direction j pointer < n
+unfolding leaves rowTouches repeated
+spot-inside direction n zero pointer stays j within = absurd (not-suc-le-zero within)
+spot-inside direction n (suc left) pointer stays j within =
+    let rest : Bool = leaves n (rowTouches direction left (moved direction pointer)) in
+    first-or-later left (λ j. spot direction j pointer < n)
+    (leb-false n (pointer .word) (or-left (leb n (pointer .word)) rest stays))
+    (λ j short. spot-inside direction n left (moved direction pointer) (or-right (leb n (pointer .word)) rest stays) j short)
+    j within
+
+-- D's row lies inside where a blit of one row is lawful
+used-leaves : (used rest : Bool) → used ≡ true → (used && rest) ≡ false → rest ≡ false
+used-leaves used rest uses stays = rw uses at stays
+
+one-row-inside : (direction : Direction) (n wide modulo rows : ℕ) (pointer : Pointer) → rows ≡ 1
+    → leaves n (touches direction wide modulo rows pointer) ≡ false → leaves n (rowTouches direction wide pointer) ≡ false
+unfolding touches
+one-row-inside direction n wide modulo rows pointer one stays =
+    or-left (leaves n (rowTouches direction wide pointer)) (leaves n [])
+    (sym (leaves-of-append n (rowTouches direction wide pointer) []) ∙ rw one at stays)
+
+d-inside : (n size : ℕ) (set : Setup) (at : Pointers) → set .uses .d ≡ true → height size ≡ 1 → leavesMemory n set at size ≡ false
+    → leaves n (rowTouches (set .direction) (width size) (at .d)) ≡ false
+unfolding leavesMemory channelLeaves
+d-inside n size set at uses one stays =
+    one-row-inside (set .direction) n (width size) (set .modulos .d) (height size) (at .d) one
+    (used-leaves (set .uses .d) (leaves n (touches (set .direction) (width size) (set .modulos .d) (height size) (at .d))) uses
+    (or-right
+    (channelLeaves n (set .direction) (set .uses .a) (width size) (set .modulos .a) (height size) (at .a)
+    || channelLeaves n (set .direction) (set .uses .b) (width size) (set .modulos .b) (height size) (at .b)
+    || channelLeaves n (set .direction) (set .uses .c) (width size) (set .modulos .c) (height size) (at .c))
+    (channelLeaves n (set .direction) (set .uses .d) (width size) (set .modulos .d) (height size) (at .d)) stays))
+
+-- a file that copies has a set-up that copies
+setup-direction : (way : Direction) (file : List ℕ) → con1 file ≡ plain way → setup file .direction ≡ way
+unfolding setup direction
+setup-direction Ascending file control = rw control
+setup-direction Descending file control = rw control
+
+setup-fill : (way : Direction) (file : List ℕ) → con1 file ≡ plain way → setup file .fill ≡ Off
+unfolding setup fill
+setup-fill Ascending file control = rw control
+setup-fill Descending file control = rw control
+
+setup-copies : (way : Direction) (file : List ℕ) → Copies way file → Copying (setup file)
+unfolding setup uses shifts masks
+setup-copies way file copies =
+    record {
+      a = rw (copies .control0);
+      d = rw (copies .control0);
+      function = rw (copies .control0);
+      shift = rw (copies .control0);
+      fill = setup-fill way file (copies .control1);
+      first = copies .first;
+      last = copies .last;
+    }
+
+-- the rows of a lawful blit
+blit-of-lawful : (memory file : List ℕ) (size : ℕ) → refusal (length memory) file size ≡ 0
+    → blit memory file size .memory ≡ rows (setup file) (width size) (height size) (state memory (start file)) .memory
+unfolding blit answered done finished
+blit-of-lawful memory file size lawful = rw lawful
+
+one-row-is-words : (set : Setup) (wide tall : ℕ) (now : State) → tall ≡ 1 → rows set wide tall now .memory ≡ words set wide wide (rowStart set now) .memory
+unfolding repeated oneRow
+one-row-is-words set wide tall now one = rw one
+
+-- the theorem over the set-up's own direction
+blit-copies : (memory file : List ℕ) (size : ℕ)
+    → ((at : ℕ) → getD memory at 0 < 65536) → Copying (setup file) → height size ≡ 1 → refusal (length memory) file size ≡ 0
+    → ((i j : ℕ) → i < width size → j < width size
+    → spot (setup file .direction) i (start file .pointers .a) ≡ spot (setup file .direction) j (start file .pointers .d) → ⊥)
+    → (i : ℕ) → i < width size
+    → getD (blit memory file size .memory) (spot (setup file .direction) i (start file .pointers .d)) 0
+    ≡ getD memory (spot (setup file .direction) i (start file .pointers .a)) 0
+unfolding start rowStart pointers
+blit-copies memory file size all copying one lawful apart i within =
+    let begin : State = rowStart (setup file) (state memory (start file)) in
+    ap (λ (after : List ℕ). getD after (spot (setup file .direction) i (start file .pointers .d)) 0)
+    (blit-of-lawful memory file size lawful ∙ one-row-is-words (setup file) (width size) (height size) (state memory (start file)) one)
+    ∙ row-copies (setup file) copying (width size) (width size) begin (width-le size) all (zero-lt-suc 65535) (pointerAt-lt file pointerD)
+    (spot-inside (setup file .direction) (length memory) (width size) (start file .pointers .d)
+    (d-inside (length memory) size (setup file) (pointers file) (copying .d) one (refusal-of-none (length memory) file size lawful)))
+    apart i within
+
+pub copy-of-one-row : CopyOfOneRow
+copy-of-one-row way memory file size all copies one lawful apart i within =
+    let same : setup file .direction ≡ way = setup-direction way file (copies .control1) in
+    rw (← same)
+    (blit-copies memory file size all (setup-copies way file copies) one lawful
+    (λ i j this other. rw same (apart i j this other)) i within)

@@ -1,0 +1,98 @@
+-- A blit changes no word that D doesn't touch: each word stores at D's pointer, which goes where the list of touched words goes.
+use mathlib.Core.Path.{_≡_, refl, sym, ap, _∙_}
+use Prim.Native.Nat.{ℕ, zero, suc}
+use mathlib.Core.Bool.{Bool, true, false, _||_, or-assoc}
+use mathlib.Core.List.{List, [], _∷_, _++_}
+use borrow.Author.Tests.{eqb-false}
+use lib.Dec.{eqb}
+use lib.ListN.{length, getD, set}
+use lib.Seq.{getD-set-other}
+use Rattle.word.specs.declared.types.Direction.{Direction}
+use Rattle.word.specs.declared.types.Pointer.{Pointer}
+use Rattle.word.specs.Choice.{if_then_else_}
+use Rattle.word.specs.Repeat.{repeated}
+use Rattle.word.specs.Pointer.{moved, passed}
+use Rattle.word.specs.Size.{height, width}
+use Rattle.word.proofs.ChoiceLaws.{or-left, or-right}
+use Rattle.area.specs.declared.types.Setup.{Setup}
+use Rattle.area.specs.Setup.{setup}
+use Rattle.area.specs.Flow.{State, state, start}
+use Rattle.area.specs.Rows.{finishedWord, oneWord, words, rowStart, oneRow, rows}
+use Rattle.area.proofs.ChannelLaws.{oneWord-stores, oneWord-moves-d, oneRow-moves-d, rows-without-d}
+use Rattle.blit.specs.Touch.{rowTouches, afterRow, touches, among}
+use Rattle.blit.specs.Refusal.{refusal}
+use Rattle.blit.specs.Blit.{finished, done, refused, answered, blit}
+use Rattle.blit.specs.OnlyDChanges.{touchedByD, OnlyDChanges, WithoutDNothingChanges}
+
+pub among-of-append : (word : ℕ) (first rest : List ℕ) → among word (first ++ rest) ≡ (among word first || among word rest)
+unfolding among
+among-of-append word [] rest = refl
+among-of-append word (touched ∷ first) rest =
+    ap (λ (later : Bool). eqb touched word || later) (among-of-append word first rest)
+    ∙ sym (or-assoc (eqb touched word) (among word first) (among word rest))
+
+module _ (setup : Setup) (uses : setup .uses .d ≡ true) (width word : ℕ) where
+  pub words-change-no-other : (left : ℕ) (now : State) → among word (rowTouches (setup .direction) left (now .flow .pointers .d)) ≡ false
+      → getD (words setup width left now .memory) word 0 ≡ getD (now .memory) word 0
+  unfolding repeated rowTouches among
+  words-change-no-other zero now apart = refl
+  words-change-no-other (suc left) now apart =
+      let next : State = oneWord setup width left now in
+      let at : Pointer = now .flow .pointers .d in
+      let rest : Bool = among word (rowTouches (setup .direction) left (moved (setup .direction) at)) in
+      let here : eqb (at .word) word ≡ false = or-left (eqb (at .word) word) rest apart in
+      let later : among word (rowTouches (setup .direction) left (next .flow .pointers .d)) ≡ false =
+      ap (λ (at : Pointer). among word (rowTouches (setup .direction) left at)) (oneWord-moves-d setup width left now uses)
+      ∙ or-right (eqb (at .word) word) rest apart in
+      words-change-no-other left next later
+      ∙ ap (λ (memory : List ℕ). getD memory word 0) (oneWord-stores setup width left now uses)
+      ∙ getD-set-other (now .memory) (at .word) word (finishedWord setup width left now .word) 0
+      (λ same. eqb-false (at .word) word here (sym same))
+
+  row-changes-no-other : (now : State) → among word (rowTouches (setup .direction) width (now .flow .pointers .d)) ≡ false
+      → getD (oneRow setup width now .memory) word 0 ≡ getD (now .memory) word 0
+  unfolding oneRow rowStart
+  row-changes-no-other now apart = words-change-no-other width (rowStart setup now) apart
+
+  rows-change-no-other : (left : ℕ) (now : State)
+      → among word (touches (setup .direction) width (setup .modulos .d) left (now .flow .pointers .d)) ≡ false
+      → getD (rows setup width left now .memory) word 0 ≡ getD (now .memory) word 0
+  unfolding repeated touches afterRow
+  rows-change-no-other zero now apart = refl
+  rows-change-no-other (suc left) now apart =
+      let next : State = oneRow setup width now in
+      let row : List ℕ = rowTouches (setup .direction) width (now .flow .pointers .d) in
+      let rest : List ℕ = touches (setup .direction) width (setup .modulos .d) left (afterRow (setup .direction) width (setup .modulos .d) (now .flow .pointers .d)) in
+      let parts : (among word row || among word rest) ≡ false = sym (among-of-append word row rest) ∙ apart in
+      let later : among word (touches (setup .direction) width (setup .modulos .d) left (next .flow .pointers .d)) ≡ false =
+      ap (λ (at : Pointer). among word (touches (setup .direction) width (setup .modulos .d) left at)) (oneRow-moves-d setup width now uses)
+      ∙ or-right (among word row) (among word rest) parts in
+      rows-change-no-other left next later ∙ row-changes-no-other now (or-left (among word row) (among word rest) parts)
+
+-- D used or not
+rows-change-no-word : (setup : Setup) (width word left : ℕ) (now : State) (used : Bool) → setup .uses .d ≡ used
+    → among word (touches (setup .direction) width (setup .modulos .d) left (now .flow .pointers .d)) ≡ false
+    → getD (rows setup width left now .memory) word 0 ≡ getD (now .memory) word 0
+rows-change-no-word setup width word left now true uses apart = rows-change-no-other setup uses width word left now apart
+rows-change-no-word setup width word left now false idle apart =
+    ap (λ (memory : List ℕ). getD memory word 0) (rows-without-d setup width left now idle)
+
+pub only-d-changes : OnlyDChanges
+unfolding blit answered done refused finished
+only-d-changes memory file size word apart = by-number (eqb (refusal (length memory) file size) 0)
+  where
+    by-number : (none : Bool)
+        → getD ((if none then done file (finished memory file size) else refused (refusal (length memory) file size) memory file) .memory) word 0
+        ≡ getD memory word 0
+    by-number true =
+        rows-change-no-word (setup file) (width size) word (height size) (state memory (start file)) (setup file .uses .d) refl apart
+    by-number false = refl
+
+pub without-d-nothing-changes : WithoutDNothingChanges
+unfolding blit answered done refused finished
+without-d-nothing-changes memory file size idle = by-number (eqb (refusal (length memory) file size) 0)
+  where
+    by-number : (none : Bool)
+        → (if none then done file (finished memory file size) else refused (refusal (length memory) file size) memory file) .memory ≡ memory
+    by-number true = rows-without-d (setup file) (width size) (height size) (state memory (start file)) idle
+    by-number false = refl

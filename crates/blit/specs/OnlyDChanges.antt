@@ -1,0 +1,28 @@
+-- What a blit leaves alone in memory: every word that D doesn't touch, and all of it where D isn't used.
+use Prim.Native.Nat.{ℕ}
+use mathlib.Core.Path.{_≡_}
+use mathlib.Core.Bool.{true, false}
+use mathlib.Core.List.{List}
+use lib.ListN.{getD}
+use Rattle.word.specs.Size.{height, width}
+use Rattle.area.specs.Setup.{setup}
+use Rattle.area.specs.Flow.{start}
+use Rattle.blit.specs.Touch.{touches, among}
+use Rattle.blit.specs.Blit.{blit}
+
+-- the words that D would touch
+abbrev pub touchedByD : (file : List ℕ) → (size : ℕ) → List ℕ
+touchedByD file size =
+    touches (setup file .direction) (width size) (setup file .modulos .d) (height size) (start file .pointers .d)
+
+abbrev pub OnlyDChanges : Type 0
+OnlyDChanges =
+    (memory file : List ℕ) (size word : ℕ)
+    → among word (touchedByD file size) ≡ false
+    → getD (blit memory file size .memory) word 0 ≡ getD memory word 0
+
+abbrev pub WithoutDNothingChanges : Type 0
+WithoutDNothingChanges =
+    (memory file : List ℕ) (size : ℕ)
+    → setup file .uses .d ≡ false
+    → blit memory file size .memory ≡ memory

@@ -1,0 +1,30 @@
+// What is proved of the blit's definition; each function has its theorem as its contract, and does nothing.
+ghost use Rattle.blit.specs.OnlyDChanges.{OnlyDChanges, WithoutDNothingChanges};
+ghost use Rattle.blit.specs.UnusedStay.{UnusedStay};
+ghost use Rattle.blit.specs.CopyOfOneRow.{CopyOfOneRow};
+ghost use Rattle.blit.specs.ThirteenIsNeverGiven.{ThirteenIsNeverGiven};
+ghost use Rattle.blit.specs.OneAnswer.{OneAnswer};
+
+pub fn only_d_changes()
+    ensures { λ _. ⌜ OnlyDChanges ⌝ }
+{}
+
+pub fn without_d_nothing_changes()
+    ensures { λ _. ⌜ WithoutDNothingChanges ⌝ }
+{}
+
+pub fn unused_stay()
+    ensures { λ _. ⌜ UnusedStay ⌝ }
+{}
+
+pub fn copy_of_one_row()
+    ensures { λ _. ⌜ CopyOfOneRow ⌝ }
+{}
+
+pub fn thirteen_is_never_given()
+    ensures { λ _. ⌜ ThirteenIsNeverGiven ⌝ }
+{}
+
+pub fn one_answer()
+    ensures { λ _. ⌜ OneAnswer ⌝ }
+{}

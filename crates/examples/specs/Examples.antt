@@ -1,0 +1,54 @@
+-- Paper 01, "Examples": one list, computed on the left, as the paper prints it on the right.
+use Prim.Native.Nat.{ℕ}
+use mathlib.Core.Path.{_≡_}
+use mathlib.Core.Bool.{true}
+use mathlib.Core.List.{List, [], _∷_, map}
+use Rattle.word.specs.declared.types.Direction.{Direction}
+use Rattle.word.specs.declared.types.Direction.the-variants.{Ascending, Descending}
+use Rattle.word.specs.Pointer.{up}
+use Rattle.word.specs.Size.{height, width}
+use Rattle.word.specs.Mask.{masked}
+use Rattle.word.specs.Shift.{shifted}
+use Rattle.word.specs.Logic.{logic}
+use Rattle.word.specs.Fill.{exclusive, inclusive}
+
+pub record Example : Type 0 where
+  pub gives : List ℕ
+  pub says : List ℕ
+
+infix 70 _is_
+abbrev pub _is_ : (gives says : List ℕ) → Example
+gives is says = record { gives = gives; says = says }
+
+-- words as they are fetched, each shifted with the one before it; "the earlier word is zero at the blit's start"
+abbrev pub shiftedWords : Direction → (n earlier : ℕ) → (fetched : List ℕ) → List ℕ
+shiftedWords direction n earlier [] = []
+shiftedWords direction n earlier (this ∷ rest) = shifted direction n earlier this ∷ shiftedWords direction n this rest
+
+unfoldable pub examples : List Example
+examples =
+    -- P1: shift 0, words 1234, 5678: unchanged
+    shiftedWords Ascending 0 0 (0x1234 ∷ 0x5678 ∷ []) is (0x1234 ∷ 0x5678 ∷ [])
+    -- P2: ascending shift 4
+    ∷ shiftedWords Ascending 4 0 (0x1234 ∷ 0x5678 ∷ []) is (0x0123 ∷ 0x4567 ∷ [])
+    -- P3: descending shift 4, fetched 5678 then 1234
+    ∷ shiftedWords Descending 4 0 (0x5678 ∷ 0x1234 ∷ []) is (0x6780 ∷ 0x2345 ∷ [])
+    -- P4: function CA, A FF00, B 1234, C 5678
+    ∷ (logic 0xCA 0xFF00 0x1234 0x5678 ∷ []) is (0x1278 ∷ [])
+    -- P5: 2418 inclusive, carry 0
+    ∷ (inclusive 0 0x2418 ∷ []) is (0x3C18 ∷ [])
+    -- P6: exclusive
+    ∷ (exclusive 0 0x2418 ∷ []) is (0x1C08 ∷ [])
+    -- P7: 0000 exclusive, carry 1
+    ∷ (exclusive 1 0x0000 ∷ []) is (0xFFFF ∷ [])
+    -- P8: width one, AFWM 0FF0, ALWM 00FF, A FFFF
+    ∷ (masked true true 0x0FF0 0x00FF 0xFFFF ∷ []) is (0x00F0 ∷ [])
+    -- P9: size 0000: 1,024 by 64
+    ∷ (height 0x0000 ∷ width 0x0000 ∷ []) is (1024 ∷ 64 ∷ [])
+    -- P10: pointer 262,143, up one: 0
+    ∷ (up (record { word = 262143 }) .word ∷ []) is (0 ∷ [])
+    ∷ []
+
+-- every example gives what the paper says
+abbrev pub ExamplesHold : Type 0
+ExamplesHold = map (λ (example : Example). example .gives) examples ≡ map (λ (example : Example). example .says) examples

@@ -1,0 +1,2 @@
+-- The worked examples of paper 01.
+pub mod Examples

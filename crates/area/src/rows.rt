@@ -2,7 +2,7 @@
 ghost use mathlib.Core.Path.{_≡_};
 ghost use Prim.Native.Nat.{_+_, _*_, _<_, _≤_};
 ghost use Rattle.area.specs.Flow.{state, withCarry};
-ghost use Rattle.area.specs.Rows.{oneWord, words, oneRow, rows};
+ghost use Rattle.area.specs.Rows.{oneWord, words, rowStart, rows};
 use crate::types::Flow;
 use crate::types::Setup;
 
@@ -55,17 +55,14 @@ fn row_start(setup: Setup, flow: Flow) -> Flow
     }
 }
 
-fn one_row(ram: &mut [u16], setup: Setup, width: u32, flow: Flow) -> Flow
+// A row up to its last word.
+fn row_words(ram: &mut [u16], setup: Setup, width: u32, flow: Flow) -> Flow
     requires { ⌜ (setup .shifts .a < 16) × (setup .shifts .b < 16) × (flow .stored + width < 4294967296) ⌝ }
     ensures { λ after. ⌜
         state (now (ram .exit)) after
-        ≡ oneRow setup width (state (now (ram .entry)) flow) ⌝ }
+        ≡ words setup width width (rowStart setup (state (now (ram .entry)) flow)) ⌝ }
 {
-    let uses = setup.uses;
-    let modulos = setup.modulos;
-    let direction = setup.direction;
-    let end = words(ram, setup, width, row_start(setup, flow));
-    crate::moves::row_end(direction, uses, modulos, end)
+    words(ram, setup, width, row_start(setup, flow))
 }
 
 // The flow after some rows, and how many rows are left.
@@ -81,7 +78,11 @@ fn some_rows(ram: &mut [u16], setup: Setup, width: u32, left: u32, flow: Flow) -
         × (rows setup width (rest .left) (state (now (ram .exit)) (rest .flow))
         ≡ rows setup width left (state (now (ram .entry)) flow)) ⌝ }
 {
-    let after = one_row(ram, setup, width, flow);
+    let uses = setup.uses;
+    let direction = setup.direction;
+    let modulos = setup.modulos;
+    let end = row_words(ram, setup, width, flow);
+    let after = crate::moves::row_end(direction, uses, modulos, end);
     Rest {
         left: left - 1,
         flow: after,

@@ -3,5 +3,4 @@ ghost use Rattle.examples.specs.Examples.{ExamplesHold};
 
 pub fn examples_hold()
     ensures { λ _. ⌜ ExamplesHold ⌝ }
-{
-}
+{}

@@ -20,7 +20,13 @@ fn digit(n: u16) -> u8 {
 
 // A word as a blank and four hex digits.
 pub fn hex(word: u16) {
-    let text = [32, digit(word / 4096), digit(word / 256), digit(word / 16), digit(word)];
+    let text = [
+        32,
+        digit(word / 4096),
+        digit(word / 256),
+        digit(word / 16),
+        digit(word),
+    ];
     io::write_all(STDOUT_FILENO, &text);
 }
 

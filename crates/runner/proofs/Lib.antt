@@ -1,3 +1,10 @@
 -- The laws of the definitions in specs/, a file for each.
 pub mod EffectLaws
 pub mod RunLaws
+pub mod StartLaws
+pub mod TableLaws
+pub mod RunAppendLaws
+pub mod CutLaws
+pub mod RefusedRunStandsLaws
+pub mod EachNumberExactlyLaws
+pub mod OneAnswerLaws

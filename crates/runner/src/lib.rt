@@ -2,6 +2,7 @@
 mod start;
 mod step;
 mod steps;
+pub mod theorems;
 pub mod types;
 
 ghost use mathlib.Core.Path.{_≡_};

@@ -1,0 +1,75 @@
+-- Paper 01, "Numbers given back": the rows that a step can be refused by, "step by step 4, 5, 6, 13, 7, 8, 9, 10".
+use Prim.Native.Nat.{ℕ}
+use mathlib.Core.Bool.{Bool, true, false, _||_}
+use mathlib.Core.List.{List, [], _∷_}
+use lib.Dec.{leb}
+use lib.ListN.{length}
+use Rattle.word.specs.Choice.{Rule, _when_}
+use Rattle.area.specs.Setup.{con1, line, setup}
+use Rattle.area.specs.Flow.{pointers}
+use Rattle.blit.specs.Refusal.{noWords, bothFills, fillUpward, leavesMemory}
+use Rattle.job.specs.declared.types.Step.{Step}
+use Rattle.job.specs.declared.types.Read.{Read}
+use Rattle.runner.specs.Run.{Machine}
+
+-- "first word begins no step"
+unfoldable pub beginsNoStep : Read → Bool
+beginsNoStep (Read.Step step next) = false
+beginsNoStep Read.End = false
+beginsNoStep Read.NoStep = true
+beginsNoStep Read.CutOff = false
+beginsNoStep Read.OddStore = false
+
+-- "step cut off by the job's end"
+unfoldable pub cutOff : Read → Bool
+cutOff (Read.Step step next) = false
+cutOff Read.End = false
+cutOff Read.NoStep = false
+cutOff Read.CutOff = true
+cutOff Read.OddStore = false
+
+-- "store's low half odd"
+unfoldable pub oddStore : Read → Bool
+oddStore (Read.Step step next) = false
+oddStore Read.End = false
+oddStore Read.NoStep = false
+oddStore Read.CutOff = false
+oddStore Read.OddStore = true
+
+-- the step is a blit, and a test holds of its size
+unfoldable pub blitOf : (test : ℕ → Bool) → Read → Bool
+blitOf test (Read.Step (Step.Register place value) next) = false
+blitOf test (Read.Step (Step.Size size) next) = test size
+blitOf test (Read.Step (Step.Store to value) next) = false
+blitOf test (Read.Step (Step.Flag value) next) = false
+blitOf test Read.End = false
+blitOf test Read.NoStep = false
+blitOf test Read.CutOff = false
+blitOf test Read.OddStore = false
+
+-- "a store .. lies at N or above"
+unfoldable pub storeLeaves : (n : ℕ) → Read → Bool
+storeLeaves n (Read.Step (Step.Register place value) next) = false
+storeLeaves n (Read.Step (Step.Size size) next) = false
+storeLeaves n (Read.Step (Step.Store to value) next) = leb n to
+storeLeaves n (Read.Step (Step.Flag value) next) = false
+storeLeaves n Read.End = false
+storeLeaves n Read.NoStep = false
+storeLeaves n Read.CutOff = false
+storeLeaves n Read.OddStore = false
+
+-- the rows for what stands at a place, on the machine that it finds
+abbrev pub rows : Machine → Read → List Rule
+rows before read =
+    4 when beginsNoStep read
+    ∷ 5 when cutOff read
+    ∷ 6 when oddStore read
+    ∷ 13 when blitOf noWords read
+    ∷ 7 when blitOf (λ _. line (con1 (before .file))) read
+    ∷ 8 when blitOf (λ _. bothFills (con1 (before .file))) read
+    ∷ 9 when blitOf (λ _. fillUpward (con1 (before .file))) read
+    -- "a store, or any word a used channel of the blit would touch, lies at N or above"
+    ∷ 10
+      when (storeLeaves (length (before .memory)) read
+      || blitOf (leavesMemory (length (before .memory)) (setup (before .file)) (pointers (before .file))) read)
+    ∷ []

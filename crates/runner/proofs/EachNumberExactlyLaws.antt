@@ -134,19 +134,23 @@ module _ (memory file job : List ℕ) where
   numbers : NumbersOf memory file job
   numbers =
       record {
-        one =
-            (λ same. startRefusal-is-one memory file job (number-of-start (omega arith) (λ none. omega arith) ∙ same),
-            λ bad. start-of-number 1 (omega arith) (startRefusal-when-memory memory file job bad));
-        two =
-            (λ same. startRefusal-is-two memory file job (number-of-start (omega arith) (λ none. omega arith) ∙ same),
-            λ bad. start-of-number 2 (omega arith) (startRefusal-when-file memory file job (bad .0) (bad .1)));
-        three =
-            (λ same. startRefusal-is-three memory file job (number-of-start (omega arith) (λ none. omega arith) ∙ same),
-            λ bad. start-of-number 3 (omega arith) (startRefusal-when-length memory file job (bad .0) (bad .1) (bad .2)));
+        one = (
+          λ same. startRefusal-is-one memory file job (number-of-start (omega arith) (λ none. omega arith) ∙ same),
+          λ bad. start-of-number 1 (omega arith) (startRefusal-when-memory memory file job bad),
+        );
+        two = (
+          λ same. startRefusal-is-two memory file job (number-of-start (omega arith) (λ none. omega arith) ∙ same),
+          λ bad. start-of-number 2 (omega arith) (startRefusal-when-file memory file job (bad .0) (bad .1)),
+        );
+        three = (
+          λ same. startRefusal-is-three memory file job (number-of-start (omega arith) (λ none. omega arith) ∙ same),
+          λ bad. start-of-number 3 (omega arith) (startRefusal-when-length memory file job (bad .0) (bad .1) (bad .2)),
+        );
         at-step = λ place number far. (stops-where place number far, refused-where place number far);
-        done =
-            (λ done. (starts-when-done done, λ place number far stops. omega (arith, refused-where place number far stops .0)),
-            λ none. done-when-nowhere (none .0) (none .1));
+        done = (
+          λ done. (starts-when-done done, λ place number far stops. omega (arith, refused-where place number far stops .0)),
+          λ none. done-when-nowhere (none .0) (none .1),
+        );
       }
 
 pub each-number-exactly : EachNumberExactly

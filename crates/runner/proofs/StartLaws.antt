@@ -17,7 +17,6 @@ pub jobLength-is-false : (job : List ℕ) → length job ≤ jobMost → jobLeng
 unfolding jobLength
 jobLength-is-false job short = rw (le-leb (length job) jobMost short)
 
-
 -- the three rules, by their conditions
 numberOf : (bad fine long : Bool) → ℕ
 numberOf bad fine long = given (1 when bad ∷ 2 when not fine ∷ 3 when long ∷ [])

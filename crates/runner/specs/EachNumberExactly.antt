@@ -26,15 +26,15 @@ pub record NumbersOf (memory file job : List ℕ) : Type 0 where
   pub two : run memory file job .number ≡ 2 ↔ (memorySize (length memory) ≡ false) × (accepted file ≡ false)
   -- "job over 4,096 words"
   pub three :
-    run memory file job .number ≡ 3
-    ↔ (memorySize (length memory) ≡ false) × (accepted file ≡ true) × (jobLength job ≡ true)
+      run memory file job .number ≡ 3
+      ↔ (memorySize (length memory) ≡ false) × (accepted file ≡ true) × (jobLength job ≡ true)
   -- the rows of a step, with its place
   pub at-step : (place number : ℕ) → 3 < number
-    → (run memory file job .number ≡ number) × (run memory file job .place ≡ place) ↔ RefusedAt memory file job place number
+      → (run memory file job .number ≡ number) × (run memory file job .place ≡ place) ↔ RefusedAt memory file job place number
   -- "done": no row applies, before the first step or at one
   pub done :
-    run memory file job .number ≡ 0
-    ↔ (startRefusal memory file job ≡ 0) × ((place number : ℕ) → 3 < number → RefusedAt memory file job place number → ⊥)
+      run memory file job .number ≡ 0
+      ↔ (startRefusal memory file job ≡ 0) × ((place number : ℕ) → 3 < number → RefusedAt memory file job place number → ⊥)
 
 abbrev pub EachNumberExactly : Type 0
 EachNumberExactly = (memory file job : List ℕ) → NumbersOf memory file job

@@ -70,6 +70,6 @@ rows before read =
     ∷ 9 when blitOf (λ _. fillUpward (con1 (before .file))) read
     -- "a store, or any word a used channel of the blit would touch, lies at N or above"
     ∷ 10
-      when (storeLeaves (length (before .memory)) read
-      || blitOf (leavesMemory (length (before .memory)) (setup (before .file)) (pointers (before .file))) read)
+    when (storeLeaves (length (before .memory)) read
+    || blitOf (leavesMemory (length (before .memory)) (setup (before .file)) (pointers (before .file))) read)
     ∷ []

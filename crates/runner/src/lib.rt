@@ -1,4 +1,5 @@
 // The runner: takes a job's steps in order over lent memory and a lent register file, by the blit's contract.
+pub mod answer;
 mod start;
 mod step;
 mod steps;

@@ -38,7 +38,7 @@ add-stored : tie.Need-add-stored Inv-loop μ-loop
 add-stored c = search stored-fits
 
 loop-less : tie.Need-loop-less Inv-loop μ-loop
-loop-less c = search runAt-falls
+loop-less c = search (needs, runAt-falls)
 
 loop-again : tie.Need-loop-again Inv-loop μ-loop
 loop-again c = (search runAt-turn, search stored-le, search runAt-inside, search needs, search needs)

@@ -21,11 +21,11 @@ use Rattle.job.proofs.StepLaws.{stepAt-at-end}
 use Rattle.job.proofs.WellCutLaws.{wellCut}
 use Rattle.runner.specs.Effect.{effect}
 use Rattle.runner.specs.Run.{Machine, machine, effectOn, End, ended, runFrom, jobLength, startRefusal, run}
-use Rattle.runner.specs.Table.{rows}
+use Rattle.runner.specs.Table.{stepRules}
 use Rattle.runner.specs.RunAppend.{_followedBy_}
 use Rattle.runner.specs.EachNumberExactly.{RefusedAt, NumbersOf, EachNumberExactly}
 use Rattle.runner.proofs.StartLaws.{startRefusal-le, startRefusal-is-one, startRefusal-is-two, startRefusal-is-three, startRefusal-when-memory, startRefusal-when-file, startRefusal-when-length, startRefusal-of-part, run-when-started, run-when-unstarted}
-use Rattle.runner.proofs.TableLaws.{rows-give-effect, rows-lt}
+use Rattle.runner.proofs.TableLaws.{stepRules-is-effect, stepRules-lt}
 use Rattle.runner.proofs.RunAppendLaws.{followedBy-when-done, runFrom-of-append}
 use Rattle.runner.proofs.CutLaws.{CutBefore, cut-before, done-is-faultless, runFrom-when-refused}
 use Rattle.runner.proofs.RefusedRunStandsLaws.{RefusedRun, take-le, refused-run}
@@ -61,7 +61,7 @@ module _ (memory file job : List ℕ) where
       (startRefusal-of-part memory file job (take place job) (take-le place job) (stops .starts)) in
       let last : Machine = run memory file (take place job) .machine in
       let gives : effectOn last (stepAt job place) .number ≡ number
-      = sym (rows-give-effect last (stepAt job place)) ∙ stops .here in
+      = sym (stepRules-is-effect last (stepAt job place)) ∙ stops .here in
       let refusal : effectOn last (stepAt job place) .number ≡ 0 → ⊥ = λ none. omega (arith, sym gives ∙ none) in
       let on = runs-on place (stepAt-inside job place last refusal) (sym (ap (λ (end : End). end .number) cut) ∙ stops .earlier) in
       let whole : run memory file job ≡ ended (effectOn last (stepAt job place) .number) place last
@@ -81,8 +81,8 @@ module _ (memory file job : List ℕ) where
         starts = stops .starts;
         earlier = ap (λ (end : End). end .number) cut;
         here =
-            ap (λ (end : End). given (rows (end .machine) (stepAt job place))) cut
-            ∙ rows-give-effect (run memory file job .machine) (stepAt job place)
+            ap (λ (end : End). given (stepRules (end .machine) (stepAt job place))) cut
+            ∙ stepRules-is-effect (run memory file job .machine) (stepAt job place)
             ∙ ap (λ (at : ℕ). effectOn (run memory file job .machine) (stepAt job at) .number) (sym (given-so .1))
             ∙ stops .here
             ∙ given-so .0;
@@ -95,9 +95,9 @@ module _ (memory file job : List ℕ) where
       let cut = cut-before 0 0 job (machine memory file 0) (λ none. refusal (ap (λ (end : End). end .number) same ∙ none)) in
       let end : End = runFrom 0 job (machine memory file 0) in
       let read : Read = front (0 + cut .many) (drop (cut .many) job) in
-      let number : given (rows (end .machine) read) ≡ run memory file job .number
-      = rows-give-effect (end .machine) read ∙ cut .here ∙ sym (ap (λ (end : End). end .number) same) in
-      rw number at (rows-lt (end .machine) read (λ none. refusal (sym number ∙ none)))
+      let number : given (stepRules (end .machine) read) ≡ run memory file job .number
+      = stepRules-is-effect (end .machine) read ∙ cut .here ∙ sym (ap (λ (end : End). end .number) same) in
+      rw number at (stepRules-lt (end .machine) read (λ none. refusal (sym number ∙ none)))
 
   number-of-start : run memory file job .number ≤ 3 → (run memory file job .number ≡ 0 → ⊥)
       → startRefusal memory file job ≡ run memory file job .number

@@ -21,8 +21,8 @@ use Rattle.job.specs.declared.types.Read.{Read}
 use Rattle.job.specs.Step.{readNumber}
 use Rattle.runner.specs.declared.types.Refusal as reasons
 use Rattle.runner.specs.declared.types.Taken.{Taken}
-use Rattle.runner.specs.Number.{refusalNumber}
-use Rattle.runner.specs.Effect.{did, registerEffect, storeEffect, flagEffect, stepEffect, effect, leftByStep}
+use Rattle.runner.specs.Effect.{did, registerEffect, storeEffect, flagEffect, stepEffect, effect}
+use Rattle.runner.specs.Answer.{refusalNumber, leftByStep}
 
 pub registerEffect-of-write : (place value word : ℕ) (memory file next : List ℕ)
     → word ≡ kept place value → next ≡ set file place word → leftByStep (Taken.Done 0) memory next ≡ registerEffect place value memory file

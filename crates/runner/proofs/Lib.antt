@@ -4,6 +4,9 @@ pub mod RunLaws
 pub mod StartLaws
 pub mod TableLaws
 pub mod RunAppendLaws
+pub mod LengthLaws
+pub mod AnywhereLaws
+pub mod FrontLaws
 pub mod CutLaws
 pub mod RefusedRunStandsLaws
 pub mod EachNumberExactlyLaws

@@ -8,8 +8,8 @@ use lib.Dec.{eqb}
 use Rattle.word.specs.Choice.{if_then_else_}
 use Rattle.runner.specs.declared.types.Refusal.{Refusal}
 use Rattle.runner.specs.declared.types.Answer.{Answer}
-use Rattle.runner.specs.Number.{refusalNumber}
-use Rattle.runner.specs.Run.{Machine, End, run, left}
+use Rattle.runner.specs.Run.{Machine, End, run}
+use Rattle.runner.specs.Answer.{refusalNumber, left}
 use Rattle.runner.specs.OneAnswer.{Given, OneAnswer}
 use Rattle.runner.proofs.RunLaws.{refusalNumber-positive}
 

@@ -23,9 +23,9 @@ use Rattle.job.proofs.StepsLaws.{steps-of-step, steps-of-fault, steps-of-end, s
 use Rattle.runner.specs.declared.types.Refusal.{Refusal}
 use Rattle.runner.specs.declared.types.Taken.{Taken}
 use Rattle.runner.specs.declared.types.Answer.{Answer}
-use Rattle.runner.specs.Number.{refusalNumber}
-use Rattle.runner.specs.Effect.{stepEffect, effect, leftByStep}
-use Rattle.runner.specs.Run.{Machine, machine, effectOn, after, End, ended, runSteps, runFrom, jobMost, jobLength, startRefusal, run, left}
+use Rattle.runner.specs.Effect.{stepEffect, effect}
+use Rattle.runner.specs.Run.{Machine, machine, effectOn, after, End, ended, runSteps, runFrom, jobMost, jobLength, startRefusal, run}
+use Rattle.runner.specs.Answer.{refusalNumber, leftByStep, left}
 use Rattle.runner.proofs.EffectLaws.{stepEffect-counts, stepEffect-stays}
 
 -- a refusal's number is never 0

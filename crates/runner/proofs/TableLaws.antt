@@ -15,7 +15,7 @@ use Rattle.job.specs.declared.types.Read.{Read}
 use Rattle.job.specs.Step.{readNumber}
 use Rattle.runner.specs.Effect.{did, registerEffect, storeEffect, flagEffect, stepEffect, effect}
 use Rattle.runner.specs.Run.{Machine, effectOn}
-use Rattle.runner.specs.Table.{beginsNoStep, cutOff, oddStore, blitOf, storeLeaves, rows}
+use Rattle.runner.specs.Table.{beginsNoStep, cutOff, oddStore, blitOf, storeLeaves, stepRules}
 
 -- a blit has the number of its refusal
 pub blitStep-number : (memory file : List ℕ) (size : ℕ) → stepRefusal (length memory) file size ≡ blitStep memory file size .number
@@ -28,23 +28,23 @@ blitStep-number memory file size = by-test (eqb (stepRefusal (length memory) fil
     by-test true same = eqb-true (stepRefusal (length memory) file size) 0 same
     by-test false same = refl
 
-pub rows-give-effect : (before : Machine) (read : Read) → given (rows before read) ≡ effectOn before read .number
+pub stepRules-is-effect : (before : Machine) (read : Read) → given (stepRules before read) ≡ effectOn before read .number
 unfolding given beginsNoStep cutOff oddStore blitOf storeLeaves effect stepEffect registerEffect storeEffect flagEffect refused readNumber
     stepRefusal
-rows-give-effect before (Read.Step (Step.Register place value) next) = refl
-rows-give-effect before (Read.Step (Step.Size size) next) = blitStep-number (before .memory) (before .file) size
-rows-give-effect before (Read.Step (Step.Store to value) next) = by-test (leb (length (before .memory)) to)
+stepRules-is-effect before (Read.Step (Step.Register place value) next) = refl
+stepRules-is-effect before (Read.Step (Step.Size size) next) = blitStep-number (before .memory) (before .file) size
+stepRules-is-effect before (Read.Step (Step.Store to value) next) = by-test (leb (length (before .memory)) to)
   where
     by-test : (outside : Bool)
         → (if outside || false then 10 else 0)
         ≡ (if outside then refused 10 (before .memory) (before .file) else did 1 (set (before .memory) to value) (before .file)) .number
     by-test true = refl
     by-test false = refl
-rows-give-effect before (Read.Step (Step.Flag value) next) = refl
-rows-give-effect before Read.End = refl
-rows-give-effect before Read.NoStep = refl
-rows-give-effect before Read.CutOff = refl
-rows-give-effect before Read.OddStore = refl
+stepRules-is-effect before (Read.Step (Step.Flag value) next) = refl
+stepRules-is-effect before Read.End = refl
+stepRules-is-effect before Read.NoStep = refl
+stepRules-is-effect before Read.CutOff = refl
+stepRules-is-effect before Read.OddStore = refl
 
 -- every number of the table is past 3
 abbrev Late : List Rule → Type 0
@@ -61,7 +61,7 @@ given-lt (rule ∷ rest) late refusal = by-test (rule .applies) refusal (given-l
     by-test true refusal later = late .0
     by-test false refusal later = later refusal
 
-pub rows-lt : (before : Machine) (read : Read) → (given (rows before read) ≡ 0 → ⊥) → 3 < given (rows before read)
-rows-lt before read =
-    given-lt (rows before read)
+pub stepRules-lt : (before : Machine) (read : Read) → (given (stepRules before read) ≡ 0 → ⊥) → 3 < given (stepRules before read)
+stepRules-lt before read =
+    given-lt (stepRules before read)
     (omega arith, (omega arith, (omega arith, (omega arith, (omega arith, (omega arith, (omega arith, (omega arith, tt))))))))

@@ -10,14 +10,14 @@ use Rattle.file.specs.File.{accepted}
 use Rattle.blit.specs.Refusal.{memorySize}
 use Rattle.job.specs.Step.{stepAt}
 use Rattle.runner.specs.Run.{jobLength, startRefusal, run}
-use Rattle.runner.specs.Table.{rows}
+use Rattle.runner.specs.Table.{stepRules}
 
 -- a job is refused at a place with a number: none of 1 to 3 applies, the job cut before that place is done,
 -- and of the rows for what stands there, on the machine that the done steps leave, the first that applies has the number
 pub record RefusedAt (memory file job : List ℕ) (place number : ℕ) : Type 0 where
   pub starts : startRefusal memory file job ≡ 0
   pub earlier : run memory file (take place job) .number ≡ 0
-  pub here : given (rows (run memory file (take place job) .machine) (stepAt job place)) ≡ number
+  pub here : given (stepRules (run memory file (take place job) .machine) (stepAt job place)) ≡ number
 
 pub record NumbersOf (memory file job : List ℕ) : Type 0 where
   -- "N outside 1 to 262,144"

@@ -10,8 +10,6 @@ use Rattle.blit.specs.Blit.{Outcome, refused, blitStep}
 use Rattle.job.specs.declared.types.Step.{Step}
 use Rattle.job.specs.declared.types.Read.{Read}
 use Rattle.job.specs.Step.{readNumber}
-use Rattle.runner.specs.declared.types.Taken.{Taken}
-use Rattle.runner.specs.Number.{refusalNumber}
 
 -- a step that is done
 abbrev pub did : (stored : ℕ) → (memory file : List ℕ) → Outcome
@@ -45,17 +43,3 @@ effect Read.End memory file = refused (readNumber Read.End) memory file
 effect Read.NoStep memory file = refused (readNumber Read.NoStep) memory file
 effect Read.CutOff memory file = refused (readNumber Read.CutOff) memory file
 effect Read.OddStore memory file = refused (readNumber Read.OddStore) memory file
-
--- the paper's number and count for each case of a step's answer
-abbrev pub takenNumber : Taken → ℕ
-takenNumber (Taken.Done stored) = 0
-takenNumber (Taken.Refused why) = refusalNumber why
-
-abbrev pub takenStored : Taken → ℕ
-takenStored (Taken.Done stored) = stored
-takenStored (Taken.Refused why) = 0
-
--- a step's answer, and what memory and file hold as it is given
-abbrev pub leftByStep : Taken → (memory file : List ℕ) → Outcome
-leftByStep taken memory file =
-    record { number = takenNumber taken; stored = takenStored taken; memory = memory; file = file }

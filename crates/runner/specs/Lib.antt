@@ -1,7 +1,7 @@
 -- What a reader must believe of a run, in the order of paper 01; then what is proved of it.
-pub mod Number
 pub mod Effect
 pub mod Run
+pub mod Answer
 pub mod Table
 pub mod RunAppend
 pub mod RefusedRunStands

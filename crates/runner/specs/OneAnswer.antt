@@ -3,7 +3,8 @@ use Prim.Native.Nat.{ℕ}
 use mathlib.Core.Path.{_≡_}
 use mathlib.Core.List.{List}
 use Rattle.runner.specs.declared.types.Answer.{Answer}
-use Rattle.runner.specs.Run.{run, left}
+use Rattle.runner.specs.Run.{run}
+use Rattle.runner.specs.Answer.{left}
 
 -- an answer with what memory and file hold as it is given
 pub record Given : Type 0 where

@@ -10,8 +10,6 @@ use Rattle.blit.specs.Refusal.{memorySize}
 use Rattle.blit.specs.Blit.{Outcome}
 use Rattle.job.specs.declared.types.Read.{Read}
 use Rattle.job.specs.Steps.{Placed, stepsFrom}
-use Rattle.runner.specs.declared.types.Answer.{Answer}
-use Rattle.runner.specs.Number.{refusalNumber}
 use Rattle.runner.specs.Effect.{effect}
 
 -- what a run carries from step to step: memory, register file,
@@ -75,20 +73,3 @@ unfoldable pub run : (memory file job : List ℕ) → End
 run memory file job =
     if eqb (startRefusal memory file job) 0 then runFrom 0 job (machine memory file 0) else
     ended (startRefusal memory file job) 0 (machine memory file 0)
-
--- the paper's number, place and count for each case of the answer
-abbrev pub answerNumber : Answer → ℕ
-answerNumber (Answer.Done stored) = 0
-answerNumber (Answer.Refused why place stored) = refusalNumber why
-
-abbrev pub answerPlace : Answer → ℕ
-answerPlace (Answer.Done stored) = 0
-answerPlace (Answer.Refused why place stored) = place
-
-abbrev pub answerStored : Answer → ℕ
-answerStored (Answer.Done stored) = stored
-answerStored (Answer.Refused why place stored) = stored
-
--- an answer, and what memory and file hold as it is given
-abbrev pub left : Answer → (memory file : List ℕ) → End
-left answer memory file = ended (answerNumber answer) (answerPlace answer) (machine memory file (answerStored answer))

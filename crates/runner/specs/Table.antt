@@ -59,8 +59,8 @@ storeLeaves n Read.CutOff = false
 storeLeaves n Read.OddStore = false
 
 -- the rows for what stands at a place, on the machine that it finds
-abbrev pub rows : Machine → Read → List Rule
-rows before read =
+abbrev pub stepRules : Machine → Read → List Rule
+stepRules before read =
     4 when beginsNoStep read
     ∷ 5 when cutOff read
     ∷ 6 when oddStore read

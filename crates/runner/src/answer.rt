@@ -1,7 +1,6 @@
 // The paper's number, place and count of an answer.
 ghost use mathlib.Core.Path.{_≡_};
-ghost use Rattle.runner.specs.Number.{refusalNumber};
-ghost use Rattle.runner.specs.Run.{answerNumber, answerPlace, answerStored};
+ghost use Rattle.runner.specs.Answer.{refusalNumber, answerNumber, answerPlace, answerStored};
 use crate::types::Answer;
 use crate::types::Refusal;
 

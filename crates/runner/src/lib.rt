@@ -7,7 +7,8 @@ pub mod theorems;
 pub mod types;
 
 ghost use mathlib.Core.Path.{_≡_};
-ghost use Rattle.runner.specs.Run.{run, left};
+ghost use Rattle.runner.specs.Run.{run};
+ghost use Rattle.runner.specs.Answer.{left};
 use crate::types::Answer;
 use crate::types::Refusal;
 

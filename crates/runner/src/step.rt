@@ -2,8 +2,8 @@
 ghost use mathlib.Core.Path.{_≡_};
 ghost use Rattle.blit.specs.Refusal as blits;
 ghost use Rattle.blit.specs.Blit.{blitStep};
-ghost use Rattle.runner.specs.Number.{refusalNumber};
-ghost use Rattle.runner.specs.Effect.{registerEffect, storeEffect, flagEffect, stepEffect, leftByStep};
+ghost use Rattle.runner.specs.Effect.{registerEffect, storeEffect, flagEffect, stepEffect};
+ghost use Rattle.runner.specs.Answer.{refusalNumber, leftByStep};
 use crate::types::Refusal;
 use crate::types::Taken;
 use job::types::Step;

@@ -2,7 +2,8 @@
 ghost use mathlib.Core.Path.{_≡_};
 ghost use Prim.Native.Nat.{_≤_};
 ghost use lib.ListN.{length};
-ghost use Rattle.runner.specs.Run.{machine, runFrom, left};
+ghost use Rattle.runner.specs.Run.{machine, runFrom};
+ghost use Rattle.runner.specs.Answer.{left};
 use crate::types::Answer;
 use crate::types::Refusal;
 use crate::types::Taken;

@@ -26,7 +26,8 @@ pub record IsStep (read : Read) : Type 0 where
   pub next : ℕ
   pub same : read ≡ Read.Step step next
 
-front-when-done : (before : Machine) (at first : ℕ) (rest : List ℕ) → effectOn before (front at (first ∷ rest)) .number ≡ 0 → IsStep (front at (first ∷ rest))
+front-when-done : (before : Machine) (at first : ℕ) (rest : List ℕ)
+    → effectOn before (front at (first ∷ rest)) .number ≡ 0 → IsStep (front at (first ∷ rest))
 unfolding effect refused readNumber
 front-when-done before at first rest done = by-read (front at (first ∷ rest)) refl done
   where

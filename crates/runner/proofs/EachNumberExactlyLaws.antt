@@ -23,7 +23,7 @@ use Rattle.runner.specs.Effect.{effect}
 use Rattle.runner.specs.Run.{Machine, machine, effectOn, End, ended, runFrom, jobLength, startRefusal, run}
 use Rattle.runner.specs.Table.{stepRules}
 use Rattle.runner.specs.RunAppend.{_followedBy_}
-use Rattle.runner.specs.EachNumberExactly.{RefusedAt, NumbersOf, EachNumberExactly}
+use Rattle.runner.specs.EachNumberExactly.{RefusedAt, ExactNumbers, EachNumberExactly}
 use Rattle.runner.proofs.StartLaws.{startRefusal-le, startRefusal-is-one, startRefusal-is-two, startRefusal-is-three, startRefusal-when-memory, startRefusal-when-file, startRefusal-when-length, startRefusal-of-part, run-when-started, run-when-unstarted}
 use Rattle.runner.proofs.TableLaws.{stepRules-is-effect, stepRules-lt}
 use Rattle.runner.proofs.RunAppendLaws.{followedBy-when-done, runFrom-of-append}
@@ -131,7 +131,7 @@ module _ (memory file job : List ℕ) where
           (stops-where (run memory file job .place) (run memory file job .number) far (refl, refl)))
       by-number (no none) = omega arith
 
-  numbers : NumbersOf memory file job
+  numbers : ExactNumbers memory file job
   numbers =
       record {
         one = (
@@ -146,7 +146,7 @@ module _ (memory file job : List ℕ) where
           λ same. startRefusal-is-three memory file job (number-of-start (omega arith) (λ none. omega arith) ∙ same),
           λ bad. start-of-number 3 (omega arith) (startRefusal-when-length memory file job (bad .0) (bad .1) (bad .2)),
         );
-        at-step = λ place number far. (stops-where place number far, refused-where place number far);
+        step = λ place number far. (stops-where place number far, refused-where place number far);
         done = (
           λ done. (starts-when-done done, λ place number far stops. omega (arith, refused-where place number far stops .0)),
           λ none. done-when-nowhere (none .0) (none .1),

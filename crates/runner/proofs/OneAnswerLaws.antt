@@ -10,7 +10,7 @@ use Rattle.runner.specs.declared.types.Refusal.{Refusal}
 use Rattle.runner.specs.declared.types.Answer.{Answer}
 use Rattle.runner.specs.Run.{Machine, End, run}
 use Rattle.runner.specs.Answer.{refusalNumber, left}
-use Rattle.runner.specs.OneAnswer.{Given, OneAnswer}
+use Rattle.runner.specs.OneAnswer.{OneAnswer}
 use Rattle.runner.proofs.RunLaws.{refusalNumber-positive}
 
 -- the refusal with a number
@@ -45,7 +45,8 @@ numbered-of-number Refusal.LeavesMemory = refl
 pub refusalNumber-is-unique : (one other : Refusal) → refusalNumber one ≡ refusalNumber other → one ≡ other
 refusalNumber-is-unique one other same = sym (numbered-of-number one) ∙ ap numbered same ∙ numbered-of-number other
 
-pub answer-is-unique : (one other : Answer) (memory file others otherFile : List ℕ) → left one memory file ≡ left other others otherFile → one ≡ other
+pub answer-is-unique : (one other : Answer) (memory file others otherFile : List ℕ)
+    → left one memory file ≡ left other others otherFile → one ≡ other
 answer-is-unique (Answer.Done stored) (Answer.Done count) memory file others otherFile same =
     ap Answer.Done (ap (λ (end : End). end .machine .stored) same)
 answer-is-unique (Answer.Done stored) (Answer.Refused why place count) memory file others otherFile same =

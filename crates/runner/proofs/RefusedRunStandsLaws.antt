@@ -22,7 +22,8 @@ pub record RefusedRun (memory file job : List ℕ) (end : End) : Type 0 where
   pub here : effectOn (end .machine) (stepAt job (end .place)) .number ≡ end .number
 
 module _ (memory file job : List ℕ) where
-  refused-of-cut : (end : End) → startRefusal memory file job ≡ 0 → CutBefore 0 0 job (machine memory file 0) end → RefusedRun memory file job end
+  refused-of-cut : (end : End) → startRefusal memory file job ≡ 0 → CutBefore 0 0 job (machine memory file 0) end
+      → RefusedRun memory file job end
   unfolding stepAt
   refused-of-cut end starts cut =
       let same : end .place ≡ cut .many = cut .place ∙ zero-add (cut .many) in

@@ -18,66 +18,66 @@ unfolding jobLength
 jobLength-is-false job short = rw (le-leb (length job) jobMost short)
 
 -- the three rules, by their conditions
-numberOf : (bad fine long : Bool) → ℕ
-numberOf bad fine long = given (1 when bad ∷ 2 when not fine ∷ 3 when long ∷ [])
+startNumber : (bad fine long : Bool) → ℕ
+startNumber bad fine long = given (1 when bad ∷ 2 when not fine ∷ 3 when long ∷ [])
 
-numberOf-le : (bad fine long : Bool) → numberOf bad fine long ≤ 3
-unfolding numberOf given
-numberOf-le true fine long = omega arith
-numberOf-le false false long = omega arith
-numberOf-le false true true = omega arith
-numberOf-le false true false = omega arith
+startNumber-le : (bad fine long : Bool) → startNumber bad fine long ≤ 3
+unfolding startNumber given
+startNumber-le true fine long = omega arith
+startNumber-le false false long = omega arith
+startNumber-le false true true = omega arith
+startNumber-le false true false = omega arith
 
-numberOf-none : (bad fine long : Bool) → numberOf bad fine long ≡ 0 → (bad ≡ false) × (fine ≡ true) × (long ≡ false)
-unfolding numberOf given
-numberOf-none true fine long none = absurd (omega arith)
-numberOf-none false false long none = absurd (omega arith)
-numberOf-none false true true none = absurd (omega arith)
-numberOf-none false true false none = (refl, refl, refl)
+startNumber-none : (bad fine long : Bool) → startNumber bad fine long ≡ 0 → (bad ≡ false) × (fine ≡ true) × (long ≡ false)
+unfolding startNumber given
+startNumber-none true fine long none = absurd (omega arith)
+startNumber-none false false long none = absurd (omega arith)
+startNumber-none false true true none = absurd (omega arith)
+startNumber-none false true false none = (refl, refl, refl)
 
-numberOf-one : (bad fine long : Bool) → numberOf bad fine long ≡ 1 → bad ≡ true
-unfolding numberOf given
-numberOf-one true fine long same = refl
-numberOf-one false false long same = absurd (omega arith)
-numberOf-one false true true same = absurd (omega arith)
-numberOf-one false true false same = absurd (omega arith)
+startNumber-one : (bad fine long : Bool) → startNumber bad fine long ≡ 1 → bad ≡ true
+unfolding startNumber given
+startNumber-one true fine long same = refl
+startNumber-one false false long same = absurd (omega arith)
+startNumber-one false true true same = absurd (omega arith)
+startNumber-one false true false same = absurd (omega arith)
 
-numberOf-two : (bad fine long : Bool) → numberOf bad fine long ≡ 2 → (bad ≡ false) × (fine ≡ false)
-unfolding numberOf given
-numberOf-two true fine long same = absurd (omega arith)
-numberOf-two false false long same = (refl, refl)
-numberOf-two false true true same = absurd (omega arith)
-numberOf-two false true false same = absurd (omega arith)
+startNumber-two : (bad fine long : Bool) → startNumber bad fine long ≡ 2 → (bad ≡ false) × (fine ≡ false)
+unfolding startNumber given
+startNumber-two true fine long same = absurd (omega arith)
+startNumber-two false false long same = (refl, refl)
+startNumber-two false true true same = absurd (omega arith)
+startNumber-two false true false same = absurd (omega arith)
 
-numberOf-three : (bad fine long : Bool) → numberOf bad fine long ≡ 3 → (bad ≡ false) × (fine ≡ true) × (long ≡ true)
-unfolding numberOf given
-numberOf-three true fine long same = absurd (omega arith)
-numberOf-three false false long same = absurd (omega arith)
-numberOf-three false true true same = (refl, refl, refl)
-numberOf-three false true false same = absurd (omega arith)
+startNumber-three : (bad fine long : Bool) → startNumber bad fine long ≡ 3 → (bad ≡ false) × (fine ≡ true) × (long ≡ true)
+unfolding startNumber given
+startNumber-three true fine long same = absurd (omega arith)
+startNumber-three false false long same = absurd (omega arith)
+startNumber-three false true true same = (refl, refl, refl)
+startNumber-three false true false same = absurd (omega arith)
 
 module _ (memory file job : List ℕ) where
   pub startRefusal-le : startRefusal memory file job ≤ 3
-  unfolding startRefusal numberOf
-  startRefusal-le = numberOf-le (memorySize (length memory)) (accepted file) (jobLength job)
+  unfolding startRefusal startNumber
+  startRefusal-le = startNumber-le (memorySize (length memory)) (accepted file) (jobLength job)
 
   pub startRefusal-is-none : startRefusal memory file job ≡ 0
       → (memorySize (length memory) ≡ false) × (accepted file ≡ true) × (jobLength job ≡ false)
-  unfolding startRefusal numberOf
-  startRefusal-is-none none = numberOf-none (memorySize (length memory)) (accepted file) (jobLength job) none
+  unfolding startRefusal startNumber
+  startRefusal-is-none none = startNumber-none (memorySize (length memory)) (accepted file) (jobLength job) none
 
   pub startRefusal-is-one : startRefusal memory file job ≡ 1 → memorySize (length memory) ≡ true
-  unfolding startRefusal numberOf
-  startRefusal-is-one same = numberOf-one (memorySize (length memory)) (accepted file) (jobLength job) same
+  unfolding startRefusal startNumber
+  startRefusal-is-one same = startNumber-one (memorySize (length memory)) (accepted file) (jobLength job) same
 
   pub startRefusal-is-two : startRefusal memory file job ≡ 2 → (memorySize (length memory) ≡ false) × (accepted file ≡ false)
-  unfolding startRefusal numberOf
-  startRefusal-is-two same = numberOf-two (memorySize (length memory)) (accepted file) (jobLength job) same
+  unfolding startRefusal startNumber
+  startRefusal-is-two same = startNumber-two (memorySize (length memory)) (accepted file) (jobLength job) same
 
   pub startRefusal-is-three : startRefusal memory file job ≡ 3
       → (memorySize (length memory) ≡ false) × (accepted file ≡ true) × (jobLength job ≡ true)
-  unfolding startRefusal numberOf
-  startRefusal-is-three same = numberOf-three (memorySize (length memory)) (accepted file) (jobLength job) same
+  unfolding startRefusal startNumber
+  startRefusal-is-three same = startNumber-three (memorySize (length memory)) (accepted file) (jobLength job) same
 
   pub startRefusal-when-memory : memorySize (length memory) ≡ true → startRefusal memory file job ≡ 1
   unfolding startRefusal given
@@ -108,7 +108,8 @@ module _ (memory file job : List ℕ) where
   run-when-unstarted some = rw (ne-eqb (startRefusal memory file job) 0 some)
 
   -- a part of a job, and any job of the length allowed
-  pub startRefusal-of-part : (part : List ℕ) → length part ≤ length job → startRefusal memory file job ≡ 0 → startRefusal memory file part ≡ 0
+  pub startRefusal-of-part : (part : List ℕ) → length part ≤ length job → startRefusal memory file job ≡ 0
+      → startRefusal memory file part ≡ 0
   unfolding startRefusal given
   startRefusal-of-part part fits none =
       let starts = startRefusal-is-none none in

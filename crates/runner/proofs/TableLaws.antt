@@ -2,7 +2,7 @@
 use mathlib.Core.Path.{_≡_, refl, sym, ap, _∙_}
 use Prim.Native.Nat.{ℕ, _<_}
 use native.Mathlib.Omega.{arith}
-use mathlib.Core.Bool.{Bool, true, false, _||_}
+use mathlib.Core.Bool.{Bool, true, false}
 use mathlib.Core.List.{List, [], _∷_}
 use borrow.Author.Tests.{eqb-true}
 use lib.Dec.{eqb, leb}
@@ -15,7 +15,7 @@ use Rattle.job.specs.declared.types.Read.{Read}
 use Rattle.job.specs.Step.{readNumber}
 use Rattle.runner.specs.Effect.{did, registerEffect, storeEffect, flagEffect, stepEffect, effect}
 use Rattle.runner.specs.Run.{Machine, effectOn}
-use Rattle.runner.specs.Table.{beginsNoStep, cutOff, oddStore, blitOf, storeLeaves, stepRules}
+use Rattle.runner.specs.Table.{beginsNoStep, cutOff, oddStore, blitWith, liesOutside, stepRules}
 
 -- a blit has the number of its refusal
 pub blitStep-number : (memory file : List ℕ) (size : ℕ) → stepRefusal (length memory) file size ≡ blitStep memory file size .number
@@ -29,14 +29,14 @@ blitStep-number memory file size = by-test (eqb (stepRefusal (length memory) fil
     by-test false same = refl
 
 pub stepRules-is-effect : (before : Machine) (read : Read) → given (stepRules before read) ≡ effectOn before read .number
-unfolding given beginsNoStep cutOff oddStore blitOf storeLeaves effect stepEffect registerEffect storeEffect flagEffect refused readNumber
+unfolding given beginsNoStep cutOff oddStore blitWith liesOutside effect stepEffect registerEffect storeEffect flagEffect refused readNumber
     stepRefusal
 stepRules-is-effect before (Read.Step (Step.Register place value) next) = refl
 stepRules-is-effect before (Read.Step (Step.Size size) next) = blitStep-number (before .memory) (before .file) size
 stepRules-is-effect before (Read.Step (Step.Store to value) next) = by-test (leb (length (before .memory)) to)
   where
     by-test : (outside : Bool)
-        → (if outside || false then 10 else 0)
+        → (if outside then 10 else 0)
         ≡ (if outside then refused 10 (before .memory) (before .file) else did 1 (set (before .memory) to value) (before .file)) .number
     by-test true = refl
     by-test false = refl

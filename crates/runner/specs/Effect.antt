@@ -36,7 +36,7 @@ stepEffect (Step.Size size) memory file = blitStep memory file size
 stepEffect (Step.Store to value) memory file = storeEffect to value memory file
 stepEffect (Step.Flag value) memory file = flagEffect value memory file
 
--- what stands at a place of the job: a step, or what is refused as no step
+-- what stands at a place of the job: a step, or what is refused as no step; the end is no refusal
 unfoldable pub effect : Read → (memory file : List ℕ) → Outcome
 effect (Read.Step step next) memory file = stepEffect step memory file
 effect Read.End memory file = refused (readNumber Read.End) memory file

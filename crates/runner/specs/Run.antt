@@ -1,4 +1,5 @@
--- Paper 01, "Jobs" and "Numbers given back": a run takes a job's steps in order, to the end or to the first refused one.
+-- Paper 01, "Jobs" and "Numbers given back": a run takes a job's steps in order,
+-- to the end or to the first refused one.
 use Prim.Native.Nat.{ℕ, _+_}
 use mathlib.Core.Bool.{Bool, not}
 use mathlib.Core.List.{List, [], _∷_}

@@ -1,6 +1,6 @@
 -- Paper 01, "Numbers given back": the rows that a step can be refused by, "step by step 4, 5, 6, 13, 7, 8, 9, 10".
 use Prim.Native.Nat.{ℕ}
-use mathlib.Core.Bool.{Bool, true, false, _||_}
+use mathlib.Core.Bool.{Bool, true, false}
 use mathlib.Core.List.{List, [], _∷_}
 use lib.Dec.{leb}
 use lib.ListN.{length}
@@ -37,26 +37,27 @@ oddStore Read.CutOff = false
 oddStore Read.OddStore = true
 
 -- the step is a blit, and a test holds of its size
-unfoldable pub blitOf : (test : ℕ → Bool) → Read → Bool
-blitOf test (Read.Step (Step.Register place value) next) = false
-blitOf test (Read.Step (Step.Size size) next) = test size
-blitOf test (Read.Step (Step.Store to value) next) = false
-blitOf test (Read.Step (Step.Flag value) next) = false
-blitOf test Read.End = false
-blitOf test Read.NoStep = false
-blitOf test Read.CutOff = false
-blitOf test Read.OddStore = false
+unfoldable pub blitWith : (test : ℕ → Bool) → Read → Bool
+blitWith test (Read.Step (Step.Register place value) next) = false
+blitWith test (Read.Step (Step.Size size) next) = test size
+blitWith test (Read.Step (Step.Store to value) next) = false
+blitWith test (Read.Step (Step.Flag value) next) = false
+blitWith test Read.End = false
+blitWith test Read.NoStep = false
+blitWith test Read.CutOff = false
+blitWith test Read.OddStore = false
 
--- "a store .. lies at N or above"
-unfoldable pub storeLeaves : (n : ℕ) → Read → Bool
-storeLeaves n (Read.Step (Step.Register place value) next) = false
-storeLeaves n (Read.Step (Step.Size size) next) = false
-storeLeaves n (Read.Step (Step.Store to value) next) = leb n to
-storeLeaves n (Read.Step (Step.Flag value) next) = false
-storeLeaves n Read.End = false
-storeLeaves n Read.NoStep = false
-storeLeaves n Read.CutOff = false
-storeLeaves n Read.OddStore = false
+-- "a store, or any word a used channel of the blit would touch, lies at N or above"
+unfoldable pub liesOutside : Machine → Read → Bool
+liesOutside before (Read.Step (Step.Register place value) next) = false
+liesOutside before (Read.Step (Step.Size size) next) =
+    leavesMemory (length (before .memory)) (setup (before .file)) (pointers (before .file)) size
+liesOutside before (Read.Step (Step.Store to value) next) = leb (length (before .memory)) to
+liesOutside before (Read.Step (Step.Flag value) next) = false
+liesOutside before Read.End = false
+liesOutside before Read.NoStep = false
+liesOutside before Read.CutOff = false
+liesOutside before Read.OddStore = false
 
 -- the rows for what stands at a place, on the machine that it finds
 abbrev pub stepRules : Machine → Read → List Rule
@@ -64,12 +65,9 @@ stepRules before read =
     4 when beginsNoStep read
     ∷ 5 when cutOff read
     ∷ 6 when oddStore read
-    ∷ 13 when blitOf noWords read
-    ∷ 7 when blitOf (λ _. line (con1 (before .file))) read
-    ∷ 8 when blitOf (λ _. bothFills (con1 (before .file))) read
-    ∷ 9 when blitOf (λ _. fillUpward (con1 (before .file))) read
-    -- "a store, or any word a used channel of the blit would touch, lies at N or above"
-    ∷ 10
-    when (storeLeaves (length (before .memory)) read
-    || blitOf (leavesMemory (length (before .memory)) (setup (before .file)) (pointers (before .file))) read)
+    ∷ 13 when blitWith noWords read
+    ∷ 7 when blitWith (λ _. line (con1 (before .file))) read
+    ∷ 8 when blitWith (λ _. bothFills (con1 (before .file))) read
+    ∷ 9 when blitWith (λ _. fillUpward (con1 (before .file))) read
+    ∷ 10 when liesOutside before read
     ∷ []

@@ -1,5 +1,6 @@
-// Runs jobs through the runner and prints what they give and leave: paper 01's "Run and compared" cases, each number once,
-// and a job of several blits with stores and flags between. What it must print is written out beside it, from the paper.
+// Runs jobs through the runner and prints what they give and leave: paper 01's "Run and compared" cases,
+// each number but 13, which no size gives, and a job of several blits with stores and flags between.
+// What it must print is written out beside it, from the paper.
 use runner::types::Answer;
 
 // A case's name, and the answer's number, place and count.
@@ -178,8 +179,8 @@ fn largest_blit() {
     );
 }
 
-// Word i of 16 starts as i. Words 0 and 1 are copied to 8 and 9, then 11 and 13 cleared, then word 0 filled into 15, with stores
-// and flags between; some registers are written with bits that they don't keep.
+// Word i of 16 starts as i. Words 0 and 1 are copied to 8 and 9, then 11 and 13 cleared, then word 0 filled into 15,
+// with stores and flags between; some registers are written with bits that they don't keep.
 fn several_blits() {
     let mut ram = [0u16, 1, 2, 3, 4, 5, 6, 7, 8, 9, 10, 11, 12, 13, 14, 15];
     let mut file = [0u16; 20];

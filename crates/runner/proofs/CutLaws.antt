@@ -4,16 +4,16 @@ use Prim.Native.Nat.{ℕ, zero, suc, _+_, _≤_}
 use native.Mathlib.Nat.{add-zero}
 use native.Mathlib.Omega.{arith}
 use mathlib.Core.Bool.{Bool, true, false, _&&_}
-use mathlib.Core.List.{List, [], _∷_, _++_}
+use mathlib.Core.List.{List, [], _∷_}
 use borrow.Author.Tests.{eq-eqb, eqb-true}
 use lib.Dec.{eqb}
-use lib.ListN.{length, take, drop}
+use lib.ListN.{take, drop}
 use Rattle.word.specs.Choice.{if_then_else_}
-use Rattle.blit.specs.Blit.{Outcome, refused}
+use Rattle.blit.specs.Blit.{refused}
 use Rattle.job.specs.declared.types.Step.{Step}
 use Rattle.job.specs.declared.types.Read.{Read}
 use Rattle.job.specs.Step.{operands, front, readNumber}
-use Rattle.job.specs.Steps.{Placed, placed, following, stepsFrom, steps}
+use Rattle.job.specs.Steps.{placed, following, stepsFrom}
 use Rattle.job.proofs.WellCutLaws.{isStep, faultless}
 use Rattle.runner.specs.Effect.{effect}
 use Rattle.runner.specs.Run.{Machine, effectOn, after, End, ended, runSteps, runFrom}
@@ -145,10 +145,10 @@ cut-before zero at (first ∷ rest) before refusal =
         cut-by-read at first rest before (front at (first ∷ rest)) refl later (front-when-done before at first rest done) done refusal
 
 -- a run of words that is done is whole steps
-faultless-by-read : (before : Machine) (at first : ℕ) (rest : List ℕ) (read : Read) → IsStep read
+faultless-by-read : (at : ℕ) (rest : List ℕ) (read : Read) → IsStep read
     → faultless (stepsFrom (following read) (at + 1) rest) ≡ true → faultless (placed at read ∷ stepsFrom (following read) (at + 1) rest) ≡ true
 unfolding faultless isStep
-faultless-by-read before at first rest read found later =
+faultless-by-read at rest read found later =
     ap (λ (other : Read). isStep other && faultless (stepsFrom (following read) (at + 1) rest)) (found .same) ∙ later
 
 pub done-is-faultless : (skip at : ℕ) (words : List ℕ) (before : Machine) → runSteps (stepsFrom skip at words) before .number ≡ 0
@@ -167,7 +167,7 @@ done-is-faultless zero at (first ∷ rest) before done =
         → faultless (stepsFrom skip (at + 1) rest) ≡ true)
         → faultless (placed at (front at (first ∷ rest)) ∷ stepsFrom (following (front at (first ∷ rest))) (at + 1) rest) ≡ true
     by-test true same done later =
-        faultless-by-read before at first rest (front at (first ∷ rest))
+        faultless-by-read at rest (front at (first ∷ rest))
         (front-when-done before at first rest (eqb-true (effectOn before (front at (first ∷ rest)) .number) 0 same))
         (later (following (front at (first ∷ rest))) (after before (effectOn before (front at (first ∷ rest)))) done)
     by-test false same done later =

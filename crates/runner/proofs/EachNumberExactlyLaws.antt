@@ -5,30 +5,24 @@ use Prim.Native.Nat.{ℕ, _+_, _<_, _≤_}
 use native.Mathlib.Nat.{zero-add}
 use native.Mathlib.Decide.{decLt}
 use native.Mathlib.Omega.{arith}
-use mathlib.Core.Bool.{Bool, true, false}
-use mathlib.Core.List.{List, _++_}
-use mathlib.Core.Logic.{_↔_}
+use mathlib.Core.List.{List}
 use lib.ListN.{length, take, drop, take-append-drop}
 use lib.Seq.{length-take-le}
 use Rattle.word.specs.Choice.{given}
-use Rattle.file.specs.File.{accepted}
-use Rattle.blit.specs.Refusal.{memorySize}
 use Rattle.blit.specs.Blit.{refused}
 use Rattle.job.specs.declared.types.Read.{Read}
 use Rattle.job.specs.Step.{front, stepAt, readNumber}
-use Rattle.job.specs.Steps.{stepsFrom}
 use Rattle.job.proofs.StepLaws.{stepAt-at-end}
 use Rattle.job.proofs.WellCutLaws.{wellCut}
 use Rattle.runner.specs.Effect.{effect}
-use Rattle.runner.specs.Run.{Machine, machine, effectOn, End, ended, runFrom, jobLength, startRefusal, run}
+use Rattle.runner.specs.Run.{Machine, machine, effectOn, End, ended, runFrom, startRefusal, run}
 use Rattle.runner.specs.Table.{stepRules}
-use Rattle.runner.specs.RunAppend.{_followedBy_}
 use Rattle.runner.specs.EachNumberExactly.{RefusedAt, ExactNumbers, EachNumberExactly}
-use Rattle.runner.proofs.StartLaws.{startRefusal-le, startRefusal-is-one, startRefusal-is-two, startRefusal-is-three, startRefusal-when-memory, startRefusal-when-file, startRefusal-when-length, startRefusal-of-part, run-when-started, run-when-unstarted}
+use Rattle.runner.proofs.StartLaws.{startRefusal-is-one, startRefusal-is-two, startRefusal-is-three, startRefusal-when-memory, startRefusal-when-file, startRefusal-when-length, startRefusal-of-part, run-when-started, run-when-unstarted}
 use Rattle.runner.proofs.TableLaws.{stepRules-is-effect, stepRules-lt}
 use Rattle.runner.proofs.RunAppendLaws.{followedBy-when-done, runFrom-of-append}
-use Rattle.runner.proofs.CutLaws.{CutBefore, cut-before, done-is-faultless, runFrom-when-refused}
-use Rattle.runner.proofs.RefusedRunStandsLaws.{RefusedRun, take-le, refused-run}
+use Rattle.runner.proofs.CutLaws.{cut-before, done-is-faultless, runFrom-when-refused}
+use Rattle.runner.proofs.RefusedRunStandsLaws.{take-le, refused-run}
 
 -- at the job's end nothing is refused
 stepAt-inside : (job : List ℕ) (place : ℕ) (before : Machine) → (effectOn before (stepAt job place) .number ≡ 0 → ⊥) → place ≤ length job

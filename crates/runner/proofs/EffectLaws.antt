@@ -1,10 +1,10 @@
 -- Laws of a step: what each kind of step leaves, how many words a step stores at most, and that a refused one changes nothing.
-use mathlib.Core.Path.{_≡_, refl, sym, ap, _∙_}
-use Prim.Native.Nat.{ℕ, _+_, _<_, _≤_}
+use mathlib.Core.Path.{_≡_, refl}
+use Prim.Native.Nat.{ℕ, _<_, _≤_}
 use native.Mathlib.Omega.{arith}
 use mathlib.Core.Bool.{Bool, true, false}
 use mathlib.Core.List.{List}
-use borrow.Author.Tests.{le-leb, lt-leb, ne-eqb, eqb-true}
+use borrow.Author.Tests.{le-leb, lt-leb}
 use lib.Dec.{eqb, leb}
 use lib.ListN.{length, set}
 use Rattle.word.specs.Choice.{if_then_else_}
@@ -17,11 +17,9 @@ use Rattle.blit.specs.declared.types.Answer.{Answer}
 use Rattle.blit.specs.declared.types.Refusal.{Refusal}
 use Rattle.blit.proofs.BlitLaws.{blitStep-counts}
 use Rattle.job.specs.declared.types.Step.{Step}
-use Rattle.job.specs.declared.types.Read.{Read}
-use Rattle.job.specs.Step.{readNumber}
 use Rattle.runner.specs.declared.types.Refusal as reasons
 use Rattle.runner.specs.declared.types.Taken.{Taken}
-use Rattle.runner.specs.Effect.{did, registerEffect, storeEffect, flagEffect, stepEffect, effect}
+use Rattle.runner.specs.Effect.{did, registerEffect, storeEffect, flagEffect, stepEffect}
 use Rattle.runner.specs.Answer.{refusalNumber, leftByStep}
 
 pub registerEffect-of-write : (place value word : ℕ) (memory file next : List ℕ)

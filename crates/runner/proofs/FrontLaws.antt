@@ -1,5 +1,5 @@
--- Laws of what stands at the front of a run of words: in a run that is cut after it, and wherever the run stands in the job.
-use mathlib.Core.Path.{_≡_, refl, ap}
+-- Laws of what stands at the front of a run of words: a step stands there too when the run is cut after it, and the end never does.
+use mathlib.Core.Path.{_≡_, ap}
 use Prim.Native.Nat.{ℕ, zero, suc, _≤_}
 use native.Mathlib.Omega.{arith}
 use mathlib.Core.Bool.{Bool, true, false}

@@ -1,14 +1,12 @@
 -- The number of a refusal tells it from all others, and is never 0: what an answer leaves tells the answer.
 use mathlib.Core.Path.{_≡_, refl, sym, ap, _∙_}
 use Prim.Native.Nat.{ℕ}
-use native.Mathlib.Omega.{arith}
-use mathlib.Core.Bool.{Bool, true, false}
 use mathlib.Core.List.{List}
 use lib.Dec.{eqb}
 use Rattle.word.specs.Choice.{if_then_else_}
 use Rattle.runner.specs.declared.types.Refusal.{Refusal}
 use Rattle.runner.specs.declared.types.Answer.{Answer}
-use Rattle.runner.specs.Run.{Machine, End, run}
+use Rattle.runner.specs.Run.{End}
 use Rattle.runner.specs.Answer.{refusalNumber, left}
 use Rattle.runner.specs.OneAnswer.{OneAnswer}
 use Rattle.runner.proofs.RunLaws.{refusalNumber-positive}

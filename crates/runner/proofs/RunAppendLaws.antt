@@ -10,7 +10,7 @@ use Rattle.word.specs.Choice.{if_then_else_}
 use Rattle.job.specs.Steps.{Placed, stepsFrom, steps}
 use Rattle.job.proofs.WellCutLaws.{wellCut, steps-of-append}
 use Rattle.runner.specs.Run.{Machine, machine, effectOn, after, End, ended, runSteps, runFrom, jobMost, startRefusal, run}
-use Rattle.runner.specs.RunAppend.{CutAtStep, _followedBy_, RunAppend}
+use Rattle.runner.specs.RunAppend.{_followedBy_, RunAppend}
 use Rattle.runner.proofs.StartLaws.{startRefusal-of-other}
 
 pub followedBy-when-done : (end : End) (next : Machine → End) → end .number ≡ 0 → (end followedBy next) ≡ next (end .machine)

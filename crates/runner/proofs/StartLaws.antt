@@ -1,16 +1,15 @@
 -- Laws of what is refused before the first step: when it is, and that a part of a job is taken where the job is.
-use mathlib.Core.Path.{_≡_, refl, sym, ap, _∙_}
-use Prim.Native.Nat.{ℕ, _<_, _≤_}
+use mathlib.Core.Path.{_≡_, refl}
+use Prim.Native.Nat.{ℕ, _≤_}
 use native.Mathlib.Omega.{arith}
 use mathlib.Core.Bool.{Bool, true, false, not}
 use mathlib.Core.List.{List, [], _∷_}
 use borrow.Author.Tests.{le-leb, eq-eqb, ne-eqb}
-use lib.Dec.{eqb, leb}
 use lib.ListN.{length}
-use Rattle.word.specs.Choice.{if_then_else_, _when_, given}
+use Rattle.word.specs.Choice.{_when_, given}
 use Rattle.file.specs.File.{accepted}
 use Rattle.blit.specs.Refusal.{memorySize}
-use Rattle.runner.specs.Run.{Machine, machine, End, ended, runFrom, jobMost, jobLength, startRules, startRefusal, run}
+use Rattle.runner.specs.Run.{machine, ended, runFrom, jobMost, jobLength, startRefusal, run}
 use Rattle.runner.proofs.RunLaws.{jobLength-when-short}
 
 pub jobLength-is-false : (job : List ℕ) → length job ≤ jobMost → jobLength job ≡ false

@@ -1,5 +1,5 @@
 -- Laws of the table: its first row that applies has the number that the step's effect has.
-use mathlib.Core.Path.{_≡_, refl, sym, ap, _∙_}
+use mathlib.Core.Path.{_≡_, refl}
 use Prim.Native.Nat.{ℕ, _<_}
 use native.Mathlib.Omega.{arith}
 use mathlib.Core.Bool.{Bool, true, false}
@@ -7,9 +7,9 @@ use mathlib.Core.List.{List, [], _∷_}
 use borrow.Author.Tests.{eqb-true}
 use lib.Dec.{eqb, leb}
 use lib.ListN.{length, set}
-use Rattle.word.specs.Choice.{if_then_else_, Rule, _when_, given}
+use Rattle.word.specs.Choice.{if_then_else_, Rule, given}
 use Rattle.blit.specs.Refusal.{stepRefusal}
-use Rattle.blit.specs.Blit.{Outcome, finished, done, refused, answered, blitStep}
+use Rattle.blit.specs.Blit.{finished, done, refused, answered, blitStep}
 use Rattle.job.specs.declared.types.Step.{Step}
 use Rattle.job.specs.declared.types.Read.{Read}
 use Rattle.job.specs.Step.{readNumber}

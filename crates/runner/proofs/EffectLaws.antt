@@ -1,0 +1,114 @@
+-- Laws of a step: what each kind of step leaves, how many words a step stores at most, and that a refused one changes nothing.
+use mathlib.Core.Path.{_≡_, refl}
+use Prim.Native.Nat.{ℕ, _<_, _≤_}
+use native.Mathlib.Omega.{arith}
+use mathlib.Core.Bool.{Bool, true, false}
+use mathlib.Core.List.{List}
+use borrow.Author.Tests.{le-leb, lt-leb}
+use lib.Dec.{eqb, leb}
+use lib.ListN.{length, set}
+use Rattle.word.specs.Choice.{if_then_else_}
+use Rattle.file.specs.File.{kept, flag}
+use Rattle.blit.specs.Refusal as blits
+use Rattle.blit.specs.Blit.{Outcome, finished, done, refused, answered, blitStep}
+use Rattle.blit.specs.Refusal.{stepRefusal}
+use Rattle.blit.specs.Blit as blit
+use Rattle.blit.specs.declared.types.Answer.{Answer}
+use Rattle.blit.specs.declared.types.Refusal.{Refusal}
+use Rattle.blit.proofs.BlitLaws.{blitStep-counts}
+use Rattle.job.specs.declared.types.Step.{Step}
+use Rattle.runner.specs.declared.types.Refusal as reasons
+use Rattle.runner.specs.declared.types.Taken.{Taken}
+use Rattle.runner.specs.Effect.{did, registerEffect, storeEffect, flagEffect, stepEffect}
+use Rattle.runner.specs.Answer.{refusalNumber, leftByStep}
+
+pub registerEffect-of-write : (place value word : ℕ) (memory file next : List ℕ)
+    → word ≡ kept place value → next ≡ set file place word → leftByStep (Taken.Done 0) memory next ≡ registerEffect place value memory file
+unfolding registerEffect
+registerEffect-of-write place value word memory file next keeps writes = rw (writes, keeps)
+
+pub flagEffect-of-write : (value : ℕ) (memory file next : List ℕ)
+    → next ≡ set file flag value → leftByStep (Taken.Done 0) memory next ≡ flagEffect value memory file
+unfolding flagEffect
+flagEffect-of-write value memory file next writes = rw writes
+
+pub storeEffect-when-outside : (to value : ℕ) (memory file : List ℕ) → length memory ≤ to
+    → leftByStep (Taken.Refused reasons.Refusal.LeavesMemory) memory file ≡ storeEffect to value memory file
+unfolding storeEffect refused
+storeEffect-when-outside to value memory file outside = rw (le-leb (length memory) to outside)
+
+pub storeEffect-when-inside : (to value : ℕ) (memory file next : List ℕ) → to < length memory → next ≡ set memory to value
+    → leftByStep (Taken.Done 1) next file ≡ storeEffect to value memory file
+unfolding storeEffect
+storeEffect-when-inside to value memory file next inside writes = rw (lt-leb (length memory) to inside, writes)
+
+-- a blit's answer, as a step's
+pub blitStep-when-done : (size stored : ℕ) (answer : Answer) (memory file next end : List ℕ)
+    → blit.left answer next end ≡ blitStep memory file size → answer ≡ Answer.Done stored
+    → leftByStep (Taken.Done stored) next end ≡ blitStep memory file size
+blitStep-when-done size stored answer memory file next end blits same = rw same at blits
+
+pub blitStep-when-refused : (size : ℕ) (why : Refusal) (reason : reasons.Refusal) (answer : Answer) (memory file next end : List ℕ)
+    → blit.left answer next end ≡ blitStep memory file size → answer ≡ Answer.Refused why → refusalNumber reason ≡ blits.refusalNumber why
+    → leftByStep (Taken.Refused reason) next end ≡ blitStep memory file size
+blitStep-when-refused size why reason answer memory file next end gives same number = rw (number) (rw same at gives)
+
+-- by the step's kind
+module _ (step : Step) (taken : Taken) (memory file next end : List ℕ) where
+  pub stepEffect-of-register : (place value : ℕ) → step ≡ Step.Register place value
+      → leftByStep taken memory end ≡ registerEffect place value memory file → leftByStep taken memory end ≡ stepEffect step memory file
+  unfolding stepEffect
+  stepEffect-of-register place value same gives = rw same gives
+
+  pub stepEffect-of-size : (size : ℕ) → step ≡ Step.Size size
+      → leftByStep taken next end ≡ blitStep memory file size → leftByStep taken next end ≡ stepEffect step memory file
+  unfolding stepEffect
+  stepEffect-of-size size same gives = rw same gives
+
+  pub stepEffect-of-store : (to value : ℕ) → step ≡ Step.Store to value
+      → leftByStep taken next file ≡ storeEffect to value memory file → leftByStep taken next file ≡ stepEffect step memory file
+  unfolding stepEffect
+  stepEffect-of-store to value same gives = rw same gives
+
+  pub stepEffect-of-flag : (value : ℕ) → step ≡ Step.Flag value
+      → leftByStep taken memory end ≡ flagEffect value memory file → leftByStep taken memory end ≡ stepEffect step memory file
+  unfolding stepEffect
+  stepEffect-of-flag value same gives = rw same gives
+
+-- a step stores at most 65,536 words
+pub stepEffect-counts : (step : Step) (memory file : List ℕ) → stepEffect step memory file .stored ≤ 65536
+unfolding stepEffect registerEffect storeEffect flagEffect refused
+stepEffect-counts (Step.Register place value) memory file = omega arith
+stepEffect-counts (Step.Size size) memory file = blitStep-counts memory file size
+stepEffect-counts (Step.Store to value) memory file = by-test (leb (length memory) to)
+  where
+    by-test : (outside : Bool) → (if outside then refused 10 memory file else did 1 (set memory to value) file) .stored ≤ 65536
+    by-test true = omega arith
+    by-test false = omega arith
+stepEffect-counts (Step.Flag value) memory file = omega arith
+
+-- a refused step leaves memory and file
+Stays : (memory file : List ℕ) → Outcome → Type 0
+Stays memory file outcome = (outcome .number ≡ 0 → ⊥) → (outcome .memory ≡ memory) × (outcome .file ≡ file)
+
+blitStep-stays : (memory file : List ℕ) (size : ℕ) → Stays memory file (blitStep memory file size)
+unfolding Stays blitStep answered done refused
+blitStep-stays memory file size = by-test (eqb (stepRefusal (length memory) file size) 0)
+  where
+    by-test : (none : Bool)
+        → Stays memory file
+        (if none then done file (finished memory file size) else refused (stepRefusal (length memory) file size) memory file)
+    by-test true refusal = absurd (refusal refl)
+    by-test false refusal = (refl, refl)
+
+pub stepEffect-stays : (step : Step) (memory file : List ℕ) → (stepEffect step memory file .number ≡ 0 → ⊥)
+    → (stepEffect step memory file .memory ≡ memory) × (stepEffect step memory file .file ≡ file)
+unfolding Stays stepEffect registerEffect storeEffect flagEffect refused
+stepEffect-stays (Step.Register place value) memory file refusal = absurd (refusal refl)
+stepEffect-stays (Step.Size size) memory file refusal = blitStep-stays memory file size refusal
+stepEffect-stays (Step.Store to value) memory file refusal = by-test (leb (length memory) to) refusal
+  where
+    by-test : (outside : Bool) → Stays memory file (if outside then refused 10 memory file else did 1 (set memory to value) file)
+    by-test true refusal = (refl, refl)
+    by-test false refusal = absurd (refusal refl)
+stepEffect-stays (Step.Flag value) memory file refusal = absurd (refusal refl)

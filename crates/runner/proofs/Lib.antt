@@ -1,0 +1,13 @@
+-- The laws of the definitions in specs/, a file for each.
+pub mod EffectLaws
+pub mod RunLaws
+pub mod StartLaws
+pub mod TableLaws
+pub mod RunAppendLaws
+pub mod LengthLaws
+pub mod AnywhereLaws
+pub mod FrontLaws
+pub mod CutLaws
+pub mod RefusedRunStandsLaws
+pub mod EachNumberExactlyLaws
+pub mod OneAnswerLaws

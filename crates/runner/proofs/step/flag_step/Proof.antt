@@ -1,0 +1,17 @@
+-- `runner::step::flag_step` meets its contract: the flag is written to its place.
+use Rattle.runner.proofs.EffectLaws.{flagEffect-of-write}
+use borrow.Author.Needs.{needs}
+use Rattle.runner.proofs.step.flag_step.Statement.{statement}
+use Rattle.runner.proofs.step.flag_step.Tie as tie
+
+write-requires : tie.Need-write-requires
+write-requires c κs = search needs
+
+same-length : tie.Need-same-length
+same-length c = search needs
+
+returns : tie.Need-returns
+returns c = search flagEffect-of-write
+
+pub flag-step-spec : {M : Type 1} → statement M
+flag-step-spec = tie.close (tie.spec write-requires same-length returns)

@@ -1,0 +1,20 @@
+-- `runner::step::store_step` meets its contract: the one test is the definition's.
+use Rattle.runner.proofs.EffectLaws.{storeEffect-when-outside, storeEffect-when-inside}
+use borrow.Author.Needs.{needs}
+use Rattle.runner.proofs.step.store_step.Statement.{statement}
+use Rattle.runner.proofs.step.store_step.Tie as tie
+
+returns : tie.Need-returns
+returns c = search storeEffect-when-outside
+
+write-requires : tie.Need-write-requires
+write-requires c κs = search needs
+
+same-length : tie.Need-same-length
+same-length c = search needs
+
+returns-2 : tie.Need-returns-2
+returns-2 c = search storeEffect-when-inside
+
+pub store-step-spec : {M : Type 1} → statement M
+store-step-spec = tie.close (tie.spec returns write-requires same-length returns-2)

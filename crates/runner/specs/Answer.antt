@@ -1,0 +1,52 @@
+-- Paper 01, "Numbers given back": the paper's number and values for each case of an answer.
+use Prim.Native.Nat.{ℕ}
+use mathlib.Core.List.{List}
+use Rattle.blit.specs.Blit.{Outcome}
+use Rattle.runner.specs.declared.types.Refusal.{Refusal}
+use Rattle.runner.specs.declared.types.Taken.{Taken}
+use Rattle.runner.specs.declared.types.Answer.{Answer}
+use Rattle.runner.specs.Run.{machine, End, ended}
+
+abbrev pub refusalNumber : Refusal → ℕ
+refusalNumber Refusal.MemorySize = 1
+refusalNumber Refusal.RegisterFile = 2
+refusalNumber Refusal.JobLength = 3
+refusalNumber Refusal.NoStep = 4
+refusalNumber Refusal.CutOff = 5
+refusalNumber Refusal.OddStore = 6
+refusalNumber Refusal.NoWords = 13
+refusalNumber Refusal.Line = 7
+refusalNumber Refusal.BothFills = 8
+refusalNumber Refusal.FillUpward = 9
+refusalNumber Refusal.LeavesMemory = 10
+
+-- a step's answer: number and count
+abbrev pub takenNumber : Taken → ℕ
+takenNumber (Taken.Done stored) = 0
+takenNumber (Taken.Refused why) = refusalNumber why
+
+abbrev pub takenStored : Taken → ℕ
+takenStored (Taken.Done stored) = stored
+takenStored (Taken.Refused why) = 0
+
+-- a step's answer, and what memory and file hold as it is given
+abbrev pub leftByStep : Taken → (memory file : List ℕ) → Outcome
+leftByStep taken memory file =
+    record { number = takenNumber taken; stored = takenStored taken; memory = memory; file = file }
+
+-- a run's answer: number, place and count
+abbrev pub answerNumber : Answer → ℕ
+answerNumber (Answer.Done stored) = 0
+answerNumber (Answer.Refused why place stored) = refusalNumber why
+
+abbrev pub answerPlace : Answer → ℕ
+answerPlace (Answer.Done stored) = 0
+answerPlace (Answer.Refused why place stored) = place
+
+abbrev pub answerStored : Answer → ℕ
+answerStored (Answer.Done stored) = stored
+answerStored (Answer.Refused why place stored) = stored
+
+-- an answer, and what memory and file hold as it is given
+abbrev pub left : Answer → (memory file : List ℕ) → End
+left answer memory file = ended (answerNumber answer) (answerPlace answer) (machine memory file (answerStored answer))

@@ -1,0 +1,79 @@
+// One step taken.
+ghost use mathlib.Core.Path.{_≡_};
+ghost use Rattle.blit.specs.Refusal as blits;
+ghost use Rattle.blit.specs.Blit.{blitStep};
+ghost use Rattle.runner.specs.Effect.{registerEffect, storeEffect, flagEffect, stepEffect};
+ghost use Rattle.runner.specs.Answer.{refusalNumber, leftByStep};
+use crate::types::Refusal;
+use crate::types::Taken;
+use job::types::Step;
+
+// The reason of a refused blit, as the runner gives it.
+fn blit_refusal(why: blit::types::Refusal) -> Refusal
+    ensures { λ reason. ⌜ refusalNumber reason ≡ blits.refusalNumber why ⌝ }
+{
+    match why {
+        blit::types::Refusal::MemorySize => Refusal::MemorySize,
+        blit::types::Refusal::RegisterFile => Refusal::RegisterFile,
+        blit::types::Refusal::NoWords => Refusal::NoWords,
+        blit::types::Refusal::Line => Refusal::Line,
+        blit::types::Refusal::BothFills => Refusal::BothFills,
+        blit::types::Refusal::FillUpward => Refusal::FillUpward,
+        blit::types::Refusal::LeavesMemory => Refusal::LeavesMemory,
+    }
+}
+
+fn register_step(ram: &[u16], file: &mut [u16], place: u32, value: u16) -> Taken
+    ensures { λ taken. ⌜
+        leftByStep taken (now (ram .entry)) (now (file .exit))
+        ≡ registerEffect place value (now (ram .entry)) (now (file .entry)) ⌝ }
+{
+    word::memory::write(file, place, file::kept(place, value));
+    Taken::Done(0)
+}
+
+fn size_step(ram: &mut [u16], file: &mut [u16], size: u16) -> Taken
+    ensures { λ taken. ⌜
+        leftByStep taken (now (ram .exit)) (now (file .exit))
+        ≡ blitStep (now (ram .entry)) (now (file .entry)) size ⌝ }
+{
+    match blit::blit_step(ram, file, size) {
+        blit::types::Answer::Done(stored) => Taken::Done(stored),
+        blit::types::Answer::Refused(why) => Taken::Refused(blit_refusal(why)),
+    }
+}
+
+fn store_step(ram: &mut [u16], file: &[u16], to: u32, value: u16) -> Taken
+    ensures { λ taken. ⌜
+        leftByStep taken (now (ram .exit)) (now (file .entry))
+        ≡ storeEffect to value (now (ram .entry)) (now (file .entry)) ⌝ }
+{
+    if ram.len() <= to as usize {
+        return Taken::Refused(Refusal::LeavesMemory);
+    }
+    word::memory::write(ram, to, value);
+    Taken::Done(1)
+}
+
+fn flag_step(ram: &[u16], file: &mut [u16], value: u16) -> Taken
+    ensures { λ taken. ⌜
+        leftByStep taken (now (ram .entry)) (now (file .exit))
+        ≡ flagEffect value (now (ram .entry)) (now (file .entry)) ⌝ }
+{
+    word::memory::write(file, file::FLAG, value);
+    Taken::Done(0)
+}
+
+// Takes a step. A refused one changes nothing.
+pub fn take(ram: &mut [u16], file: &mut [u16], step: Step) -> Taken
+    ensures { λ taken. ⌜
+        leftByStep taken (now (ram .exit)) (now (file .exit))
+        ≡ stepEffect step (now (ram .entry)) (now (file .entry)) ⌝ }
+{
+    match step {
+        Step::Register(place, value) => register_step(ram, file, place, value),
+        Step::Size(size) => size_step(ram, file, size),
+        Step::Store(to, value) => store_step(ram, file, to, value),
+        Step::Flag(value) => flag_step(ram, file, value),
+    }
+}

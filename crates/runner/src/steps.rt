@@ -1,0 +1,41 @@
+// The steps of a job, one after the other.
+ghost use mathlib.Core.Path.{_≡_};
+ghost use Prim.Native.Nat.{_≤_};
+ghost use lib.ListN.{length};
+ghost use Rattle.runner.specs.Run.{machine, runFrom};
+ghost use Rattle.runner.specs.Answer.{left};
+use crate::types::Answer;
+use crate::types::Refusal;
+use crate::types::Taken;
+use job::types::Read;
+
+// Takes the steps in order, to the job's end or to the first refused one.
+pub fn run_steps(ram: &mut [u16], file: &mut [u16], job: &[u16]) -> Answer
+    requires { ⌜ length (now job) ≤ 4096 ⌝ }
+    ensures { λ answer. ⌜
+        left answer (now (ram .exit)) (now (file .exit))
+        ≡ runFrom 0 (now (job .entry)) (machine (now (ram .entry)) (now (file .entry)) 0) ⌝ }
+{
+    let mut at: usize = 0;
+    let mut stored: u32 = 0;
+    while at < job.len() {
+        let read = job::reader::read_at(job, at);
+        match read {
+            Read::Step(step, next) => {
+                let taken = crate::step::take(ram, file, step);
+                match taken {
+                    Taken::Done(count) => {
+                        stored = stored + count;
+                        at = next;
+                    }
+                    Taken::Refused(why) => return Answer::Refused(why, at, stored),
+                }
+            }
+            Read::End => return Answer::Done(stored),
+            Read::NoStep => return Answer::Refused(Refusal::NoStep, at, stored),
+            Read::CutOff => return Answer::Refused(Refusal::CutOff, at, stored),
+            Read::OddStore => return Answer::Refused(Refusal::OddStore, at, stored),
+        }
+    }
+    Answer::Done(stored)
+}

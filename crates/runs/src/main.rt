@@ -1,0 +1,256 @@
+// Runs jobs through the runner and prints what they give and leave: paper 01's "Run and compared" cases,
+// each number but 13, which no size gives, and a job of several blits with stores and flags between.
+// What it must print is written out beside it, from the paper.
+use runner::types::Answer;
+
+// A case's name, and the answer's number, place and count.
+fn show(name: &[u8], answer: Answer) {
+    io::write_all(1, name);
+    io::write_all(1, b": number ");
+    io::print_decimal(1, runner::answer::number(answer) as u64);
+    io::write_all(1, b" place ");
+    io::print_decimal(1, runner::answer::place(answer) as u64);
+    io::write_all(1, b" stored ");
+    io::print_decimal(1, runner::answer::stored(answer) as u64);
+    io::write_all(1, b"\n");
+}
+
+fn show_word(word: u16) {
+    io::write_all(1, b" ");
+    io::print_hex(1, word as u64, 4);
+}
+
+// Words in hex, on a line of their own.
+fn show_words(name: &[u8], words: &[u16]) {
+    io::write_all(1, name);
+    let mut at: usize = 0;
+    while at < words.len() {
+        show_word(words[at]);
+        at = at + 1;
+    }
+    io::write_all(1, b"\n");
+}
+
+// A job on 16 words of memory and a register file that are all zero.
+fn on_zeros(name: &[u8], job: &[u16]) {
+    let mut ram = [0u16; 16];
+    let mut file = [0u16; 20];
+    show(name, runner::run(&mut ram, &mut file, job));
+}
+
+// The same with what is left printed.
+fn on_zeros_whole(name: &[u8], job: &[u16]) {
+    let mut ram = [0u16; 16];
+    let mut file = [0u16; 20];
+    show(name, runner::run(&mut ram, &mut file, job));
+    show_words(b"  memory", &ram);
+    show_words(b"  file", &file);
+}
+
+// "N 262,144 taken, 262,145 refused", with a store to word 262,143.
+fn memory_sizes() {
+    let job = [0x8007u16, 0xFFFE, 0x1234];
+    let mut file = [0u16; 20];
+    let mut none = [0u16; 0];
+    show(b"memory 0", runner::run(&mut none, &mut file, &job));
+    let mut most = [0u16; 262144];
+    show(b"memory 262144", runner::run(&mut most, &mut file, &job));
+    let mut over = [0u16; 262145];
+    show(b"memory 262145", runner::run(&mut over, &mut file, &job));
+}
+
+// A file of 19 words, one with bit 3 of a pointer's high half set, and one with a flag of 2.
+fn files() {
+    let job = [0xC001u16];
+    let mut ram = [0u16; 16];
+    let mut short = [0u16; 19];
+    show(b"file of 19 words", runner::run(&mut ram, &mut short, &job));
+    let mut high = [
+        0u16,
+        0,
+        0,
+        0,
+        0,
+        0,
+        0,
+        0,
+        0,
+        0,
+        0x0008,
+        0,
+        0,
+        0,
+        0,
+        0,
+        0,
+        0,
+        0,
+        0,
+    ];
+    show(
+        b"file with DPTH 0008",
+        runner::run(&mut ram, &mut high, &job),
+    );
+    let mut flag = [
+        0u16,
+        0,
+        0,
+        0,
+        0,
+        0,
+        0,
+        0,
+        0,
+        0,
+        0,
+        0,
+        0,
+        0,
+        0,
+        0,
+        0,
+        0,
+        0,
+        0x0002,
+    ];
+    show(b"file with flag 2", runner::run(&mut ram, &mut flag, &job));
+}
+
+// "job 4,096 taken, 4,097 refused", and the order 1, 2, 3.
+fn job_lengths() {
+    let most = [0xC001u16; 4096];
+    on_zeros(b"job 4096", &most);
+    let over = [0xC001u16; 4097];
+    on_zeros(b"job 4097", &over);
+    let mut none = [0u16; 0];
+    let mut short = [0u16; 19];
+    show(
+        b"memory 0, file of 19, job 4097",
+        runner::run(&mut none, &mut short, &over),
+    );
+    let mut ram = [0u16; 16];
+    show(
+        b"file of 19, job 4097",
+        runner::run(&mut ram, &mut short, &over),
+    );
+}
+
+// Numbers 4 to 10, each after steps that are done.
+fn refused_steps() {
+    on_zeros(b"begins no step", &[0xC001, 0x0041, 0x0000]);
+    on_zeros(b"cut off, and odd", &[0xC001, 0x8000, 0x0001]);
+    on_zeros(b"odd, and at N", &[0xC001, 0x8000, 0x0021, 0x0000]);
+    on_zeros(b"line, both fills", &[0x0042, 0x0019, 0x0058, 0x0041]);
+    on_zeros(b"both fills", &[0x0042, 0x0018, 0x0058, 0x0041]);
+    on_zeros(b"fill upward", &[0x0042, 0x0008, 0x0058, 0x0041]);
+    on_zeros(
+        b"blit touches N",
+        &[0x0040, 0x0100, 0x0056, 0x001E, 0x0058, 0x0042],
+    );
+    on_zeros(
+        b"blit to N - 1",
+        &[0x0040, 0x0100, 0x0056, 0x001E, 0x0058, 0x0041],
+    );
+    on_zeros_whole(
+        b"store at N",
+        &[
+            0x8000,
+            0x001E,
+            0x1111,
+            0x0040,
+            0x2222,
+            0xC001,
+            0x8000,
+            0x0020,
+            0x3333,
+            0xC000,
+        ],
+    );
+}
+
+// A blit of size 0000, which is 1,024 by 64 words, and a store.
+fn largest_blit() {
+    let mut ram = [0u16; 65536];
+    let mut file = [0u16; 20];
+    let job = [0x0040u16, 0x0100, 0x0058, 0x0000, 0x8000, 0x0000, 0x0001];
+    show(
+        b"size 0000 and a store",
+        runner::run(&mut ram, &mut file, &job),
+    );
+}
+
+// Word i of 16 starts as i. Words 0 and 1 are copied to 8 and 9, then 11 and 13 cleared, then word 0 filled into 15,
+// with stores and flags between; some registers are written with bits that they don't keep.
+fn several_blits() {
+    let mut ram = [0u16, 1, 2, 3, 4, 5, 6, 7, 8, 9, 10, 11, 12, 13, 14, 15];
+    let mut file = [0u16; 20];
+    let job = [
+        // a store to word 0
+        0x8000u16,
+        0x0000,
+        0x2418,
+        // A to D, words 0 and 1 to words 8 and 9
+        0x0040,
+        0x09F0,
+        0x0042,
+        0x0000,
+        0x0044,
+        0xFFFF,
+        0x0046,
+        0xFFFF,
+        0x0050,
+        0xFFF8,
+        0x0052,
+        0x0001,
+        0x0054,
+        0x0000,
+        0x0056,
+        0x0011,
+        0x0064,
+        0x0001,
+        0x0066,
+        0x0003,
+        0x0058,
+        0x0042,
+        0xC001,
+        // a store to word 1
+        0x8000,
+        0x0002,
+        0x0F0F,
+        // D alone, cleared, from word 11 on: two rows of a word, a modulo of a word
+        0x0040,
+        0x0100,
+        0x0058,
+        0x0081,
+        0xC000,
+        // A to D descending with inclusive fill, word 0 to word 15
+        0x0040,
+        0x09F0,
+        0x0042,
+        0x000A,
+        0x0052,
+        0x0000,
+        0x0056,
+        0x001E,
+        0x0058,
+        0x0041,
+        // a store to word 3, and the flag
+        0x8000,
+        0x0006,
+        0xBEEF,
+        0xC001,
+    ];
+    show(b"several blits", runner::run(&mut ram, &mut file, &job));
+    show_words(b"  memory", &ram);
+    show_words(b"  file", &file);
+}
+
+fn main() {
+    memory_sizes();
+    files();
+    job_lengths();
+    on_zeros_whole(b"empty job", &[]);
+    refused_steps();
+    largest_blit();
+    several_blits();
+}

@@ -33,7 +33,7 @@ use Rattle.blit.specs.Refusal.{refusal, leavesMemory}
 use Rattle.blit.specs.Blit.{finished, done, answered, blit}
 use Rattle.blit.specs.CopyOfOneRow.{plain, Copies, spot, CopyOfOneRow}
 use Rattle.blit.proofs.TouchLaws.{moves-are-one, moved-lt, leaves-of-append}
-use Rattle.blit.proofs.RefusalLaws.{refusal-of-none, pointerAt-lt}
+use Rattle.blit.proofs.RefusalLaws.{refusal-of-none, leavesMemory-of-d, pointerAt-lt}
 use Rattle.blit.proofs.OnlyDChanges.{words-change-no-other}
 
 -- a word that is no spot of a row isn't touched by it
@@ -130,9 +130,6 @@ spot-inside direction n (suc left) pointer stays j within =
     j within
 
 -- D's row lies inside where a blit of one row is lawful
-used-leaves : (used rest : Bool) → used ≡ true → (used && rest) ≡ false → rest ≡ false
-used-leaves used rest uses stays = rw uses at stays
-
 one-row-inside : (direction : Direction) (n wide modulo rows : ℕ) (pointer : Pointer) → rows ≡ 1
     → leaves n (touches direction wide modulo rows pointer) ≡ false → leaves n (rowTouches direction wide pointer) ≡ false
 unfolding touches
@@ -142,15 +139,8 @@ one-row-inside direction n wide modulo rows pointer one stays =
 
 d-inside : (n size : ℕ) (set : Setup) (at : Pointers) → set .uses .d ≡ true → height size ≡ 1 → leavesMemory n set at size ≡ false
     → leaves n (rowTouches (set .direction) (width size) (at .d)) ≡ false
-unfolding leavesMemory channelLeaves
 d-inside n size set at uses one stays =
-    one-row-inside (set .direction) n (width size) (set .modulos .d) (height size) (at .d) one
-    (used-leaves (set .uses .d) (leaves n (touches (set .direction) (width size) (set .modulos .d) (height size) (at .d))) uses
-    (or-right
-    (channelLeaves n (set .direction) (set .uses .a) (width size) (set .modulos .a) (height size) (at .a)
-    || channelLeaves n (set .direction) (set .uses .b) (width size) (set .modulos .b) (height size) (at .b)
-    || channelLeaves n (set .direction) (set .uses .c) (width size) (set .modulos .c) (height size) (at .c))
-    (channelLeaves n (set .direction) (set .uses .d) (width size) (set .modulos .d) (height size) (at .d)) stays))
+    one-row-inside (set .direction) n (width size) (set .modulos .d) (height size) (at .d) one (leavesMemory-of-d n size set at uses stays)
 
 -- a file that copies has a set-up that copies
 setup-direction : (way : Direction) (file : List ℕ) → con1 file ≡ plain way → setup file .direction ≡ way

@@ -15,13 +15,14 @@ use Rattle.word.specs.declared.types.Pointer.{Pointer}
 use Rattle.word.specs.Choice.{if_then_else_, Rule, _when_, given}
 use Rattle.word.specs.Pointer.{pointerEnd, pointer}
 use Rattle.word.specs.Size.{height, width}
+use Rattle.word.proofs.ChoiceLaws.{or-right}
 use Rattle.word.proofs.SizeLaws.{height-le, width-le, width-positive}
 use Rattle.file.specs.File.{accepted, pointerA, pointerB, pointerC, pointerD}
 use Rattle.area.specs.declared.types.Setup.{Setup}
 use Rattle.area.specs.declared.types.Pointers.{Pointers}
 use Rattle.area.specs.Setup.{con1, line, setup}
 use Rattle.area.specs.Flow.{pointerAt, pointers}
-use Rattle.blit.specs.Touch.{channelLeaves}
+use Rattle.blit.specs.Touch.{touches, leaves, channelLeaves}
 use Rattle.blit.specs.Refusal.{memorySize, noWords, bothFills, fillUpward, leavesMemory, stepRefusal, refusal}
 
 -- the far end tested the other way round
@@ -170,3 +171,25 @@ pub refusal-of-none : (n : ℕ) (file : List ℕ) (size : ℕ) → refusal n fil
 refusal-of-none n file size lawful =
     numbered-of-none (memorySize n) (not (accepted file)) (noWords size) (line (con1 file)) (bothFills (con1 file)) (fillUpward (con1 file))
     (leavesMemory n (setup file) (pointers file) size) (sym (refusal-is-numbered n file size) ∙ lawful)
+
+-- the same of a job's blit
+pub stepRefusal-of-none : (n : ℕ) (file : List ℕ) (size : ℕ) → stepRefusal n file size ≡ 0 → leavesMemory n (setup file) (pointers file) size ≡ false
+unfolding stepRefusal given
+stepRefusal-of-none n file size lawful =
+    numbered-of-none false false (noWords size) (line (con1 file)) (bothFills (con1 file)) (fillUpward (con1 file))
+    (leavesMemory n (setup file) (pointers file) size) lawful
+
+used-stays : (used rest : Bool) → used ≡ true → (used && rest) ≡ false → rest ≡ false
+used-stays used rest uses stays = rw uses at stays
+
+-- then D, if it is used, stays inside
+pub leavesMemory-of-d : (n size : ℕ) (set : Setup) (at : Pointers) → set .uses .d ≡ true → leavesMemory n set at size ≡ false
+    → leaves n (touches (set .direction) (width size) (set .modulos .d) (height size) (at .d)) ≡ false
+unfolding leavesMemory channelLeaves
+leavesMemory-of-d n size set at uses stays =
+    used-stays (set .uses .d) (leaves n (touches (set .direction) (width size) (set .modulos .d) (height size) (at .d))) uses
+    (or-right
+    (channelLeaves n (set .direction) (set .uses .a) (width size) (set .modulos .a) (height size) (at .a)
+    || channelLeaves n (set .direction) (set .uses .b) (width size) (set .modulos .b) (height size) (at .b)
+    || channelLeaves n (set .direction) (set .uses .c) (width size) (set .modulos .c) (height size) (at .c))
+    (channelLeaves n (set .direction) (set .uses .d) (width size) (set .modulos .d) (height size) (at .d)) stays)

@@ -1,0 +1,5 @@
+-- The laws of a settled blit's words.
+pub mod StoreLaws
+pub mod OnlyDLaws
+pub mod RunLaws
+pub mod SettledLaws

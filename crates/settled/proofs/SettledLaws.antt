@@ -1,0 +1,68 @@
+-- A settled blit's words, run, leave what the blit leaves.
+use mathlib.Core.Path.{_≡_, refl, sym, ap, ap₂, _∙_}
+use Prim.Native.Nat.{ℕ, _+_, _*_, _<_}
+use mathlib.Core.Bool.{Bool, true, false}
+use mathlib.Core.List.{List, [], _∷_, _++_}
+use lib.Dec.{eqb}
+use lib.ListN.{length, set}
+use native.Mathlib.Nat.{zero-add}
+use Rattle.word.specs.declared.types.Pointer.{Pointer}
+use Rattle.word.specs.Choice.{if_then_else_}
+use Rattle.word.specs.Pointer.{high, low}
+use Rattle.word.specs.Size.{height, width}
+use Rattle.file.specs.File.{pointerA, pointerB, pointerC, pointerD, sourceA, sourceB, sourceC, flag}
+use Rattle.area.specs.declared.types.Uses.{Uses}
+use Rattle.area.specs.declared.types.Pointers.{Pointers}
+use Rattle.area.specs.declared.types.Sources.{Sources}
+use Rattle.area.specs.declared.types.Flow.{Flow}
+use Rattle.area.specs.Setup.{setup}
+use Rattle.area.specs.Flow.{State, state, pointers, start}
+use Rattle.area.specs.Rows.{rows}
+use Rattle.blit.specs.Refusal.{stepRefusal}
+use Rattle.blit.specs.Blit.{Outcome, putPointer, putPointers, putSource, putSources, putFlag, finished, done, answered, blitStep}
+use Rattle.blit.proofs.RefusalLaws.{stepRefusal-of-none, leavesMemory-of-d, pointerAt-lt}
+use Rattle.runner.specs.Run.{Machine, machine, after, End, ended, runFrom}
+use Rattle.settled.specs.Words.{pointerWords, flagWords, blitStores, settledEnd, settledWords}
+use Rattle.settled.proofs.StoreLaws.{run-of-end}
+use Rattle.settled.proofs.OnlyDLaws.{OnlyD, rows-of-empty, rows-count-all}
+use Rattle.settled.proofs.RunLaws.{afterRows, run-of-rows}
+
+-- what a blit that uses D alone writes back: D's pointer
+putPointer-of-unused : (used : Bool) (place : ℕ) (pointer : Pointer) (file : List ℕ) → used ≡ false → putPointer used place pointer file ≡ file
+unfolding putPointer
+putPointer-of-unused used place pointer file idle = rw idle
+
+putPointer-of-used : (used : Bool) (place : ℕ) (pointer : Pointer) (file : List ℕ) → used ≡ true
+    → putPointer used place pointer file ≡ set (set file place (high pointer)) (place + 1) (low pointer)
+unfolding putPointer
+putPointer-of-used used place pointer file uses = rw uses
+
+putSource-of-unused : (used : Bool) (place word : ℕ) (file : List ℕ) → used ≡ false → putSource used place word file ≡ file
+unfolding putSource
+putSource-of-unused used place word file idle = rw idle
+
+written-back : (uses : Uses) (at : Pointers) (given : Sources) (file : List ℕ) → OnlyD uses
+    → putSources uses given (putPointers uses at file) ≡ set (set file pointerD (high (at .d))) (pointerD + 1) (low (at .d))
+unfolding putSources putPointers
+written-back uses at given file only =
+    putSource-of-unused (uses .c) sourceC (given .c) _ (only .c)
+    ∙ putSource-of-unused (uses .b) sourceB (given .b) _ (only .b)
+    ∙ putSource-of-unused (uses .a) sourceA (given .a) _ (only .a)
+    ∙ putPointer-of-used (uses .d) pointerD (at .d) _ (only .d)
+    ∙ ap (λ (rest : List ℕ). set (set rest pointerD (high (at .d))) (pointerD + 1) (low (at .d)))
+    (putPointer-of-unused (uses .c) pointerC (at .c) _ (only .c)
+    ∙ putPointer-of-unused (uses .b) pointerB (at .b) _ (only .b)
+    ∙ putPointer-of-unused (uses .a) pointerA (at .a) file (only .a))
+
+blitStep-of-lawful : (memory file : List ℕ) (size : ℕ) → stepRefusal (length memory) file size ≡ 0
+    → blitStep memory file size ≡ done file (finished memory file size)
+unfolding blitStep answered
+blitStep-of-lawful memory file size lawful = rw lawful
+
+-- a settled blit's words, made of the very file they are run on
+pub settledWords-run : (at size : ℕ) (memory file : List ℕ) (stored : ℕ)
+    → OnlyD (setup file .uses) → stepRefusal (length memory) file size ≡ 0
+    → runFrom at (settledWords file size) (machine memory file stored)
+    ≡ ended 0 0 (after (machine memory file stored) (blitStep memory file size))
+unfolding settledWords settledEnd
+settledWords-run at size memory file stored only lawful = ?

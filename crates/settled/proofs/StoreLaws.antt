@@ -1,0 +1,95 @@
+-- Laws of store steps: what the words of a store, a pointer and a flag do when they are run.
+use mathlib.Core.Path.{_≡_, refl, sym, ap, _∙_}
+use Prim.Native.Nat.{ℕ, zero, suc, _+_, _*_, _/_, _%_, _<_, _≤_}
+use native.Mathlib.Nat.{add-zero, mod-eq-of-lt}
+use native.Mathlib.Omega.{arith}
+use mathlib.Core.Bool.{Bool, true, false}
+use mathlib.Core.List.{List, [], _∷_, _++_}
+use borrow.Author.Tests.{ne-eqb, lt-leb}
+use lib.Dec.{eqb, leb}
+use lib.Bits.{and-mask, and-high}
+use lib.ListN.{length, set}
+use Rattle.word.specs.declared.types.Pointer.{Pointer}
+use Rattle.word.specs.Choice.{if_then_else_}
+use Rattle.word.specs.Pointer.{pointerEnd, pointer, high, low}
+use Rattle.file.specs.File.{registers, placeIn, place, isRegister, keptBits, kept, pointerD, flag}
+use Rattle.blit.specs.Blit.{refused}
+use Rattle.job.specs.declared.types.Kind.{Kind}
+use Rattle.job.specs.declared.types.Step.{Step}
+use Rattle.job.specs.declared.types.Read.{Read}
+use Rattle.job.specs.Kind.{kind}
+use Rattle.job.specs.Step.{operands, found, isOdd, begun, front}
+use Rattle.job.specs.Steps.{following, stepsFrom}
+use Rattle.runner.specs.Effect.{did, registerEffect, storeEffect, flagEffect, stepEffect, effect}
+use Rattle.runner.specs.Run.{Machine, machine, End, ended, runSteps, runFrom}
+use Rattle.settled.specs.Words.{storeWords, pointerWords, flagWords}
+
+kind-of-store : (half : ℕ) → half < 8 → kind (0x8000 + half) ≡ Kind.Store half
+unfolding kind isRegister place placeIn registers
+kind-of-store zero small = refl
+kind-of-store (suc zero) small = refl
+kind-of-store (suc (suc zero)) small = refl
+kind-of-store (suc (suc (suc zero))) small = refl
+kind-of-store (suc (suc (suc (suc zero)))) small = refl
+kind-of-store (suc (suc (suc (suc (suc zero))))) small = refl
+kind-of-store (suc (suc (suc (suc (suc (suc zero)))))) small = refl
+kind-of-store (suc (suc (suc (suc (suc (suc (suc zero))))))) small = refl
+kind-of-store (suc (suc (suc (suc (suc (suc (suc (suc half)))))))) small = absurd (omega arith)
+
+-- the halves of a pointer make the pointer
+pub pointer-of-halves : (to : Pointer) → to .word < pointerEnd → pointer (high to) (low to) .word ≡ to .word
+unfolding pointer
+pointer-of-halves to small = omega arith
+
+-- what stands at the front of a store's words
+front-of-store : (at value : ℕ) (to : Pointer) (more : List ℕ) → to .word < pointerEnd
+    → front at ((0x8000 + high to) ∷ low to ∷ value ∷ more) ≡ found at (Step.Store (to .word) value)
+unfolding front begun
+front-of-store at value to more small =
+    rw (kind-of-store (high to) (omega arith), ne-eqb (low to % 2) 1 (λ odd. omega arith), pointer-of-halves to small)
+
+-- a store in memory, and the run after it
+pub run-of-store : (at value : ℕ) (to : Pointer) (more memory file : List ℕ) (stored : ℕ)
+    → to .word < pointerEnd → to .word < length memory
+    → runFrom at (storeWords to value ++ more) (machine memory file stored)
+    ≡ runFrom (at + 1 + 1 + 1) more (machine (set memory (to .word) value) file (stored + 1))
+unfolding stepsFrom runSteps found following operands effect stepEffect storeEffect
+run-of-store at value to more memory file stored small inside =
+    rw (front-of-store at value to more small, lt-leb (length memory) (to .word) inside)
+
+-- what the kept bits of a pointer's halves are: the halves
+kept-of-high : (to : Pointer) → kept pointerD (high to) ≡ high to
+unfolding kept keptBits registers
+kept-of-high to = and-mask (high to) 3 ∙ mod-eq-of-lt (omega arith)
+
+kept-of-low : (to : Pointer) → kept (pointerD + 1) (low to) ≡ low to
+unfolding kept keptBits registers
+kept-of-low to = and-high (low to) 15 1 ∙ half-twice (to .word % 32768) (omega arith)
+  where
+    half-twice : (n : ℕ) → n < 32768 → n * 2 / 2 % 32768 * 2 ≡ n * 2
+    half-twice n small = omega arith
+
+front-of-high : (at value : ℕ) (more : List ℕ) → front at (0x0054 ∷ value ∷ more) ≡ found at (Step.Register pointerD value)
+unfolding front begun kind isRegister place placeIn registers
+front-of-high at value more = refl
+
+front-of-low : (at value : ℕ) (more : List ℕ) → front at (0x0056 ∷ value ∷ more) ≡ found at (Step.Register (pointerD + 1) value)
+unfolding front begun kind isRegister place placeIn registers
+front-of-low at value more = refl
+
+front-of-flag : (at : ℕ) (allzero : Bool) (more : List ℕ)
+    → front at ((if allzero then 0xC001 else 0xC000) ∷ more) ≡ found at (Step.Flag (if allzero then 1 else 0))
+unfolding front begun kind isRegister place placeIn registers
+front-of-flag at true more = refl
+front-of-flag at false more = refl
+
+-- the end of a settled blit's words: D's pointer and the flag
+pub run-of-end : (at : ℕ) (to : Pointer) (allzero : Bool) (memory file : List ℕ) (stored : ℕ)
+    → runFrom at (pointerWords to ++ flagWords allzero) (machine memory file stored)
+    ≡ ended 0 0 (machine memory (set (set (set file pointerD (high to)) (pointerD + 1) (low to)) flag (if allzero then 1 else 0)) stored)
+unfolding stepsFrom runSteps found following operands effect stepEffect registerEffect flagEffect
+run-of-end at to allzero memory file stored =
+    rw (front-of-high at (high to) (0x0056 ∷ low to ∷ (if allzero then 0xC001 else 0xC000) ∷ []))
+    (rw (front-of-low (at + 1 + 1) (low to) ((if allzero then 0xC001 else 0xC000) ∷ []))
+    (rw (front-of-flag (at + 1 + 1 + 1 + 1) allzero [])
+    (rw (kept-of-high to, kept-of-low to, add-zero, add-zero, add-zero))))

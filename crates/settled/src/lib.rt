@@ -1,0 +1,1 @@
+// The words that a settled blit becomes.

@@ -250,6 +250,7 @@ fn main() {
     files();
     job_lengths();
     on_zeros_whole(b"empty job", &[]);
+    on_zeros_whole(b"flag set and cleared", &[0xC001, 0xC000]);
     refused_steps();
     largest_blit();
     several_blits();

@@ -59,10 +59,30 @@ blitStep-of-lawful : (memory file : List ℕ) (size : ℕ) → stepRefusal (leng
 unfolding blitStep answered
 blitStep-of-lawful memory file size lawful = rw lawful
 
+-- the machine after a blit that uses D alone
+after-done : (memory file : List ℕ) (stored count : ℕ) (end : State) → OnlyD (setup file .uses) → end .flow .stored ≡ count
+    → ended 0 0 (after (machine memory file stored) (done file end))
+    ≡ ended 0 0 (machine (end .memory) (set (set (set file pointerD (high (end .flow .pointers .d))) (pointerD + 1) (low (end .flow .pointers .d))) flag (if end .flow .allzero then 1 else 0)) (stored + count))
+unfolding done putFlag
+after-done memory file stored count end only counts =
+    rw (counts, written-back (setup file .uses) (end .flow .pointers) (end .flow .sources) file only)
+
 -- a settled blit's words, made of the very file they are run on
 pub settledWords-run : (at size : ℕ) (memory file : List ℕ) (stored : ℕ)
     → OnlyD (setup file .uses) → stepRefusal (length memory) file size ≡ 0
     → runFrom at (settledWords file size) (machine memory file stored)
     ≡ ended 0 0 (after (machine memory file stored) (blitStep memory file size))
-unfolding settledWords settledEnd
-settledWords-run at size memory file stored only lawful = ?
+unfolding settledWords settledEnd start pointers finished
+settledWords-run at size memory file stored only lawful =
+    let end : State = finished memory file size in
+    let ends : rows (setup file) (width size) (height size) (state [] (start file)) ≡ state [] (end .flow) =
+    rows-of-empty (setup file) only (width size) (height size) memory (start file) in
+    let counts : end .flow .stored ≡ height size * width size =
+    rows-count-all (setup file) only (width size) (height size) (state memory (start file)) ∙ zero-add (height size * width size) in
+    let stays = leavesMemory-of-d (length memory) size (setup file) (pointers file) (only .d) (stepRefusal-of-none (length memory) file size lawful) in
+    ap (λ (last : State). runFrom at (blitStores (setup file) (width size) (height size) (state [] (start file)) ++ (pointerWords (last .flow .pointers .d) ++ flagWords (last .flow .allzero))) (machine memory file stored)) ends
+    ∙ run-of-rows (setup file) only (width size) (height size) at (start file) (pointerWords (end .flow .pointers .d) ++ flagWords (end .flow .allzero)) memory file stored
+    (pointerAt-lt file pointerD) stays
+    ∙ run-of-end (afterRows (width size) (height size) at) (end .flow .pointers .d) (end .flow .allzero) (end .memory) file (stored + height size * width size)
+    ∙ sym (ap (λ (outcome : Outcome). ended 0 0 (after (machine memory file stored) outcome)) (blitStep-of-lawful memory file size lawful)
+    ∙ after-done memory file stored (height size * width size) end only counts)

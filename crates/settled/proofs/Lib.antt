@@ -2,4 +2,5 @@
 pub mod StoreLaws
 pub mod OnlyDLaws
 pub mod RunLaws
+pub mod AlikeLaws
 pub mod SettledLaws

@@ -7,7 +7,7 @@ use native.Mathlib.Omega.{arith}
 use mathlib.Core.Bool.{Bool, true, false, not, _||_}
 use borrow.Author.Tests.{eqb-true, not-false}
 use lib.Dec.{T, eqb, eqb→eq}
-use lib.Bits.{bitXor, xor-lt}
+use lib.Bits.{xor-lt}
 use Rattle.word.specs.Choice.{if_then_else_, every}
 use Rattle.word.specs.Word.{bit}
 use Rattle.word.specs.Logic.{logic}

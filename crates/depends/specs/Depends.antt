@@ -3,7 +3,7 @@
 -- A setting of the sources is 4a + 2b + c, and the answer there is that bit of the function.
 -- A source is named by its weight in the setting: 4 for A, 2 for B, 1 for C.
 use Prim.Native.Nat.{ℕ, zero, suc, _+_}
-use mathlib.Core.Bool.{Bool, true, false, not, _||_}
+use mathlib.Core.Bool.{Bool, false, not, _||_}
 use lib.Dec.{eqb}
 use lib.Bits.{bitXor}
 use Rattle.word.specs.Choice.{if_then_else_}

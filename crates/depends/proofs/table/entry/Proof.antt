@@ -2,7 +2,7 @@
 use Prim.Native.Nat.{_%_}
 use native.Mathlib.Omega.{arith}
 use Rattle.depends.specs.Depends.{changes, counts, entry}
-use Rattle.depends.proofs.TableLaws.{values, values-at}
+use Rattle.depends.proofs.TableLaws.{values-at}
 use borrow.Author.Needs.{needs}
 use Rattle.depends.proofs.table.entry.Statement.{statement}
 use Rattle.depends.proofs.table.entry.Tie as tie

@@ -1,0 +1,3 @@
+-- What a reader must believe of the folder's knowledge.
+pub mod Known
+pub mod Knowledge

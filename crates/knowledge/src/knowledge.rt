@@ -1,0 +1,128 @@
+// The knowledge of the 19 registers, by their places in the register file.
+ghost use mathlib.Core.Path.{_≡_};
+ghost use lib.ListN.{getD, set};
+ghost use Rattle.knowledge.specs.declared.types.Known.the-variants.{Unknown};
+ghost use Rattle.knowledge.specs.Knowledge.{listed, nothing, numbers};
+use crate::types::Controls;
+use crate::types::Halves;
+use crate::types::Knowledge;
+use crate::types::Known;
+use crate::types::Modulos;
+use crate::types::Pointers;
+use crate::types::Sources;
+
+// At the start no register is known.
+pub fn nothing() -> Knowledge
+    ensures { λ start. ⌜ listed start ≡ nothing ⌝ }
+{
+    let unknown = Known::Unknown;
+    let halves = Halves {
+        high: unknown,
+        low: unknown,
+    };
+    let controls = Controls {
+        con0: unknown,
+        con1: unknown,
+        afwm: unknown,
+        alwm: unknown,
+    };
+    let pointers = Pointers {
+        c: halves,
+        b: halves,
+        a: halves,
+        d: halves,
+    };
+    let modulos = Modulos {
+        c: unknown,
+        b: unknown,
+        a: unknown,
+        d: unknown,
+    };
+    let sources = Sources {
+        c: unknown,
+        b: unknown,
+        a: unknown,
+    };
+    Knowledge {
+        controls: controls,
+        pointers: pointers,
+        modulos: modulos,
+        sources: sources,
+    }
+}
+
+impl Knowledge {
+    // What is known of the register at a place of the file; of the flag and past the file's end, nothing.
+    pub fn at(self, place: u32) -> Known
+        ensures { λ known. ⌜ known ≡ getD (listed self) place Unknown ⌝ }
+    {
+        let controls = self.controls;
+        let pointers = self.pointers;
+        let modulos = self.modulos;
+        let sources = self.sources;
+        if place < 4 {
+            return controls.at(place);
+        }
+        if place < 12 {
+            return pointers.at(place - 4);
+        }
+        if place < 16 {
+            return modulos.at(place - 12);
+        }
+        sources.at(place - 16)
+    }
+
+    // The knowledge with one register replaced. A write makes it known, and what makes it not known replaces it by Unknown.
+    pub fn with(self, place: u32, known: Known) -> Knowledge
+        ensures { λ after. ⌜ listed after ≡ set (listed self) place known ⌝ }
+    {
+        let controls = self.controls;
+        let pointers = self.pointers;
+        let modulos = self.modulos;
+        let sources = self.sources;
+        if place < 4 {
+            return Knowledge {
+                controls: controls.with(place, known),
+                pointers: pointers,
+                modulos: modulos,
+                sources: sources,
+            };
+        }
+        if place < 12 {
+            return Knowledge {
+                controls: controls,
+                pointers: pointers.with(place - 4, known),
+                modulos: modulos,
+                sources: sources,
+            };
+        }
+        if place < 16 {
+            return Knowledge {
+                controls: controls,
+                pointers: pointers,
+                modulos: modulos.with(place - 12, known),
+                sources: sources,
+            };
+        }
+        Knowledge {
+            controls: controls,
+            pointers: pointers,
+            modulos: modulos,
+            sources: sources.with(place - 16, known),
+        }
+    }
+
+    // The register file that holds the known numbers, and 0 everywhere else.
+    pub fn numbers(self) -> [u16; 20]
+        ensures { λ file. ⌜ file ≡ numbers (listed self) ⌝ }
+    {
+        let mut file: [u16; 20] = [0; 20];
+        let mut left: u32 = 19;
+        while 0 < left {
+            let known = self.at(left - 1);
+            file[(left - 1) as usize] = known.number();
+            left = left - 1;
+        }
+        file
+    }
+}

@@ -3,4 +3,5 @@ pub mod StoreLaws
 pub mod OnlyDLaws
 pub mod RunLaws
 pub mod AlikeLaws
+pub mod AgreeLaws
 pub mod SettledLaws

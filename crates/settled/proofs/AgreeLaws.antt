@@ -1,0 +1,126 @@
+-- Two register files that agree on what a settled blit depends on are refused alike, and become the same words.
+use mathlib.Core.Path.{_≡_, refl, sym, ap, ap₂, _∙_}
+use Prim.Native.Nat.{ℕ, _+_}
+use mathlib.Core.Bool.{Bool, true, false, _&&_, _||_}
+use mathlib.Core.List.{List, [], _++_}
+use lib.ListN.{getD}
+use Rattle.word.specs.declared.types.Direction.{Direction}
+use Rattle.word.specs.declared.types.Pointer.{Pointer}
+use Rattle.word.specs.Choice.{if_then_else_, given}
+use Rattle.word.specs.Pointer.{pointer, half}
+use Rattle.word.specs.Size.{height, width}
+use Rattle.file.specs.File.{firstMask, lastMask, pointerD, moduloD, sourceA, sourceB, sourceC}
+use Rattle.area.specs.declared.types.Uses.{Uses}
+use Rattle.area.specs.declared.types.Masks.{Masks}
+use Rattle.area.specs.declared.types.Setup.{Setup}
+use Rattle.area.specs.declared.types.Pointers.{Pointers}
+use Rattle.area.specs.Setup.{con0, con1, uses, function, shifts, carryIn, line, direction, fill, masks, modulos, setup}
+use Rattle.area.specs.Flow.{State, state, pointerAt, pointers, sources, start}
+use Rattle.area.specs.Rows.{rows}
+use Rattle.blit.specs.Touch.{touches, leaves, channelLeaves}
+use Rattle.blit.specs.Refusal.{noWords, bothFills, fillUpward, leavesMemory, stepRefusal}
+use Rattle.blit.proofs.RefusalLaws.{numbered}
+use Rattle.depends.specs.Depends.{counts}
+use Rattle.settled.specs.Words.{pointerWords, flagWords, blitStores, settledEnd, settledWords}
+use Rattle.settled.proofs.OnlyDLaws.{OnlyD}
+use Rattle.settled.proofs.AlikeLaws.{AlikeSetup, AlikeFlow, blitStores-alike, rows-alike}
+
+pub record Agree (this other : List ℕ) : Type 0 where
+  pub control0 : con0 this ≡ con0 other
+  pub control1 : con1 this ≡ con1 other
+  pub high : getD this pointerD 0 ≡ getD other pointerD 0
+  pub low : getD this (pointerD + 1) 0 ≡ getD other (pointerD + 1) 0
+  pub modulo : getD this moduloD 0 ≡ getD other moduloD 0
+  pub first : counts (function (con0 this)) 4 ≡ true → getD this firstMask 0 ≡ getD other firstMask 0
+  pub last : counts (function (con0 this)) 4 ≡ true → getD this lastMask 0 ≡ getD other lastMask 0
+  pub a : counts (function (con0 this)) 4 ≡ true → getD this sourceA 0 ≡ getD other sourceA 0
+  pub b : counts (function (con0 this)) 2 ≡ true → getD this sourceB 0 ≡ getD other sourceB 0
+  pub c : counts (function (con0 this)) 1 ≡ true → getD this sourceC 0 ≡ getD other sourceC 0
+
+-- tests of four channels of which the last alone is used
+last-alone : (a b c d x y z w : Bool) → a ≡ false → b ≡ false → c ≡ false → d ≡ true
+    → (a && x || b && y || c && z || d && w) ≡ w
+last-alone a b c d x y z w no-a no-b no-c yes-d = rw (no-a, no-b, no-c, yes-d)
+
+leavesMemory-of-only-d : (n : ℕ) (set : Setup) (at : Pointers) (size : ℕ) → OnlyD (set .uses)
+    → leavesMemory n set at size ≡ leaves n (touches (set .direction) (width size) (set .modulos .d) (height size) (at .d))
+unfolding leavesMemory channelLeaves
+leavesMemory-of-only-d n set at size only =
+    last-alone (set .uses .a) (set .uses .b) (set .uses .c) (set .uses .d) _ _ _ _ (only .a) (only .b) (only .c) (only .d)
+
+touches-alike : (n wide tall : ℕ) (way way′ : Direction) (modulo modulo′ : ℕ) (at at′ : Pointer) → way ≡ way′ → modulo ≡ modulo′ → at ≡ at′
+    → leaves n (touches way wide modulo tall at) ≡ leaves n (touches way′ wide modulo′ tall at′)
+touches-alike n wide tall way way′ modulo modulo′ at at′ same by from = rw (same, by, from)
+
+module _ (this other : List ℕ) (agree : Agree this other) where
+  setup-alike : AlikeSetup (setup this) (setup other)
+  unfolding setup masks modulos
+  setup-alike =
+      record {
+        uses = ap uses (agree .control0);
+        direction = ap direction (agree .control1);
+        function = ap function (agree .control0);
+        shifts = ap₂ shifts (agree .control0) (agree .control1);
+        fill = ap fill (agree .control1);
+        carry = ap carryIn (agree .control1);
+        modulo = ap half (agree .modulo);
+        masks = λ counted. ap₂ (λ (first last : ℕ). record { first = first; last = last }) (agree .first counted) (agree .last counted);
+      }
+
+  pointer-alike : pointerAt this pointerD ≡ pointerAt other pointerD
+  unfolding pointerAt
+  pointer-alike = ap₂ pointer (agree .high) (agree .low)
+
+  pointers-alike : pointers this .d ≡ pointers other .d
+  unfolding pointers
+  pointers-alike = pointer-alike
+
+  start-alike : AlikeFlow (function (con0 this)) (start this) (start other)
+  unfolding start pointers sources
+  start-alike =
+      record {
+        d = pointer-alike;
+        carry = refl;
+        allzero = refl;
+        a = agree .a;
+        earlier-a = λ counted. refl;
+        b = agree .b;
+        earlier-b = λ counted. refl;
+        c = agree .c;
+      }
+
+  pub uses-alike : OnlyD (setup this .uses) → OnlyD (setup other .uses)
+  unfolding setup
+  uses-alike only =
+      let same : uses (con0 this) ≡ uses (con0 other) = ap uses (agree .control0) in
+      record {
+        a = sym (ap (λ (used : Uses). used .a) same) ∙ only .a;
+        b = sym (ap (λ (used : Uses). used .b) same) ∙ only .b;
+        c = sym (ap (λ (used : Uses). used .c) same) ∙ only .c;
+        d = sym (ap (λ (used : Uses). used .d) same) ∙ only .d;
+      }
+
+  pub stepRefusal-alike : (n size : ℕ) → OnlyD (setup this .uses) → stepRefusal n this size ≡ stepRefusal n other size
+  unfolding stepRefusal given
+  stepRefusal-alike n size only =
+      ap₂ (λ (control : ℕ) (leaving : Bool). numbered false false (noWords size) (line control) (bothFills control) (fillUpward control) leaving)
+      (agree .control1)
+      (leavesMemory-of-only-d n (setup this) (pointers this) size only
+      ∙ touches-alike n (width size) (height size) (setup this .direction) (setup other .direction) (setup this .modulos .d) (setup other .modulos .d) (pointers this .d) (pointers other .d)
+      (setup-alike .direction) (setup-alike .modulo) pointers-alike
+      ∙ sym (leavesMemory-of-only-d n (setup other) (pointers other) size (uses-alike only)))
+
+  end-alike : (size : ℕ) → OnlyD (setup this .uses) → AlikeFlow (function (con0 this)) (settledEnd this size .flow) (settledEnd other size .flow)
+  unfolding settledEnd setup
+  end-alike size only =
+      rows-alike (setup this) (setup other) setup-alike only (uses-alike only) (width size) (height size) (start this) (start other) start-alike
+
+  pub settledEnd-alike : (size : ℕ) → OnlyD (setup this .uses) → settledEnd this size .flow .pointers .d ≡ settledEnd other size .flow .pointers .d
+  settledEnd-alike size only = end-alike size only .d
+
+  pub settledWords-alike : (size : ℕ) → OnlyD (setup this .uses) → settledWords this size ≡ settledWords other size
+  unfolding settledWords setup
+  settledWords-alike size only =
+      ap₂ (λ (stores rest : List ℕ). stores ++ rest)
+      (blitStores-alike (setup this) (setup other) setup-alike only (uses-alike only) (width size) (height size) (start this) (start other) start-alike)
+      (ap₂ (λ (at : Pointer) (allzero : Bool). pointerWords at ++ flagWords allzero) (end-alike size only .d) (end-alike size only .allzero))

@@ -41,9 +41,11 @@ logic-alike f a a′ b b′ c c′ same-a same-b same-c = by-a (counts f 4) refl
     by-a : (count : Bool) → counts f 4 ≡ count → logic f a b c ≡ logic f a′ b c
     by-a true counted = ap (λ (x : ℕ). logic f x b c) (same-a counted)
     by-a false free = logic-without-a f a a′ b c free
+
     by-b : (count : Bool) → counts f 2 ≡ count → logic f a′ b c ≡ logic f a′ b′ c
     by-b true counted = ap (λ (x : ℕ). logic f a′ x c) (same-b counted)
     by-b false free = logic-without-b f a′ b b′ c free
+
     by-c : (count : Bool) → counts f 1 ≡ count → logic f a′ b′ c ≡ logic f a′ b′ c′
     by-c true counted = ap (logic f a′ b′) (same-c counted)
     by-c false free = logic-without-c f a′ b′ c c′ free

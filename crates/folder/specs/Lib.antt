@@ -1,0 +1,5 @@
+-- What a reader must believe of a folding, in the order of paper 01; then what is proved of it.
+pub mod Learn
+pub mod Settled
+pub mod Fold
+pub mod Folding

@@ -2,7 +2,7 @@
 use mathlib.Core.Path.{_≡_, refl, sym, ap, ap₂, _∙_}
 use Prim.Native.Nat.{ℕ, _+_, _*_, _<_}
 use mathlib.Core.Bool.{Bool, true, false}
-use mathlib.Core.List.{List, [], _∷_, _++_}
+use mathlib.Core.List.{List, [], _∷_, _++_, append-assoc}
 use lib.Dec.{eqb}
 use lib.ListN.{length, set}
 use native.Mathlib.Nat.{zero-add}
@@ -61,28 +61,54 @@ blitStep-of-lawful memory file size lawful = rw lawful
 
 -- the machine after a blit that uses D alone
 after-done : (memory file : List ℕ) (stored count : ℕ) (end : State) → OnlyD (setup file .uses) → end .flow .stored ≡ count
-    → ended 0 0 (after (machine memory file stored) (done file end))
-    ≡ ended 0 0 (machine (end .memory) (set (set (set file pointerD (high (end .flow .pointers .d))) (pointerD + 1) (low (end .flow .pointers .d))) flag (if end .flow .allzero then 1 else 0)) (stored + count))
+    → after (machine memory file stored) (done file end)
+    ≡ (machine (end .memory) (set (set (set file pointerD (high (end .flow .pointers .d))) (pointerD + 1) (low (end .flow .pointers .d))) flag (if end .flow .allzero then 1 else 0)) (stored + count))
 unfolding done putFlag
 after-done memory file stored count end only counts =
     rw (counts, written-back (setup file .uses) (end .flow .pointers) (end .flow .sources) file only)
 
--- a settled blit's words, made of the very file they are run on
-pub settledWords-run : (at size : ℕ) (memory file : List ℕ) (stored : ℕ)
+-- the place after a settled blit's words
+pub afterSettled : (at size : ℕ) → ℕ
+afterSettled at size = afterRows (width size) (height size) at + 1 + 1 + 1 + 1 + 1
+
+-- a settled blit's words, made of the very file they are run on, and the run after them
+pub settledWords-run : (at size : ℕ) (more memory file : List ℕ) (stored : ℕ)
     → OnlyD (setup file .uses) → stepRefusal (length memory) file size ≡ 0
-    → runFrom at (settledWords file size) (machine memory file stored)
-    ≡ ended 0 0 (after (machine memory file stored) (blitStep memory file size))
-unfolding settledWords settledEnd start pointers finished
-settledWords-run at size memory file stored only lawful =
+    → runFrom at (settledWords file size ++ more) (machine memory file stored)
+    ≡ runFrom (afterSettled at size) more (after (machine memory file stored) (blitStep memory file size))
+unfolding settledWords settledEnd start pointers finished afterSettled
+settledWords-run at size more memory file stored only lawful =
     let end : State = finished memory file size in
+    let stores : List ℕ = blitStores (setup file) (width size) (height size) (state [] (start file)) in
     let ends : rows (setup file) (width size) (height size) (state [] (start file)) ≡ state [] (end .flow) =
     rows-of-empty (setup file) only (width size) (height size) memory (start file) in
     let counts : end .flow .stored ≡ height size * width size =
     rows-count-all (setup file) only (width size) (height size) (state memory (start file)) ∙ zero-add (height size * width size) in
     let stays = leavesMemory-of-d (length memory) size (setup file) (pointers file) (only .d) (stepRefusal-of-none (length memory) file size lawful) in
-    ap (λ (last : State). runFrom at (blitStores (setup file) (width size) (height size) (state [] (start file)) ++ (pointerWords (last .flow .pointers .d) ++ flagWords (last .flow .allzero))) (machine memory file stored)) ends
-    ∙ run-of-rows (setup file) only (width size) (height size) at (start file) (pointerWords (end .flow .pointers .d) ++ flagWords (end .flow .allzero)) memory file stored
+    ap (λ (last : State). runFrom at ((stores ++ (pointerWords (last .flow .pointers .d) ++ flagWords (last .flow .allzero))) ++ more) (machine memory file stored)) ends
+    ∙ ap (λ (words : List ℕ). runFrom at words (machine memory file stored))
+    (append-assoc stores (pointerWords (end .flow .pointers .d) ++ flagWords (end .flow .allzero)) more)
+    ∙ run-of-rows (setup file) only (width size) (height size) at (start file) ((pointerWords (end .flow .pointers .d) ++ flagWords (end .flow .allzero)) ++ more) memory file stored
     (pointerAt-lt file pointerD) stays
-    ∙ run-of-end (afterRows (width size) (height size) at) (end .flow .pointers .d) (end .flow .allzero) (end .memory) file (stored + height size * width size)
-    ∙ sym (ap (λ (outcome : Outcome). ended 0 0 (after (machine memory file stored) outcome)) (blitStep-of-lawful memory file size lawful)
-    ∙ after-done memory file stored (height size * width size) end only counts)
+    ∙ run-of-end (afterRows (width size) (height size) at) (end .flow .pointers .d) (end .flow .allzero) more (end .memory) file (stored + height size * width size)
+    ∙ ap (runFrom (afterRows (width size) (height size) at + 1 + 1 + 1 + 1 + 1) more)
+    (sym (ap (after (machine memory file stored)) (blitStep-of-lawful memory file size lawful)
+    ∙ after-done memory file stored (height size * width size) end only counts))
+
+-- and its number is that of a blit that is done
+pub blitStep-number : (memory file : List ℕ) (size : ℕ) → stepRefusal (length memory) file size ≡ 0 → blitStep memory file size .number ≡ 0
+unfolding done
+blitStep-number memory file size lawful = ap (λ (outcome : Outcome). outcome .number) (blitStep-of-lawful memory file size lawful)
+
+-- what a settled blit leaves in the file
+pub blitStep-file : (memory file : List ℕ) (size : ℕ) → OnlyD (setup file .uses) → stepRefusal (length memory) file size ≡ 0
+    → blitStep memory file size .file
+    ≡ set (set (set file pointerD (high (settledEnd file size .flow .pointers .d))) (pointerD + 1) (low (settledEnd file size .flow .pointers .d)))
+    flag (if settledEnd file size .flow .allzero then 1 else 0)
+unfolding settledEnd done finished putFlag
+blitStep-file memory file size only lawful =
+    let ends = rows-of-empty (setup file) only (width size) (height size) memory (start file) in
+    ap (λ (outcome : Outcome). outcome .file) (blitStep-of-lawful memory file size lawful)
+    ∙ ap (λ (written : List ℕ). set written flag (if finished memory file size .flow .allzero then 1 else 0))
+    (written-back (setup file .uses) (finished memory file size .flow .pointers) (finished memory file size .flow .sources) file only)
+    ∙ ap (λ (end : State). set (set (set file pointerD (high (end .flow .pointers .d))) (pointerD + 1) (low (end .flow .pointers .d))) flag (if end .flow .allzero then 1 else 0)) (sym ends)

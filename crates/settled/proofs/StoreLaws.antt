@@ -83,13 +83,14 @@ unfolding front begun kind isRegister place placeIn registers
 front-of-flag at true more = refl
 front-of-flag at false more = refl
 
--- the end of a settled blit's words: D's pointer and the flag
-pub run-of-end : (at : ℕ) (to : Pointer) (allzero : Bool) (memory file : List ℕ) (stored : ℕ)
-    → runFrom at (pointerWords to ++ flagWords allzero) (machine memory file stored)
-    ≡ ended 0 0 (machine memory (set (set (set file pointerD (high to)) (pointerD + 1) (low to)) flag (if allzero then 1 else 0)) stored)
+-- the end of a settled blit's words: D's pointer and the flag, and the run after them
+pub run-of-end : (at : ℕ) (to : Pointer) (allzero : Bool) (more memory file : List ℕ) (stored : ℕ)
+    → runFrom at ((pointerWords to ++ flagWords allzero) ++ more) (machine memory file stored)
+    ≡ runFrom (at + 1 + 1 + 1 + 1 + 1) more
+    (machine memory (set (set (set file pointerD (high to)) (pointerD + 1) (low to)) flag (if allzero then 1 else 0)) stored)
 unfolding stepsFrom runSteps found following operands effect stepEffect registerEffect flagEffect
-run-of-end at to allzero memory file stored =
-    rw (front-of-high at (high to) (0x0056 ∷ low to ∷ (if allzero then 0xC001 else 0xC000) ∷ []))
-    (rw (front-of-low (at + 1 + 1) (low to) ((if allzero then 0xC001 else 0xC000) ∷ []))
-    (rw (front-of-flag (at + 1 + 1 + 1 + 1) allzero [])
+run-of-end at to allzero more memory file stored =
+    rw (front-of-high at (high to) (0x0056 ∷ low to ∷ (if allzero then 0xC001 else 0xC000) ∷ more))
+    (rw (front-of-low (at + 1 + 1) (low to) ((if allzero then 0xC001 else 0xC000) ∷ more))
+    (rw (front-of-flag (at + 1 + 1 + 1 + 1) allzero more)
     (rw (kept-of-high to, kept-of-low to, add-zero, add-zero, add-zero))))

@@ -1,0 +1,101 @@
+-- Laws of what the folder learns: after every step its knowledge agrees with what the step leaves in the register file.
+use mathlib.Core.Path.{_≡_, refl, sym, ap, _∙_}
+use Prim.Native.Nat.{ℕ, _+_, _<_}
+use native.Mathlib.Omega.{arith}
+use mathlib.Core.Bool.{Bool, true, false}
+use mathlib.Core.List.{List}
+use lib.Dec.{eqb}
+use lib.ListN.{length, getD, set, length-set}
+use Rattle.word.specs.declared.types.Pointer.{Pointer}
+use Rattle.word.specs.Choice.{if_then_else_}
+use Rattle.word.specs.Pointer.{high, low}
+use Rattle.file.specs.File.{kept, control0, pointerA, pointerB, pointerC, pointerD, sourceA, sourceB, sourceC, flag}
+use Rattle.area.specs.declared.types.Uses.{Uses}
+use Rattle.area.specs.declared.types.Pointers.{Pointers}
+use Rattle.area.specs.declared.types.Sources.{Sources}
+use Rattle.area.specs.Setup.{con0, uses, setup}
+use Rattle.area.specs.Flow.{State, start}
+use Rattle.blit.specs.Refusal.{stepRefusal}
+use Rattle.blit.specs.Blit.{putPointer, putPointers, putSource, putSources, putFlag, finished, done, refused, answered, blitStep}
+use Rattle.knowledge.specs.declared.types.Known.{Known}
+use Rattle.knowledge.specs.Known.{number, isKnown}
+use Rattle.folder.specs.Learn.{knownAt, written, mayUse, forgetPointer, forgetSource, forgetUsed, forgotten, movedD}
+use Rattle.demands.proofs.AgreesLaws.{Agrees, agrees-of-flag, agrees-of-source, agrees-of-pointer}
+
+-- the channels that a blit uses are among those it may use
+pub record Covers (may uses : Uses) : Type 0 where
+  pub a : uses .a ≡ true → may .a ≡ true
+  pub b : uses .b ≡ true → may .b ≡ true
+  pub c : uses .c ≡ true → may .c ≡ true
+  pub d : uses .d ≡ true → may .d ≡ true
+
+covers-itself : (may uses : Uses) → uses ≡ may → Covers may uses
+covers-itself may uses same =
+    record {
+      a = λ used. sym (ap (λ (u : Uses). u .a) same) ∙ used;
+      b = λ used. sym (ap (λ (u : Uses). u .b) same) ∙ used;
+      c = λ used. sym (ap (λ (u : Uses). u .c) same) ∙ used;
+      d = λ used. sym (ap (λ (u : Uses). u .d) same) ∙ used;
+    }
+
+pub mayUse-covers : (known : List Known) (file : List ℕ) → Agrees known file → Covers (mayUse known) (uses (con0 file))
+unfolding Agrees mayUse isKnown number
+mayUse-covers known file agrees = by-known (knownAt known control0) refl
+  where
+    by-known : (held : Known) → knownAt known control0 ≡ held
+        → Covers (if isKnown held then uses (number held) else record { a = true; b = true; c = true; d = true }) (uses (con0 file))
+    by-known (Known.Is value) is = covers-itself (uses value) (uses (con0 file)) (ap uses (agrees control0 value is))
+    by-known Known.Unknown is = record { a = λ used. refl; b = λ used. refl; c = λ used. refl; d = λ used. refl }
+
+-- what the blit writes back and what is forgotten
+agrees-of-forgetUsed : (known : List Known) (file : List ℕ) (may uses : Uses) (at : Pointers) (given : Sources) → Covers may uses
+    → Agrees known file → Agrees (forgetUsed may known) (putSources uses given (putPointers uses at file))
+unfolding forgetUsed putSources putPointers
+agrees-of-forgetUsed known file may uses at given covers agrees =
+    agrees-of-source _ _ (may .c) (uses .c) sourceC (given .c) (covers .c)
+    (agrees-of-source _ _ (may .b) (uses .b) sourceB (given .b) (covers .b)
+    (agrees-of-source _ _ (may .a) (uses .a) sourceA (given .a) (covers .a)
+    (agrees-of-pointer _ _ (may .d) (uses .d) pointerD (at .d) (covers .d)
+    (agrees-of-pointer _ _ (may .c) (uses .c) pointerC (at .c) (covers .c)
+    (agrees-of-pointer _ _ (may .b) (uses .b) pointerB (at .b) (covers .b)
+    (agrees-of-pointer known file (may .a) (uses .a) pointerA (at .a) (covers .a) agrees))))))
+
+-- a blit that is refused writes nothing back
+agrees-of-nothing : (known : List Known) (file : List ℕ) (may : Uses) (at : Pointers) (given : Sources)
+    → Agrees known file → Agrees (forgetUsed may known) file
+unfolding putSources putPointers putSource putPointer
+agrees-of-nothing known file may at given agrees =
+    agrees-of-forgetUsed known file may (record { a = false; b = false; c = false; d = false }) at given
+    (record { a = λ used. never used; b = λ used. never used; c = λ used. never used; d = λ used. never used }) agrees
+  where
+    never : {Goal : Type 0} → _≡_ {A = Bool} false true → Goal
+    never wrong = let n : _≡_ {A = ℕ} 0 1 = cc in absurd (omega arith)
+
+forgetSource-keeps-length : (used : Bool) (at : ℕ) (known : List Known) → length (forgetSource used at known) ≡ length known
+unfolding forgetSource
+forgetSource-keeps-length true at known = length-set known at Known.Unknown
+forgetSource-keeps-length false at known = refl
+
+forgetPointer-keeps-length : (used : Bool) (at : ℕ) (known : List Known) → length (forgetPointer used at known) ≡ length known
+unfolding forgetPointer
+forgetPointer-keeps-length true at known = simp length-set
+forgetPointer-keeps-length false at known = refl
+
+pub forgotten-keeps-length : (known : List Known) → length (forgotten known) ≡ length known
+unfolding forgotten forgetUsed
+forgotten-keeps-length known = simp (forgetSource-keeps-length, forgetPointer-keeps-length)
+
+-- a kept blit, done or refused
+pub agrees-of-kept : (known : List Known) (memory file : List ℕ) (size : ℕ) → length known ≡ 19
+    → Agrees known file → Agrees (forgotten known) (blitStep memory file size .file)
+unfolding blitStep answered done refused putFlag forgotten setup
+agrees-of-kept known memory file size long agrees = by-number (eqb (stepRefusal (length memory) file size) 0)
+  where
+    by-number : (lawful : Bool)
+        → Agrees (forgetUsed (mayUse known) known)
+        ((if lawful then done file (finished memory file size) else refused (stepRefusal (length memory) file size) memory file) .file)
+    by-number true =
+        agrees-of-flag (forgetUsed (mayUse known) known) _ _ (forgotten-keeps-length known ∙ long)
+        (agrees-of-forgetUsed known file (mayUse known) (uses (con0 file)) (finished memory file size .flow .pointers) (finished memory file size .flow .sources)
+        (mayUse-covers known file agrees) agrees)
+    by-number false = agrees-of-nothing known file (mayUse known) (start file .pointers) (start file .sources) agrees

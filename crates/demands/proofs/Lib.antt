@@ -1,0 +1,4 @@
+-- The laws behind the demands.
+pub mod AgreesLaws
+pub mod LearnLaws
+pub mod SettledKnownLaws

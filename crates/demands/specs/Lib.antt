@@ -1,0 +1,2 @@
+-- What is demanded of a folding.
+pub mod DemandThree

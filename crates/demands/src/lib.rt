@@ -1,0 +1,7 @@
+// What is demanded of a folding; each function has its theorem as its contract, and does nothing.
+ghost use Rattle.demands.specs.DemandThree.{DemandThree};
+
+pub fn demand_three()
+    ensures { λ _. ⌜ DemandThree ⌝ }
+{
+}

@@ -56,20 +56,16 @@ impl Knowledge {
     pub fn at(self, place: u32) -> Known
         ensures { λ known. ⌜ known ≡ getD (listed self) place Unknown ⌝ }
     {
-        let controls = self.controls;
-        let pointers = self.pointers;
-        let modulos = self.modulos;
-        let sources = self.sources;
         if place < 4 {
-            return controls.at(place);
+            return self.controls.at(place);
         }
         if place < 12 {
-            return pointers.at(place - 4);
+            return self.pointers.at(place - 4);
         }
         if place < 16 {
-            return modulos.at(place - 12);
+            return self.modulos.at(place - 12);
         }
-        sources.at(place - 16)
+        self.sources.at(place - 16)
     }
 
     // The knowledge with one register replaced. A write makes it known, and what makes it not known replaces it by Unknown.

@@ -60,7 +60,7 @@ returns-4 c = search pointers-at-d
 -- the list is written out, since the goal shows only what it computes to
 returns-5 : tie.Need-returns-5
 returns-5 c =
-    getD-past-end (pointers (c .before .before .before .before .before .args .self)) (c .before .before .before .before .before .args .place) (omega arith)
+    getD-past-end (pointers (c .before .args .self)) (c .before .args .place) (omega arith)
 
 pub at-spec : {M : Type 1} → statement M
 at-spec =

@@ -1,4 +1,5 @@
-// The parts of the knowledge: one register read, or replaced, by its place in the part. Past a part's end nothing is known, and nothing changes.
+// The parts of the knowledge: one register read, or replaced, by its place in the part.
+// Past a part's end nothing is known, and nothing changes.
 ghost use mathlib.Core.Path.{_≡_};
 ghost use lib.ListN.{getD, set};
 ghost use Rattle.knowledge.specs.declared.types.Known.the-variants.{Unknown};

@@ -16,22 +16,26 @@ use Rattle.knowledge.proofs.types.Pointers.at.Tie as tie
 pointers-at-c : (self : Pointers) (place : ℕ) (known : Known)
     → place / 2 ≡ 0 → known ≡ getD (halves (self .c)) (place % 2) Unknown → known ≡ getD (pointers self) place Unknown
 pointers-at-c self place known there same =
-    getD-in-part [] (halves (self .c)) (halves (self .b) ++ halves (self .a) ++ halves (self .d)) place (place % 2) known (omega arith) (omega arith) same
+    getD-in-part [] (halves (self .c)) (halves (self .b) ++ halves (self .a) ++ halves (self .d))
+    place (place % 2) known (omega arith) (omega arith) same
 
 pointers-at-b : (self : Pointers) (place : ℕ) (known : Known)
     → place / 2 ≡ 1 → known ≡ getD (halves (self .b)) (place % 2) Unknown → known ≡ getD (pointers self) place Unknown
 pointers-at-b self place known there same =
-    getD-in-part (halves (self .c)) (halves (self .b)) (halves (self .a) ++ halves (self .d)) place (place % 2) known (omega arith) (omega arith) same
+    getD-in-part (halves (self .c)) (halves (self .b)) (halves (self .a) ++ halves (self .d))
+    place (place % 2) known (omega arith) (omega arith) same
 
 pointers-at-a : (self : Pointers) (place : ℕ) (known : Known)
     → place / 2 ≡ 2 → known ≡ getD (halves (self .a)) (place % 2) Unknown → known ≡ getD (pointers self) place Unknown
 pointers-at-a self place known there same =
-    getD-in-part (halves (self .c) ++ halves (self .b)) (halves (self .a)) (halves (self .d)) place (place % 2) known (omega arith) (omega arith) same
+    getD-in-part (halves (self .c) ++ halves (self .b)) (halves (self .a)) (halves (self .d))
+    place (place % 2) known (omega arith) (omega arith) same
 
 pointers-at-d : (self : Pointers) (place : ℕ) (known : Known)
     → place / 2 ≡ 3 → known ≡ getD (halves (self .d)) (place % 2) Unknown → known ≡ getD (pointers self) place Unknown
 pointers-at-d self place known there same =
-    getD-in-part (halves (self .c) ++ halves (self .b) ++ halves (self .a)) (halves (self .d)) [] place (place % 2) known (omega arith) (omega arith) same
+    getD-in-part (halves (self .c) ++ halves (self .b) ++ halves (self .a)) (halves (self .d)) []
+    place (place % 2) known (omega arith) (omega arith) same
 
 at-requires : tie.Need-at-requires
 at-requires c κs = search needs

@@ -100,7 +100,8 @@ pub logic-of-beside : (function weight a b c a′ b′ c′ : ℕ) → counts fu
     → logic function a b c ≡ logic function a′ b′ c′
 unfolding logic
 logic-of-beside function weight a b c a′ b′ c′ none near =
-    ofBits-is-pointwise (λ i. bit function (setting (bit a i) (bit b i) (bit c i))) (λ i. bit function (setting (bit a′ i) (bit b′ i) (bit c′ i))) 16
+    ofBits-is-pointwise (λ i. bit function (setting (bit a i) (bit b i) (bit c i)))
+    (λ i. bit function (setting (bit a′ i) (bit b′ i) (bit c′ i))) 16
     (λ i inside. answer-of-beside function weight (setting (bit a i) (bit b i) (bit c i)) (setting (bit a′ i) (bit b′ i) (bit c′ i)) none
     (setting-lt (bit a i) (bit b i) (bit c i) (bit-lt a i) (bit-lt b i) (bit-lt c i)) (near i))
 

@@ -32,19 +32,22 @@ pub numbers-length : (known : List Known) → length known ≡ flag → length (
 unfolding numbers
 numbers-length known long = simp (length-append, length-map) (omega arith)
 
-map-at : (known : List Known) (place : ℕ) → place < length known → getD (map number known) place 0 ≡ number (getD known place Unknown)
+map-at : (known : List Known) (place : ℕ)
+    → place < length known → getD (map number known) place 0 ≡ number (getD known place Unknown)
 map-at [] place inside = absurd (not-suc-le-zero inside)
 map-at (first ∷ rest) zero inside = refl
 map-at (first ∷ rest) (suc place) inside = map-at rest place (le-of-suc-le-suc inside)
 
 -- a register's number stands at its place
-pub numbers-at : (known : List Known) (place : ℕ) → length known ≡ flag → place < flag → getD (numbers known) place 0 ≡ number (getD known place Unknown)
+pub numbers-at : (known : List Known) (place : ℕ)
+    → length known ≡ flag → place < flag → getD (numbers known) place 0 ≡ number (getD known place Unknown)
 unfolding numbers
 numbers-at known place long inside =
     List·getD-append (map number known) (0 ∷ []) 0 place (simp length-map (omega arith))
     ∙ map-at known place (omega arith)
 
-map-of-set : (known : List Known) (place : ℕ) (told : Known) → map number (set known place told) ≡ set (map number known) place (number told)
+map-of-set : (known : List Known) (place : ℕ) (told : Known)
+    → map number (set known place told) ≡ set (map number known) place (number told)
 map-of-set [] place told = refl
 map-of-set (first ∷ rest) zero told = refl
 map-of-set (first ∷ rest) (suc place) told = ap (λ (words : List ℕ). number first ∷ words) (map-of-set rest place told)

@@ -1,4 +1,5 @@
--- Paper 01, "Folding": what the folder knows, as a list of the 19 registers in the register file's order. "The zero flag isn't tracked."
+-- Paper 01, "Folding": what the folder knows, as a list of the 19 registers in the register file's order.
+-- "The zero flag isn't tracked."
 use Prim.Native.Nat.{ℕ}
 use mathlib.Core.List.{List, [], _∷_, _++_, map}
 use lib.ListN.{replicate}

@@ -56,23 +56,20 @@ impl Knowledge {
     pub fn at(self, place: u32) -> Known
         ensures { λ known. ⌜ known ≡ getD (listed self) place Unknown ⌝ }
     {
-        let controls = self.controls;
-        let pointers = self.pointers;
-        let modulos = self.modulos;
-        let sources = self.sources;
         if place < 4 {
-            return controls.at(place);
+            return self.controls.at(place);
         }
         if place < 12 {
-            return pointers.at(place - 4);
+            return self.pointers.at(place - 4);
         }
         if place < 16 {
-            return modulos.at(place - 12);
+            return self.modulos.at(place - 12);
         }
-        sources.at(place - 16)
+        self.sources.at(place - 16)
     }
 
-    // The knowledge with one register replaced. A write makes it known, and what makes it not known replaces it by Unknown.
+    // The knowledge with one register replaced: by its number where a write makes it known, by Unknown where it is forgotten.
+    // A place that is no register's changes nothing.
     pub fn with(self, place: u32, known: Known) -> Knowledge
         ensures { λ after. ⌜ listed after ≡ set (listed self) place known ⌝ }
     {

@@ -1,4 +1,5 @@
-// The parts of the knowledge: one register read, or replaced, by its place in the part. Past a part's end nothing is known, and nothing changes.
+// The parts of the knowledge: one register read, or replaced, by its place in the part.
+// Past a part's end nothing is known, and nothing changes.
 ghost use mathlib.Core.Path.{_≡_};
 ghost use lib.ListN.{getD, set};
 ghost use Rattle.knowledge.specs.declared.types.Known.the-variants.{Unknown};
@@ -14,15 +15,11 @@ impl Controls {
     pub fn at(self, place: u32) -> Known
         ensures { λ known. ⌜ known ≡ getD (controls self) place Unknown ⌝ }
     {
-        let con0 = self.con0;
-        let con1 = self.con1;
-        let afwm = self.afwm;
-        let alwm = self.alwm;
         match place {
-            0 => con0,
-            1 => con1,
-            2 => afwm,
-            3 => alwm,
+            0 => self.con0,
+            1 => self.con1,
+            2 => self.afwm,
+            3 => self.alwm,
             _ => Known::Unknown,
         }
     }
@@ -68,11 +65,9 @@ impl Halves {
     pub fn at(self, place: u32) -> Known
         ensures { λ known. ⌜ known ≡ getD (halves self) place Unknown ⌝ }
     {
-        let high = self.high;
-        let low = self.low;
         match place {
-            0 => high,
-            1 => low,
+            0 => self.high,
+            1 => self.low,
             _ => Known::Unknown,
         }
     }
@@ -100,15 +95,11 @@ impl Pointers {
     pub fn at(self, place: u32) -> Known
         ensures { λ known. ⌜ known ≡ getD (pointers self) place Unknown ⌝ }
     {
-        let c = self.c;
-        let b = self.b;
-        let a = self.a;
-        let d = self.d;
         match place / 2 {
-            0 => c.at(place % 2),
-            1 => b.at(place % 2),
-            2 => a.at(place % 2),
-            3 => d.at(place % 2),
+            0 => self.c.at(place % 2),
+            1 => self.b.at(place % 2),
+            2 => self.a.at(place % 2),
+            3 => self.d.at(place % 2),
             _ => Known::Unknown,
         }
     }
@@ -154,15 +145,11 @@ impl Modulos {
     pub fn at(self, place: u32) -> Known
         ensures { λ known. ⌜ known ≡ getD (modulos self) place Unknown ⌝ }
     {
-        let c = self.c;
-        let b = self.b;
-        let a = self.a;
-        let d = self.d;
         match place {
-            0 => c,
-            1 => b,
-            2 => a,
-            3 => d,
+            0 => self.c,
+            1 => self.b,
+            2 => self.a,
+            3 => self.d,
             _ => Known::Unknown,
         }
     }
@@ -208,13 +195,10 @@ impl Sources {
     pub fn at(self, place: u32) -> Known
         ensures { λ known. ⌜ known ≡ getD (sources self) place Unknown ⌝ }
     {
-        let c = self.c;
-        let b = self.b;
-        let a = self.a;
         match place {
-            0 => c,
-            1 => b,
-            2 => a,
+            0 => self.c,
+            1 => self.b,
+            2 => self.a,
             _ => Known::Unknown,
         }
     }

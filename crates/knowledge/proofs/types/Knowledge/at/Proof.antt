@@ -16,22 +16,26 @@ use Rattle.knowledge.proofs.types.Knowledge.at.Tie as tie
 listed-at-controls : (self : Knowledge) (place : ℕ) (known : Known)
     → place < 4 → known ≡ getD (controls (self .controls)) place Unknown → known ≡ getD (listed self) place Unknown
 listed-at-controls self place known inside same =
-    getD-in-part [] (controls (self .controls)) (pointers (self .pointers) ++ modulos (self .modulos) ++ sources (self .sources)) place place known (omega arith) (omega arith) same
+    getD-in-part [] (controls (self .controls)) (pointers (self .pointers) ++ modulos (self .modulos) ++ sources (self .sources))
+    place place known (omega arith) (omega arith) same
 
 listed-at-pointers : (self : Knowledge) (place : ℕ) (known : Known)
     → 4 ≤ place → place < 12 → known ≡ getD (pointers (self .pointers)) (place - 4) Unknown → known ≡ getD (listed self) place Unknown
 listed-at-pointers self place known behind inside same =
-    getD-in-part (controls (self .controls)) (pointers (self .pointers)) (modulos (self .modulos) ++ sources (self .sources)) place (place - 4) known (omega arith) (omega arith) same
+    getD-in-part (controls (self .controls)) (pointers (self .pointers)) (modulos (self .modulos) ++ sources (self .sources))
+    place (place - 4) known (omega arith) (omega arith) same
 
 listed-at-modulos : (self : Knowledge) (place : ℕ) (known : Known)
     → 12 ≤ place → place < 16 → known ≡ getD (modulos (self .modulos)) (place - 12) Unknown → known ≡ getD (listed self) place Unknown
 listed-at-modulos self place known behind inside same =
-    getD-in-part (controls (self .controls) ++ pointers (self .pointers)) (modulos (self .modulos)) (sources (self .sources)) place (place - 12) known (omega arith) (omega arith) same
+    getD-in-part (controls (self .controls) ++ pointers (self .pointers)) (modulos (self .modulos)) (sources (self .sources))
+    place (place - 12) known (omega arith) (omega arith) same
 
 listed-at-sources : (self : Knowledge) (place : ℕ) (known : Known)
     → 16 ≤ place → known ≡ getD (sources (self .sources)) (place - 16) Unknown → known ≡ getD (listed self) place Unknown
 listed-at-sources self place known behind same =
-    getD-in-last (controls (self .controls) ++ pointers (self .pointers) ++ modulos (self .modulos)) (sources (self .sources)) place (place - 16) known (omega arith) same
+    getD-in-last (controls (self .controls) ++ pointers (self .pointers) ++ modulos (self .modulos)) (sources (self .sources))
+    place (place - 16) known (omega arith) same
 
 at-requires : tie.Need-at-requires
 at-requires c κs = search needs

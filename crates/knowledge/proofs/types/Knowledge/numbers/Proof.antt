@@ -19,7 +19,8 @@ use Rattle.knowledge.proofs.types.Knowledge.numbers.Tie as tie
 
 -- two lists that are the same after a place are the same from it on, once the word there is set
 drop-turn : (file whole : List ℕ) (left word : ℕ) → 0 < left → left ≤ length file → left ≤ length whole
-    → word ≡ getD whole (left - 1) 0 → drop left file ≡ drop left whole → drop (left - 1) (set file (left - 1) word) ≡ drop (left - 1) whole
+    → word ≡ getD whole (left - 1) 0 → drop left file ≡ drop left whole
+    → drop (left - 1) (set file (left - 1) word) ≡ drop (left - 1) whole
 drop-turn file whole zero word more inside within same rest = absurd (omega arith)
 drop-turn file whole (suc left) word more inside within same rest =
     let here : word ≡ getD whole left 0 = rw sub-one at same in

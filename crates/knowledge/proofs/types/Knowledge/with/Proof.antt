@@ -18,27 +18,35 @@ use Rattle.knowledge.proofs.types.Knowledge.with.Tie as tie
 
 listed-with-controls : (self : Knowledge) (after : Controls) (place : ℕ) (known : Known)
     → place < 4 → controls after ≡ set (controls (self .controls)) place known
-    → listed (record { controls = after; pointers = self .pointers; modulos = self .modulos; sources = self .sources }) ≡ set (listed self) place known
+    → listed (record { controls = after; pointers = self .pointers; modulos = self .modulos; sources = self .sources })
+    ≡ set (listed self) place known
 listed-with-controls self after place known inside same =
-    set-in-part [] (controls (self .controls)) (controls after) (pointers (self .pointers) ++ modulos (self .modulos) ++ sources (self .sources)) place place known (omega arith) (omega arith) same
+    set-in-part [] (controls (self .controls)) (controls after) (pointers (self .pointers) ++ modulos (self .modulos) ++ sources (self .sources))
+    place place known (omega arith) (omega arith) same
 
 listed-with-pointers : (self : Knowledge) (after : Pointers) (place : ℕ) (known : Known)
     → 4 ≤ place → place < 12 → pointers after ≡ set (pointers (self .pointers)) (place - 4) known
-    → listed (record { controls = self .controls; pointers = after; modulos = self .modulos; sources = self .sources }) ≡ set (listed self) place known
+    → listed (record { controls = self .controls; pointers = after; modulos = self .modulos; sources = self .sources })
+    ≡ set (listed self) place known
 listed-with-pointers self after place known behind inside same =
-    set-in-part (controls (self .controls)) (pointers (self .pointers)) (pointers after) (modulos (self .modulos) ++ sources (self .sources)) place (place - 4) known (omega arith) (omega arith) same
+    set-in-part (controls (self .controls)) (pointers (self .pointers)) (pointers after) (modulos (self .modulos) ++ sources (self .sources))
+    place (place - 4) known (omega arith) (omega arith) same
 
 listed-with-modulos : (self : Knowledge) (after : Modulos) (place : ℕ) (known : Known)
     → 12 ≤ place → place < 16 → modulos after ≡ set (modulos (self .modulos)) (place - 12) known
-    → listed (record { controls = self .controls; pointers = self .pointers; modulos = after; sources = self .sources }) ≡ set (listed self) place known
+    → listed (record { controls = self .controls; pointers = self .pointers; modulos = after; sources = self .sources })
+    ≡ set (listed self) place known
 listed-with-modulos self after place known behind inside same =
-    set-in-part (controls (self .controls) ++ pointers (self .pointers)) (modulos (self .modulos)) (modulos after) (sources (self .sources)) place (place - 12) known (omega arith) (omega arith) same
+    set-in-part (controls (self .controls) ++ pointers (self .pointers)) (modulos (self .modulos)) (modulos after) (sources (self .sources))
+    place (place - 12) known (omega arith) (omega arith) same
 
 listed-with-sources : (self : Knowledge) (after : Sources) (place : ℕ) (known : Known)
     → 16 ≤ place → sources after ≡ set (sources (self .sources)) (place - 16) known
-    → listed (record { controls = self .controls; pointers = self .pointers; modulos = self .modulos; sources = after }) ≡ set (listed self) place known
+    → listed (record { controls = self .controls; pointers = self .pointers; modulos = self .modulos; sources = after })
+    ≡ set (listed self) place known
 listed-with-sources self after place known behind same =
-    set-in-last (controls (self .controls) ++ pointers (self .pointers) ++ modulos (self .modulos)) (sources (self .sources)) (sources after) place (place - 16) known (omega arith) same
+    set-in-last (controls (self .controls) ++ pointers (self .pointers) ++ modulos (self .modulos)) (sources (self .sources)) (sources after)
+    place (place - 16) known (omega arith) same
 
 with-requires : tie.Need-with-requires
 with-requires c κs = search needs

@@ -16,22 +16,26 @@ use Rattle.knowledge.proofs.types.Pointers.at.Tie as tie
 pointers-at-c : (self : Pointers) (place : ℕ) (known : Known)
     → place / 2 ≡ 0 → known ≡ getD (halves (self .c)) (place % 2) Unknown → known ≡ getD (pointers self) place Unknown
 pointers-at-c self place known there same =
-    getD-in-part [] (halves (self .c)) (halves (self .b) ++ halves (self .a) ++ halves (self .d)) place (place % 2) known (omega arith) (omega arith) same
+    getD-in-part [] (halves (self .c)) (halves (self .b) ++ halves (self .a) ++ halves (self .d))
+    place (place % 2) known (omega arith) (omega arith) same
 
 pointers-at-b : (self : Pointers) (place : ℕ) (known : Known)
     → place / 2 ≡ 1 → known ≡ getD (halves (self .b)) (place % 2) Unknown → known ≡ getD (pointers self) place Unknown
 pointers-at-b self place known there same =
-    getD-in-part (halves (self .c)) (halves (self .b)) (halves (self .a) ++ halves (self .d)) place (place % 2) known (omega arith) (omega arith) same
+    getD-in-part (halves (self .c)) (halves (self .b)) (halves (self .a) ++ halves (self .d))
+    place (place % 2) known (omega arith) (omega arith) same
 
 pointers-at-a : (self : Pointers) (place : ℕ) (known : Known)
     → place / 2 ≡ 2 → known ≡ getD (halves (self .a)) (place % 2) Unknown → known ≡ getD (pointers self) place Unknown
 pointers-at-a self place known there same =
-    getD-in-part (halves (self .c) ++ halves (self .b)) (halves (self .a)) (halves (self .d)) place (place % 2) known (omega arith) (omega arith) same
+    getD-in-part (halves (self .c) ++ halves (self .b)) (halves (self .a)) (halves (self .d))
+    place (place % 2) known (omega arith) (omega arith) same
 
 pointers-at-d : (self : Pointers) (place : ℕ) (known : Known)
     → place / 2 ≡ 3 → known ≡ getD (halves (self .d)) (place % 2) Unknown → known ≡ getD (pointers self) place Unknown
 pointers-at-d self place known there same =
-    getD-in-part (halves (self .c) ++ halves (self .b) ++ halves (self .a)) (halves (self .d)) [] place (place % 2) known (omega arith) (omega arith) same
+    getD-in-part (halves (self .c) ++ halves (self .b) ++ halves (self .a)) (halves (self .d)) []
+    place (place % 2) known (omega arith) (omega arith) same
 
 at-requires : tie.Need-at-requires
 at-requires c κs = search needs
@@ -60,7 +64,7 @@ returns-4 c = search pointers-at-d
 -- the list is written out, since the goal shows only what it computes to
 returns-5 : tie.Need-returns-5
 returns-5 c =
-    getD-past-end (pointers (c .before .before .before .before .before .args .self)) (c .before .before .before .before .before .args .place) (omega arith)
+    getD-past-end (pointers (c .before .args .self)) (c .before .args .place) (omega arith)
 
 pub at-spec : {M : Type 1} → statement M
 at-spec =

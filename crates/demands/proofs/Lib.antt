@@ -2,3 +2,5 @@
 pub mod AgreesLaws
 pub mod LearnLaws
 pub mod SettledKnownLaws
+pub mod GoodStepLaws
+pub mod DemandThreeLaws

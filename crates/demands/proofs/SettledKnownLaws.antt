@@ -24,7 +24,7 @@ use Rattle.folder.specs.Learn.{knownAt}
 use Rattle.folder.specs.Settled.{has, controlsKnown, onlyDUsed, sourcesKnown, settled}
 use Rattle.demands.proofs.AgreesLaws.{Agrees}
 
-both-first : (a b : Bool) → (a && b) ≡ true → a ≡ true
+pub both-first : (a b : Bool) → (a && b) ≡ true → a ≡ true
 both-first true b both = refl
 both-first false b both = both
 

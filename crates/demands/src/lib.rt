@@ -3,5 +3,4 @@ ghost use Rattle.demands.specs.DemandThree.{DemandThree};
 
 pub fn demand_three()
     ensures { λ _. ⌜ DemandThree ⌝ }
-{
-}
+{}

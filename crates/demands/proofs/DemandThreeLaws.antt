@@ -1,0 +1,310 @@
+-- Demand 3: step by step the folded job and the original leave the same machine, and what the folder knows agrees with its register file.
+use mathlib.Core.Path.{_≡_, refl, sym, ap, ap₂, subst, _∙_}
+use Prim.Native.Nat.{ℕ, zero, suc, _+_, _≤_}
+use native.Mathlib.Numerals.{one-add}
+use native.Mathlib.Omega.{arith}
+use mathlib.Core.Bool.{Bool, true, false, not}
+use mathlib.Core.List.{List, [], _∷_, _++_}
+use borrow.Author.Tests.{eqb-true, eqb-false, le-leb, leb-true}
+use lib.Dec.{eqb, leb}
+use lib.ListN.{length, getD, set, drop, replicate, length-set}
+use lib.Seq.{drop-at}
+use Rattle.word.specs.declared.types.Pointer.{Pointer}
+use Rattle.word.specs.Choice.{if_then_else_, given}
+use Rattle.word.specs.Pointer.{high, low}
+use Rattle.file.specs.File.{kept, accepted, pointerD, flag, fileLength}
+use Rattle.area.specs.Setup.{setup}
+use Rattle.blit.specs.Refusal.{memorySize, stepRefusal}
+use Rattle.blit.specs.Blit.{Outcome, refused, blitStep}
+use Rattle.job.specs.declared.types.Step.{Step}
+use Rattle.job.specs.declared.types.Read.{Read}
+use Rattle.job.specs.Step.{operands, found, front}
+use Rattle.job.specs.Steps.{Placed, placed, following, stepsFrom, steps}
+use Rattle.job.proofs.StepLaws.{front-of-append}
+use Rattle.job.proofs.StepsLaws.{stepsFrom-of-skip}
+use Rattle.runner.specs.Effect.{did, registerEffect, storeEffect, flagEffect, stepEffect, effect}
+use Rattle.runner.specs.Run.{Machine, machine, after, End, ended, runSteps, runFrom, jobLength, startRefusal, run}
+use Rattle.runner.proofs.AnywhereLaws.{SameButPlace}
+use Rattle.runner.proofs.LengthLaws.{effect-keeps-memory-length, effect-keeps-file-length}
+use Rattle.knowledge.specs.declared.types.Known.{Known}
+use Rattle.knowledge.specs.Knowledge.{nothing, numbers}
+use Rattle.knowledge.proofs.KnowledgeLaws.{nothing-length}
+use Rattle.settled.specs.Words.{settledEnd, settledWords}
+use Rattle.settled.proofs.OnlyDLaws.{OnlyD}
+use Rattle.settled.proofs.SettledLaws.{afterSettled, settledWords-run, blitStep-number, blitStep-file}
+use Rattle.settled.proofs.AgreeLaws.{Agree, uses-alike, stepRefusal-alike, settledEnd-alike, settledWords-alike}
+use Rattle.folder.specs.Learn.{written, forgotten, movedD}
+use Rattle.folder.specs.Settled.{settled}
+use Rattle.folder.specs.Folding.{folding, byStep}
+use Rattle.folder.specs.Folding as folds
+use Rattle.folder.specs.Fold.{folded, learned, rawWords, piece, learnedAfter, foldSteps, foldFrom, fold}
+use Rattle.demands.proofs.AgreesLaws.{Agrees, agrees-of-set, agrees-of-flag}
+use Rattle.demands.proofs.LearnLaws.{forgotten-keeps-length, agrees-of-kept}
+use Rattle.demands.proofs.SettledKnownLaws.{both-first, settled-is-lawful, settled-uses-d, settled-agrees}
+use Rattle.demands.proofs.GoodStepLaws.{GoodStep, Good, byStep-is-clean, byStep-fits, steps-are-good}
+use Rattle.demands.specs.DemandThree.{FolderAccepts, SameEnd, DemandThree}
+
+empty-begins-nothing : (at : ℕ) (step : Step) → front at [] ≡ found at step → ⊥
+unfolding front found
+empty-begins-nothing at step reads = let n : _≡_ {A = ℕ} 0 1 = cc in omega arith
+
+-- a step with its operands, and the run after it
+found-runs : (at first : ℕ) (rest : List ℕ) (step : Step) (before : Machine)
+    → (if eqb (effect (found at step) (before .memory) (before .file) .number) 0
+    then runSteps (stepsFrom (following (found at step)) (at + 1) rest) (after before (effect (found at step) (before .memory) (before .file)))
+    else ended (effect (found at step) (before .memory) (before .file) .number) at before)
+    ≡ (if eqb (stepEffect step (before .memory) (before .file) .number) 0
+    then runFrom (at + 1 + operands step) (drop (1 + operands step) (first ∷ rest)) (after before (stepEffect step (before .memory) (before .file)))
+    else ended (stepEffect step (before .memory) (before .file) .number) at before)
+unfolding effect found following
+found-runs at first rest step before =
+    ap (λ (list : List Placed). if eqb (stepEffect step (before .memory) (before .file) .number) 0
+    then runSteps list (after before (stepEffect step (before .memory) (before .file)))
+    else ended (stepEffect step (before .memory) (before .file) .number) at before)
+    (stepsFrom-of-skip (operands step) (at + 1) rest
+    ∙ ap (λ (n : ℕ). stepsFrom 0 (at + 1 + operands step) (drop n (first ∷ rest))) (sym (one-add (operands step))))
+
+-- the run of words that begin with a step
+run-of-step : (at : ℕ) (words : List ℕ) (step : Step) (before : Machine) → front at words ≡ found at step
+    → runFrom at words before
+    ≡ (if eqb (stepEffect step (before .memory) (before .file) .number) 0
+    then runFrom (at + 1 + operands step) (drop (1 + operands step) words) (after before (stepEffect step (before .memory) (before .file)))
+    else ended (stepEffect step (before .memory) (before .file) .number) at before)
+unfolding stepsFrom runSteps
+run-of-step at [] step before reads = absurd (empty-begins-nothing at step reads)
+run-of-step at (first ∷ rest) step before reads = by-read (front at (first ∷ rest)) reads
+  where
+    by-read : (read : Read) → read ≡ found at step
+        → (if eqb (effect read (before .memory) (before .file) .number) 0
+        then runSteps (stepsFrom (following read) (at + 1) rest) (after before (effect read (before .memory) (before .file)))
+        else ended (effect read (before .memory) (before .file) .number) at before)
+        ≡ (if eqb (stepEffect step (before .memory) (before .file) .number) 0
+        then runFrom (at + 1 + operands step) (drop (1 + operands step) (first ∷ rest)) (after before (stepEffect step (before .memory) (before .file)))
+        else ended (stepEffect step (before .memory) (before .file) .number) at before)
+    by-read read same = rw same (found-runs at first rest step before)
+
+-- what a run has at a step of the machine that it stands on: memory of n words, a file of 20, and knowledge that agrees with it
+pub record Stands (n : ℕ) (known : List Known) (before : Machine) : Type 0 where
+  pub memory : length (before .memory) ≡ n
+  pub file : length (before .file) ≡ 20
+  pub long : length known ≡ 19
+  pub agrees : Agrees known (before .file)
+
+storeEffect-keeps-file : (to value : ℕ) (memory file : List ℕ) → storeEffect to value memory file .file ≡ file
+unfolding storeEffect refused
+storeEffect-keeps-file to value memory file = by-test (leb (length memory) to)
+  where
+    by-test : (outside : Bool) → (if outside then refused 10 memory file else did 1 (set memory to value) file) .file ≡ file
+    by-test true = refl
+    by-test false = refl
+
+-- after a step that is copied, knowledge agrees
+module _ (n : ℕ) (known : List Known) (before : Machine) (stands : Stands n known before) where
+  after-lengths : (step : Step) (next : ℕ) (learned : List Known) → length learned ≡ 19
+      → Agrees learned (stepEffect step (before .memory) (before .file) .file)
+      → Stands n learned (after before (stepEffect step (before .memory) (before .file)))
+  unfolding effect
+  after-lengths step next learned long agrees =
+      record {
+        memory = effect-keeps-memory-length (Read.Step step next) (before .memory) (before .file) ∙ stands .memory;
+        file = effect-keeps-file-length (Read.Step step next) (before .memory) (before .file) ∙ stands .file;
+        long = long;
+        agrees = agrees;
+      }
+
+  stands-after-register : (place value next : ℕ) → Stands n (written place value known) (after before (stepEffect (Step.Register place value) (before .memory) (before .file)))
+  unfolding written stepEffect registerEffect
+  stands-after-register place value next =
+      after-lengths (Step.Register place value) next (written place value known) (length-set known place _ ∙ stands .long)
+      (agrees-of-set known (before .file) place (kept place value) (stands .long) (stands .file) (stands .agrees))
+
+  stands-after-store : (to value next : ℕ) → Stands n known (after before (stepEffect (Step.Store to value) (before .memory) (before .file)))
+  unfolding stepEffect
+  stands-after-store to value next =
+      after-lengths (Step.Store to value) next known (stands .long)
+      (subst (Agrees known) (sym (storeEffect-keeps-file to value (before .memory) (before .file))) (stands .agrees))
+
+  stands-after-flag : (value next : ℕ) → Stands n known (after before (stepEffect (Step.Flag value) (before .memory) (before .file)))
+  unfolding stepEffect flagEffect
+  stands-after-flag value next =
+      after-lengths (Step.Flag value) next known (stands .long) (agrees-of-flag known (before .file) value (stands .long) (stands .agrees))
+
+  stands-after-kept : (size next : ℕ) → Stands n (forgotten known) (after before (stepEffect (Step.Size size) (before .memory) (before .file)))
+  unfolding stepEffect
+  stands-after-kept size next =
+      after-lengths (Step.Size size) next (forgotten known) (forgotten-keeps-length known ∙ stands .long)
+      (agrees-of-kept known (before .memory) (before .file) size (stands .long) (stands .agrees))
+
+-- two runs that go on alike, or have ended
+goes-on : (number at place : ℕ) (before : Machine) (this other : End) (test : Bool) → SameButPlace this other
+    → SameButPlace (if test then this else ended number at before) (if test then other else ended number place before)
+goes-on number at place before this other true alike = alike
+goes-on number at place before this other false alike = record { numbers = refl; machines = refl }
+
+decoded : (at : ℕ) (raw more : List ℕ) (step : Step) → front at raw ≡ found at step → front at (raw ++ more) ≡ found at step
+unfolding found
+decoded at raw more step reads = front-of-append at raw more step (at + (1 + operands step)) reads
+
+-- a step that is copied
+copied-runs : (at place next : ℕ) (raw more : List ℕ) (step : Step) (rest : List Placed) (before : Machine)
+    → length raw ≡ 1 + operands step → ((to : ℕ) → front to raw ≡ found to step)
+    → SameButPlace (runFrom (at + 1 + operands step) more (after before (stepEffect step (before .memory) (before .file))))
+    (runSteps rest (after before (stepEffect step (before .memory) (before .file))))
+    → SameButPlace (runFrom at (raw ++ more) before) (runSteps (placed place (Read.Step step next) ∷ rest) before)
+unfolding runSteps effect
+copied-runs at place next raw more step rest before long decodes later =
+    let outcome : Outcome = stepEffect step (before .memory) (before .file) in
+    rw (run-of-step at (raw ++ more) step before (decoded at raw more step (decodes at)), drop-at raw more (1 + operands step) long)
+    (goes-on (outcome .number) at place before (runFrom (at + 1 + operands step) more (after before outcome)) (runSteps rest (after before outcome)) (eqb (outcome .number) 0) later)
+
+-- a blit that is settled
+module _ (n : ℕ) (known : List Known) (before : Machine) (stands : Stands n known before) (size : ℕ) (holds : settled n known size ≡ true) where
+  only : OnlyD (setup (numbers known) .uses)
+  only = settled-uses-d n known size holds
+
+  agree : Agree (numbers known) (before .file)
+  agree = settled-agrees n known size holds (before .file) (stands .long) (stands .agrees)
+
+  only-here : OnlyD (setup (before .file) .uses)
+  only-here = uses-alike (numbers known) (before .file) agree only
+
+  lawful : stepRefusal (length (before .memory)) (before .file) size ≡ 0
+  lawful =
+      ap (λ (words : ℕ). stepRefusal words (before .file) size) (stands .memory)
+      ∙ sym (stepRefusal-alike (numbers known) (before .file) agree n size only)
+      ∙ settled-is-lawful n known size holds
+
+  settled-runs : (at place next : ℕ) (more : List ℕ) (rest : List Placed)
+      → SameButPlace (runFrom (afterSettled at size) more (after before (blitStep (before .memory) (before .file) size)))
+      (runSteps rest (after before (blitStep (before .memory) (before .file) size)))
+      → SameButPlace (runFrom at (settledWords (numbers known) size ++ more) before) (runSteps (placed place (Read.Step (Step.Size size) next) ∷ rest) before)
+  unfolding runSteps effect stepEffect
+  settled-runs at place next more rest later =
+      rw (
+        settledWords-alike (numbers known) (before .file) agree size only,
+        settledWords-run at size more (before .memory) (before .file) (before .stored) only-here lawful,
+        blitStep-number (before .memory) (before .file) size lawful,
+      ) later
+
+  stands-after-settled : (next : ℕ)
+      → Stands n (movedD (settledEnd (numbers known) size .flow .pointers .d) known) (after before (blitStep (before .memory) (before .file) size))
+  unfolding movedD stepEffect
+  stands-after-settled next =
+      let to : Pointer = settledEnd (numbers known) size .flow .pointers .d in
+      let high-known : List Known = set known pointerD (Known.Is (high to)) in
+      let long : length high-known ≡ 19 = length-set known pointerD (Known.Is (high to)) ∙ stands .long in
+      let long-too : length (set high-known (pointerD + 1) (Known.Is (low to))) ≡ 19 = length-set high-known (pointerD + 1) (Known.Is (low to)) ∙ long in
+      let full : length (set (before .file) pointerD (high to)) ≡ 20 = length-set (before .file) pointerD (high to) ∙ stands .file in
+      let one : Agrees high-known (set (before .file) pointerD (high to)) =
+      agrees-of-set known (before .file) pointerD (high to) (stands .long) (stands .file) (stands .agrees) in
+      let two : Agrees (set high-known (pointerD + 1) (Known.Is (low to))) (set (set (before .file) pointerD (high to)) (pointerD + 1) (low to)) =
+      agrees-of-set high-known (set (before .file) pointerD (high to)) (pointerD + 1) (low to) long full one in
+      let left : blitStep (before .memory) (before .file) size .file
+      ≡ set (set (set (before .file) pointerD (high to)) (pointerD + 1) (low to)) flag (if settledEnd (before .file) size .flow .allzero then 1 else 0) =
+      blitStep-file (before .memory) (before .file) size only-here lawful
+      ∙ ap (λ (at : Pointer). set (set (set (before .file) pointerD (high at)) (pointerD + 1) (low at)) flag (if settledEnd (before .file) size .flow .allzero then 1 else 0))
+      (sym (settledEnd-alike (numbers known) (before .file) agree size only)) in
+      after-lengths n known before stands (Step.Size size) next (movedD to known) long-too
+      (subst (Agrees (movedD to known)) (sym left)
+      (agrees-of-flag (movedD to known) (set (set (before .file) pointerD (high to)) (pointerD + 1) (low to)) _ long-too two))
+
+-- one step of the job, and the rest
+simulate-step : (n : ℕ) (job : List ℕ) (known : List Known) (at place next : ℕ) (step : Step) (rest : List Placed) (before : Machine)
+    → Stands n known before
+    → length (rawWords job place step) ≡ 1 + operands step
+    → ((to : ℕ) → front to (rawWords job place step) ≡ found to step)
+    → ((to : ℕ) (learned : List Known) (on : Machine) → Stands n learned on → SameButPlace (runFrom to (foldSteps n learned job rest) on) (runSteps rest on))
+    → SameButPlace (runFrom at (folded n known step (rawWords job place step) ++ foldSteps n (learned n known step) job rest) before)
+    (runSteps (placed place (Read.Step step next) ∷ rest) before)
+unfolding folded learned
+simulate-step n job known at place next (Step.Register to value) rest before stands long decodes later =
+    copied-runs at place next (rawWords job place (Step.Register to value)) _ (Step.Register to value) rest before long decodes
+    (later _ (written to value known) _ (stands-after-register n known before stands to value next))
+simulate-step n job known at place next (Step.Store to value) rest before stands long decodes later =
+    copied-runs at place next (rawWords job place (Step.Store to value)) _ (Step.Store to value) rest before long decodes
+    (later _ known _ (stands-after-store n known before stands to value next))
+simulate-step n job known at place next (Step.Flag value) rest before stands long decodes later =
+    copied-runs at place next (rawWords job place (Step.Flag value)) _ (Step.Flag value) rest before long decodes
+    (later _ known _ (stands-after-flag n known before stands value next))
+simulate-step n job known at place next (Step.Size size) rest before stands long decodes later = by-test (settled n known size) refl
+  where
+    by-test : (test : Bool) → settled n known size ≡ test
+        → SameButPlace
+        (runFrom at ((if test then settledWords (numbers known) size else rawWords job place (Step.Size size))
+        ++ foldSteps n (if test then movedD (settledEnd (numbers known) size .flow .pointers .d) known else forgotten known) job rest) before)
+        (runSteps (placed place (Read.Step (Step.Size size) next) ∷ rest) before)
+    by-test true holds =
+        settled-runs n known before stands size holds at place next _ rest (later _ _ _ (stands-after-settled n known before stands size holds next))
+    by-test false keeps =
+        copied-runs at place next (rawWords job place (Step.Size size)) _ (Step.Size size) rest before long decodes
+        (later _ (forgotten known) _ (stands-after-kept n known before stands size next))
+
+-- all steps of the job
+pub simulate : (n : ℕ) (job : List ℕ) (list : List Placed) → Good job list → (at : ℕ) (known : List Known) (before : Machine) → Stands n known before
+    → SameButPlace (runFrom at (foldSteps n known job list) before) (runSteps list before)
+unfolding Good foldSteps piece learnedAfter runSteps stepsFrom
+simulate n job [] good at known before stands = record { numbers = refl; machines = refl }
+simulate n job (one ∷ rest) good at known before stands =
+    subst (λ (read : Read). SameButPlace (runFrom at (piece n known job (one .place) read ++ foldSteps n (learnedAfter n known read) job rest) before)
+    (runSteps (placed (one .place) read ∷ rest) before))
+    (sym (good .0 .reads))
+    (simulate-step n job known at (one .place) (good .0 .next) (good .0 .step) rest before stands (good .0 .long) (good .0 .decodes)
+    (λ to learned on stand. simulate n job rest (good .1) to learned on stand))
+
+getD-of-nothing : (n place : ℕ) → getD (replicate n Known.Unknown) place Known.Unknown ≡ Known.Unknown
+getD-of-nothing zero place = refl
+getD-of-nothing (suc n) zero = refl
+getD-of-nothing (suc n) (suc place) = getD-of-nothing n place
+
+accepted-length : (file : List ℕ) → accepted file ≡ true → length file ≡ 20
+unfolding accepted
+accepted-length file fine = eqb-true (length file) fileLength (both-first (eqb (length file) fileLength) _ fine)
+
+-- nothing known agrees with every file
+nothing-agrees : (file : List ℕ) → Agrees nothing file
+unfolding Agrees
+nothing-agrees file place value is = let none : getD nothing place Known.Unknown ≡ Known.Unknown = getD-of-nothing 19 place in let n : _≡_ {A = ℕ} 0 1 = cc in absurd (omega arith)
+
+-- none of 1 to 3 applies to a run
+start-of-none : (memory file job : List ℕ) → memorySize (length memory) ≡ false → accepted file ≡ true → jobLength job ≡ false
+    → run memory file job ≡ runFrom 0 job (machine memory file 0)
+unfolding run startRefusal given
+start-of-none memory file job room fine short = rw (room, fine, short)
+
+-- nor of 1 and 3 to a folding that is done
+folding-starts : (n : ℕ) (job out : List ℕ) → folding n job out .number ≡ 0
+    → (memorySize n ≡ false) × (jobLength job ≡ false) × (byStep (fold n job) out (steps job) .number ≡ 0)
+unfolding folding folds.startRefusal given
+folding-starts n job out done = by-tests (memorySize n) (jobLength job) done
+  where
+    by-tests : (bad long : Bool)
+        → (if eqb (if bad then 1 else if long then 3 else 0) 0 then byStep (fold n job) out (steps job) else folds.refused (if bad then 1 else if long then 3 else 0) 0 out) .number ≡ 0
+        → (bad ≡ false) × (long ≡ false) × (byStep (fold n job) out (steps job) .number ≡ 0)
+    by-tests true long wrong = absurd (omega arith)
+    by-tests false true wrong = absurd (omega arith)
+    by-tests false false done = (refl, refl, done)
+
+short-job : (words : List ℕ) → length words ≤ 4096 → jobLength words ≡ false
+unfolding jobLength
+short-job words fits = ap not (le-leb (length words) 4096 fits)
+
+pub demand-three : DemandThree
+unfolding fold foldFrom
+demand-three n job memory file accepts sized fine =
+    let starts = folding-starts n job (accepts .out) (accepts .done) in
+    let room : memorySize (length memory) ≡ false = ap memorySize sized ∙ starts .0 in
+    let fits : length (fold n job) ≤ 4096 = byStep-fits (fold n job) (accepts .out) (steps job) (starts .2) in
+    let good : Good job (steps job) = steps-are-good job 0 0 job refl (byStep-is-clean (fold n job) (accepts .out) (steps job) (starts .2)) in
+    let stands : Stands n nothing (machine memory file 0) =
+    record { memory = sized; file = accepted-length file fine; long = nothing-length; agrees = nothing-agrees file } in
+    let alike : SameButPlace (runFrom 0 (fold n job) (machine memory file 0)) (runFrom 0 job (machine memory file 0)) =
+    simulate n job (steps job) good 0 nothing (machine memory file 0) stands in
+    let this : run memory file (fold n job) ≡ runFrom 0 (fold n job) (machine memory file 0) = start-of-none memory file (fold n job) room fine (short-job (fold n job) fits) in
+    let that : run memory file job ≡ runFrom 0 job (machine memory file 0) = start-of-none memory file job room fine (starts .1) in
+    rw (this, that)
+    (record {
+      memory = ap (λ (m : Machine). m .memory) (alike .machines);
+      file = ap (λ (m : Machine). m .file) (alike .machines);
+      stored = ap (λ (m : Machine). m .stored) (alike .machines);
+      number = alike .numbers;
+    })

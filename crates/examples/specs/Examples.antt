@@ -11,6 +11,7 @@ use Rattle.word.specs.Mask.{masked}
 use Rattle.word.specs.Shift.{shifted}
 use Rattle.word.specs.Logic.{logic}
 use Rattle.word.specs.Fill.{exclusive, inclusive}
+use Rattle.folder.specs.Fold.{fold}
 
 pub record Example : Type 0 where
   pub gives : List ℕ
@@ -24,6 +25,11 @@ gives is says = record { gives = gives; says = says }
 abbrev pub shiftedWords : Direction → (n earlier : ℕ) → (fetched : List ℕ) → List ℕ
 shiftedWords direction n earlier [] = []
 shiftedWords direction n earlier (this ∷ rest) = shifted direction n earlier this ∷ shiftedWords direction n this rest
+
+-- P11's job
+abbrev pub clearing : List ℕ
+clearing =
+    0x0040 ∷ 0x0100 ∷ 0x0042 ∷ 0x0000 ∷ 0x0054 ∷ 0x0000 ∷ 0x0056 ∷ 0x0010 ∷ 0x0066 ∷ 0x0000 ∷ 0x0058 ∷ 0x0042 ∷ []
 
 unfoldable pub examples : List Example
 examples =
@@ -47,6 +53,12 @@ examples =
     ∷ (height 0x0000 ∷ width 0x0000 ∷ []) is (1024 ∷ 64 ∷ [])
     -- P10: pointer 262,143, up one: 0
     ∷ (up (record { word = 262143 }) .word ∷ []) is (0 ∷ [])
+    -- P11: N = 16, the job folds to its first ten words, then two stores, the D pointer and the flag
+    ∷ fold 16 clearing
+    is (0x0040 ∷ 0x0100 ∷ 0x0042 ∷ 0x0000 ∷ 0x0054 ∷ 0x0000 ∷ 0x0056 ∷ 0x0010 ∷ 0x0066 ∷ 0x0000
+    ∷ 0x8000 ∷ 0x0010 ∷ 0x0000 ∷ 0x8000 ∷ 0x0012 ∷ 0x0000 ∷ 0x0054 ∷ 0x0000 ∷ 0x0056 ∷ 0x0014 ∷ 0xC001 ∷ [])
+    -- P12: the same with N = 9: copied whole
+    ∷ fold 9 clearing is clearing
     ∷ []
 
 -- every example gives what the paper says

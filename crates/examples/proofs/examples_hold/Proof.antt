@@ -5,12 +5,39 @@ use Rattle.word.specs.Size.{height, width}
 use Rattle.word.specs.Mask.{maskedWhen, masked}
 use Rattle.word.specs.Logic.{logic}
 use Rattle.word.specs.Fill.{carry, exclusive, inclusive}
+use Rattle.word.specs.Repeat.{repeated}
+use Rattle.word.specs.Choice.{given}
+use Rattle.word.specs.Pointer.{pointer, half, moved, passed}
+use Rattle.word.specs.Fill.{filled}
+use Rattle.file.specs.File.{registers, placeIn, place, isRegister, keptBits, kept}
+use Rattle.area.specs.Setup.{uses, shifts, direction, fill, masks, modulos, setup}
+use Rattle.area.specs.Flow.{pointerAt, pointers, sources, start}
+use Rattle.area.specs.Fetch.{fetched, fetch}
+use Rattle.area.specs.Finish.{maskedA, result, final, finish}
+use Rattle.area.specs.Store.{store}
+use Rattle.area.specs.Move.{stepped, moveOn, turned, rowEnd}
+use Rattle.area.specs.Rows.{finishedWord, storedWord, oneWord, rowStart, oneRow}
+use Rattle.blit.specs.Touch.{rowTouches, afterRow, touches, leaves, channelLeaves}
+use Rattle.blit.specs.Refusal.{noWords, bothFills, fillUpward, leavesMemory, stepRefusal}
+use Rattle.job.specs.Kind.{kind}
+use Rattle.job.specs.Step.{operands, found, begun, front}
+use Rattle.job.specs.Steps.{following, stepsFrom}
+use Rattle.depends.specs.Depends.{changes, counts}
+use Rattle.knowledge.specs.Known.{number, isKnown}
+use Rattle.knowledge.specs.Knowledge.{numbers}
+use Rattle.settled.specs.Words.{rowStores, blitStores, settledEnd, settledWords}
+use Rattle.folder.specs.Learn.{written, mayUse, forgetPointer, forgetSource, forgetUsed, forgotten, movedD}
+use Rattle.folder.specs.Settled.{controlsKnown, onlyDUsed, sourcesKnown, settled}
+use Rattle.folder.specs.Fold.{folded, learned, piece, learnedAfter, foldSteps, foldFrom, fold}
 use Rattle.examples.specs.Examples.{examples}
 use Rattle.examples.proofs.examples_hold.Statement.{statement}
 use Rattle.examples.proofs.examples_hold.Tie as tie
 
 returns : tie.Need-returns
-unfolding examples ofBits height width maskedWhen masked logic carry exclusive inclusive
+unfolding fold foldFrom foldSteps piece learnedAfter folded learned settled controlsKnown onlyDUsed sourcesKnown written forgotten forgetUsed forgetPointer forgetSource mayUse movedD
+    settledWords settledEnd blitStores rowStores numbers number isKnown counts changes stepsFrom following front begun found operands kind place placeIn isRegister registers kept keptBits
+    stepRefusal given noWords bothFills fillUpward leavesMemory channelLeaves leaves touches rowTouches afterRow repeated setup uses shifts direction fill masks modulos start pointers pointerAt sources pointer half moved passed
+    oneWord storedWord finishedWord finish final result maskedA fetch fetched store moveOn stepped rowStart oneRow rowEnd turned filled examples ofBits height width maskedWhen masked logic carry exclusive inclusive
 returns c = refl
 
 pub examples-hold-spec : {M : Type 1} → statement M

@@ -44,7 +44,7 @@ use Rattle.demands.proofs.SettledKnownLaws.{both-first, settled-is-lawf
 use Rattle.demands.proofs.GoodStepLaws.{GoodStep, Good, byStep-is-clean, byStep-fits, steps-are-good}
 use Rattle.demands.specs.DemandThree.{FolderAccepts, SameEnd, DemandThree}
 
-empty-begins-nothing : (at : ℕ) (step : Step) → front at [] ≡ found at step → ⊥
+pub empty-begins-nothing : (at : ℕ) (step : Step) → front at [] ≡ found at step → ⊥
 unfolding front found
 empty-begins-nothing at step reads = let n : _≡_ {A = ℕ} 0 1 = cc in omega arith
 
@@ -141,7 +141,7 @@ goes-on : (number at place : ℕ) (before : Machine) (this other : End) (test : 
 goes-on number at place before this other true alike = alike
 goes-on number at place before this other false alike = record { numbers = refl; machines = refl }
 
-decoded : (at : ℕ) (raw more : List ℕ) (step : Step) → front at raw ≡ found at step → front at (raw ++ more) ≡ found at step
+pub decoded : (at : ℕ) (raw more : List ℕ) (step : Step) → front at raw ≡ found at step → front at (raw ++ more) ≡ found at step
 unfolding found
 decoded at raw more step reads = front-of-append at raw more step (at + (1 + operands step)) reads
 
@@ -272,7 +272,7 @@ unfolding run startRefusal given
 start-of-none memory file job room fine short = rw (room, fine, short)
 
 -- nor of 1 and 3 to a folding that is done
-folding-starts : (n : ℕ) (job out : List ℕ) → folding n job out .number ≡ 0
+pub folding-starts : (n : ℕ) (job out : List ℕ) → folding n job out .number ≡ 0
     → (memorySize n ≡ false) × (jobLength job ≡ false) × (byStep (fold n job) out (steps job) .number ≡ 0)
 unfolding folding folds.startRefusal given
 folding-starts n job out done = by-tests (memorySize n) (jobLength job) done

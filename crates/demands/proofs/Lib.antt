@@ -4,3 +4,4 @@ pub mod LearnLaws
 pub mod SettledKnownLaws
 pub mod GoodStepLaws
 pub mod DemandThreeLaws
+pub mod SettledAreReplacedLaws

@@ -1,2 +1,3 @@
 -- What is demanded of a folding.
 pub mod DemandThree
+pub mod SettledAreReplaced

@@ -28,11 +28,11 @@ use Rattle.settled.proofs.StoreLaws.{run-of-store}
 use Rattle.settled.proofs.OnlyDLaws.{OnlyD, finishedWord-without-memory, oneWord-of-empty, oneRow-of-empty}
 
 -- the place after so many stores, and after so many rows of them
-pub afterStores : (left at : ℕ) → ℕ
+unfoldable pub afterStores : (left at : ℕ) → ℕ
 afterStores zero at = at
 afterStores (suc left) at = afterStores left (at + 1 + 1 + 1)
 
-pub afterRows : (width left at : ℕ) → ℕ
+unfoldable pub afterRows : (width left at : ℕ) → ℕ
 afterRows width zero at = at
 afterRows width (suc left) at = afterRows width left (afterStores width at)
 

@@ -68,7 +68,7 @@ after-done memory file stored count end only counts =
     rw (counts, written-back (setup file .uses) (end .flow .pointers) (end .flow .sources) file only)
 
 -- the place after a settled blit's words
-pub afterSettled : (at size : ℕ) → ℕ
+unfoldable pub afterSettled : (at size : ℕ) → ℕ
 afterSettled at size = afterRows (width size) (height size) at + 1 + 1 + 1 + 1 + 1
 
 -- a settled blit's words, made of the very file they are run on, and the run after them

@@ -19,7 +19,7 @@ use Rattle.job.specs.declared.types.Step.{Step}
 use Rattle.job.specs.declared.types.Read.{Read}
 use Rattle.job.specs.Kind.{kind}
 use Rattle.job.specs.Step.{operands, found, isOdd, begun, front}
-use Rattle.job.specs.Steps.{following, stepsFrom}
+use Rattle.job.specs.Steps.{placed, following, stepsFrom}
 use Rattle.runner.specs.Effect.{did, registerEffect, storeEffect, flagEffect, stepEffect, effect}
 use Rattle.runner.specs.Run.{Machine, machine, End, ended, runSteps, runFrom}
 use Rattle.settled.specs.Words.{storeWords, pointerWords, flagWords}
@@ -94,3 +94,21 @@ run-of-end at to allzero more memory file stored =
     (rw (front-of-low (at + 1 + 1) (low to) ((if allzero then 0xC001 else 0xC000) ∷ more))
     (rw (front-of-flag (at + 1 + 1 + 1 + 1) allzero more)
     (rw (kept-of-high to, kept-of-low to, add-zero, add-zero, add-zero))))
+
+-- the steps of a store's words, and of the words that end a settled blit
+pub steps-of-store : (at value : ℕ) (to : Pointer) (more : List ℕ) → to .word < pointerEnd
+    → stepsFrom 0 at (storeWords to value ++ more) ≡ placed at (found at (Step.Store (to .word) value)) ∷ stepsFrom 0 (at + 1 + 1 + 1) more
+unfolding stepsFrom found following operands
+steps-of-store at value to more small = rw (front-of-store at value to more small)
+
+pub steps-of-end : (at : ℕ) (to : Pointer) (allzero : Bool) (more : List ℕ)
+    → stepsFrom 0 at ((pointerWords to ++ flagWords allzero) ++ more)
+    ≡ placed at (found at (Step.Register pointerD (high to)))
+    ∷ placed (at + 1 + 1) (found (at + 1 + 1) (Step.Register (pointerD + 1) (low to)))
+    ∷ placed (at + 1 + 1 + 1 + 1) (found (at + 1 + 1 + 1 + 1) (Step.Flag (if allzero then 1 else 0)))
+    ∷ stepsFrom 0 (at + 1 + 1 + 1 + 1 + 1) more
+unfolding stepsFrom found following operands
+steps-of-end at to allzero more =
+    rw (front-of-high at (high to) (0x0056 ∷ low to ∷ (if allzero then 0xC001 else 0xC000) ∷ more))
+    (rw (front-of-low (at + 1 + 1) (low to) ((if allzero then 0xC001 else 0xC000) ∷ more))
+    (rw (front-of-flag (at + 1 + 1 + 1 + 1) allzero more)))

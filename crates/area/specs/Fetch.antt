@@ -1,4 +1,5 @@
--- Paper 01, "The area blit": "A used source fetches at its pointer; a source not in use gives its data register each time."
+-- Paper 01, "The area blit": "A used source fetches at its pointer; a source not in use gives its data register each
+-- time."
 -- "The data register of each used source holds the last word it fetched, unmasked."
 use Prim.Native.Nat.{ℕ}
 use mathlib.Core.Bool.{Bool}

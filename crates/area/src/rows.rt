@@ -8,7 +8,8 @@ use crate::types::Setup;
 
 // One word: fetched, finished, stored, and the pointers moved on. So many of its row are left after it.
 fn one_word(ram: &mut [u16], setup: Setup, width: u32, left: u32, flow: Flow) -> Flow
-    requires { ⌜ (setup .shifts .a < 16) × (setup .shifts .b < 16) × (flow .stored < 4294967295) × (left < 4294967295) ⌝ }
+    requires { ⌜ (setup .shifts .a < 16) × (setup .shifts .b < 16)
+        × (flow .stored < 4294967295) × (left < 4294967295) ⌝ }
     ensures { λ after. ⌜
         state (now (ram .exit)) after
         ≡ oneWord setup width left (state (now (ram .entry)) flow) ⌝ }
@@ -73,7 +74,8 @@ pub struct Rest {
 
 // Does one or more of the rows left and says how many are left after that.
 fn some_rows(ram: &mut [u16], setup: Setup, width: u32, left: u32, flow: Flow) -> Rest
-    requires { ⌜ (setup .shifts .a < 16) × (setup .shifts .b < 16) × (0 < left) × (width ≤ 64) × (flow .stored + left * 64 < 4294967296) ⌝ }
+    requires { ⌜ (setup .shifts .a < 16) × (setup .shifts .b < 16)
+        × (0 < left) × (width ≤ 64) × (flow .stored + left * 64 < 4294967296) ⌝ }
     ensures { λ rest. ⌜ (rest .left < left) × (rest .flow .stored + rest .left * 64 < 4294967296)
         × (rows setup width (rest .left) (state (now (ram .exit)) (rest .flow))
         ≡ rows setup width left (state (now (ram .entry)) flow)) ⌝ }
@@ -90,7 +92,8 @@ fn some_rows(ram: &mut [u16], setup: Setup, width: u32, left: u32, flow: Flow) -
 }
 
 pub fn rows(ram: &mut [u16], setup: Setup, width: u32, height: u32, flow: Flow) -> Flow
-    requires { ⌜ (setup .shifts .a < 16) × (setup .shifts .b < 16) × (width ≤ 64) × (flow .stored + height * 64 < 4294967296) ⌝ }
+    requires { ⌜ (setup .shifts .a < 16) × (setup .shifts .b < 16)
+        × (width ≤ 64) × (flow .stored + height * 64 < 4294967296) ⌝ }
     ensures { λ after. ⌜
         state (now (ram .exit)) after
         ≡ rows setup width height (state (now (ram .entry)) flow) ⌝ }

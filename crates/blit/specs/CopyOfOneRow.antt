@@ -1,4 +1,5 @@
--- The shift of nought on memory: a copy of one row, between parts that don't overlap, leaves at D exactly the words that stood at A.
+-- The shift of nought on memory: a copy of one row, between parts that don't overlap, leaves at D exactly the words
+-- that stood at A.
 use Prim.Native.Nat.{ℕ, _<_}
 use mathlib.Core.Path.{_≡_}
 use mathlib.Core.List.{List}

@@ -36,4 +36,5 @@ among word (touched ∷ rest) = eqb touched word || among word rest
 
 -- a used channel leaves memory of n words
 unfoldable pub channelLeaves : (n : ℕ) → Direction → (used : Bool) → (width modulo rows : ℕ) → Pointer → Bool
-channelLeaves n direction used width modulo rows pointer = used && leaves n (touches direction width modulo rows pointer)
+channelLeaves n direction used width modulo rows pointer =
+    used && leaves n (touches direction width modulo rows pointer)

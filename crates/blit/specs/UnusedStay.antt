@@ -1,4 +1,5 @@
--- "Unused pointers stay", and so do unused data registers, controls, masks and modulos: a blit changes no other register.
+-- "Unused pointers stay", and so do unused data registers, controls, masks and modulos: a blit changes no other
+-- register.
 use Prim.Native.Nat.{ℕ, _+_}
 use mathlib.Core.Path.{_≡_}
 use mathlib.Core.Bool.{Bool, false}

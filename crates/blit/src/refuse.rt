@@ -34,7 +34,8 @@ fn fill_upward(con1: u16) -> bool
 }
 
 fn leaves_memory(n: usize, setup: Setup, pointers: Pointers, size: u16) -> bool
-    requires { ⌜ (pointers .a .word < 262144) × (pointers .b .word < 262144) × (pointers .c .word < 262144) × (pointers .d .word < 262144) ⌝ }
+    requires { ⌜ (pointers .a .word < 262144) × (pointers .b .word < 262144)
+        × (pointers .c .word < 262144) × (pointers .d .word < 262144) ⌝ }
     ensures { λ outside. ⌜ outside ≡ leavesMemory n setup pointers size ⌝ }
 {
     let uses = setup.uses;

@@ -1,31 +1,26 @@
--- Demand 3: step by step the folded job and the original leave the same machine, and what the folder knows agrees with its register file.
-use mathlib.Core.Path.{_≡_, refl, sym, ap, ap₂, subst, _∙_}
+-- Demand 3: step by step the folded job and the original leave the same machine, and what the folder knows agrees with it.
+use mathlib.Core.Path.{_≡_, refl, sym, ap, subst, _∙_}
 use Prim.Native.Nat.{ℕ, zero, suc, _+_, _≤_}
-use native.Mathlib.Numerals.{one-add}
 use native.Mathlib.Omega.{arith}
 use mathlib.Core.Bool.{Bool, true, false, not}
 use mathlib.Core.List.{List, [], _∷_, _++_}
-use borrow.Author.Tests.{eqb-true, eqb-false, le-leb, leb-true}
-use lib.Dec.{eqb, leb}
-use lib.ListN.{length, getD, set, drop, replicate, length-set}
-use lib.Seq.{drop-at}
+use borrow.Author.Tests.{eqb-true, le-leb}
+use lib.Dec.{eqb}
+use lib.ListN.{length, getD, set, replicate, length-set}
 use Rattle.word.specs.declared.types.Pointer.{Pointer}
 use Rattle.word.specs.Choice.{if_then_else_, given}
 use Rattle.word.specs.Pointer.{high, low}
-use Rattle.file.specs.File.{kept, accepted, pointerD, flag, fileLength}
+use Rattle.file.specs.File.{accepted, pointerD, flag, fileLength}
 use Rattle.area.specs.Setup.{setup}
 use Rattle.blit.specs.Refusal.{memorySize, stepRefusal}
-use Rattle.blit.specs.Blit.{Outcome, refused, blitStep}
+use Rattle.blit.specs.Blit.{refused, blitStep}
 use Rattle.job.specs.declared.types.Step.{Step}
 use Rattle.job.specs.declared.types.Read.{Read}
 use Rattle.job.specs.Step.{operands, found, front}
-use Rattle.job.specs.Steps.{Placed, placed, following, stepsFrom, steps}
-use Rattle.job.proofs.StepLaws.{front-of-append}
-use Rattle.job.proofs.StepsLaws.{stepsFrom-of-skip}
-use Rattle.runner.specs.Effect.{did, registerEffect, storeEffect, flagEffect, stepEffect, effect}
-use Rattle.runner.specs.Run.{Machine, machine, after, End, ended, runSteps, runFrom, jobLength, startRefusal, run}
+use Rattle.job.specs.Steps.{Placed, placed, stepsFrom, steps}
+use Rattle.runner.specs.Effect.{stepEffect, effect}
+use Rattle.runner.specs.Run.{Machine, machine, after, runSteps, runFrom, jobLength, startRefusal, run}
 use Rattle.runner.proofs.AnywhereLaws.{SameButPlace}
-use Rattle.runner.proofs.LengthLaws.{effect-keeps-memory-length, effect-keeps-file-length}
 use Rattle.knowledge.specs.declared.types.Known.{Known}
 use Rattle.knowledge.specs.Knowledge.{nothing, numbers}
 use Rattle.knowledge.proofs.KnowledgeLaws.{nothing-length}
@@ -39,123 +34,11 @@ use Rattle.folder.specs.Folding.{folding, byStep}
 use Rattle.folder.specs.Folding as folds
 use Rattle.folder.specs.Fold.{folded, learned, rawWords, piece, learnedAfter, foldSteps, foldFrom, fold}
 use Rattle.demands.proofs.AgreesLaws.{Agrees, agrees-of-set, agrees-of-flag}
-use Rattle.demands.proofs.LearnLaws.{forgotten-keeps-length, agrees-of-kept}
 use Rattle.demands.proofs.SettledKnownLaws.{both-first, settled-is-lawful, settled-uses-d, settled-agrees}
-use Rattle.demands.proofs.GoodStepLaws.{GoodStep, Good, byStep-is-clean, byStep-fits, steps-are-good}
-use Rattle.demands.specs.DemandThree.{FolderAccepts, SameEnd, DemandThree}
-
-pub empty-begins-nothing : (at : ℕ) (step : Step) → front at [] ≡ found at step → ⊥
-unfolding front found
-empty-begins-nothing at step reads = let n : _≡_ {A = ℕ} 0 1 = cc in omega arith
-
--- a step with its operands, and the run after it
-found-runs : (at first : ℕ) (rest : List ℕ) (step : Step) (before : Machine)
-    → (if eqb (effect (found at step) (before .memory) (before .file) .number) 0
-    then runSteps (stepsFrom (following (found at step)) (at + 1) rest) (after before (effect (found at step) (before .memory) (before .file)))
-    else ended (effect (found at step) (before .memory) (before .file) .number) at before)
-    ≡ (if eqb (stepEffect step (before .memory) (before .file) .number) 0
-    then runFrom (at + 1 + operands step) (drop (1 + operands step) (first ∷ rest)) (after before (stepEffect step (before .memory) (before .file)))
-    else ended (stepEffect step (before .memory) (before .file) .number) at before)
-unfolding effect found following
-found-runs at first rest step before =
-    ap (λ (list : List Placed). if eqb (stepEffect step (before .memory) (before .file) .number) 0
-    then runSteps list (after before (stepEffect step (before .memory) (before .file)))
-    else ended (stepEffect step (before .memory) (before .file) .number) at before)
-    (stepsFrom-of-skip (operands step) (at + 1) rest
-    ∙ ap (λ (n : ℕ). stepsFrom 0 (at + 1 + operands step) (drop n (first ∷ rest))) (sym (one-add (operands step))))
-
--- the run of words that begin with a step
-run-of-step : (at : ℕ) (words : List ℕ) (step : Step) (before : Machine) → front at words ≡ found at step
-    → runFrom at words before
-    ≡ (if eqb (stepEffect step (before .memory) (before .file) .number) 0
-    then runFrom (at + 1 + operands step) (drop (1 + operands step) words) (after before (stepEffect step (before .memory) (before .file)))
-    else ended (stepEffect step (before .memory) (before .file) .number) at before)
-unfolding stepsFrom runSteps
-run-of-step at [] step before reads = absurd (empty-begins-nothing at step reads)
-run-of-step at (first ∷ rest) step before reads = by-read (front at (first ∷ rest)) reads
-  where
-    by-read : (read : Read) → read ≡ found at step
-        → (if eqb (effect read (before .memory) (before .file) .number) 0
-        then runSteps (stepsFrom (following read) (at + 1) rest) (after before (effect read (before .memory) (before .file)))
-        else ended (effect read (before .memory) (before .file) .number) at before)
-        ≡ (if eqb (stepEffect step (before .memory) (before .file) .number) 0
-        then runFrom (at + 1 + operands step) (drop (1 + operands step) (first ∷ rest)) (after before (stepEffect step (before .memory) (before .file)))
-        else ended (stepEffect step (before .memory) (before .file) .number) at before)
-    by-read read same = rw same (found-runs at first rest step before)
-
--- what a run has at a step of the machine that it stands on: memory of n words, a file of 20, and knowledge that agrees with it
-pub record Stands (n : ℕ) (known : List Known) (before : Machine) : Type 0 where
-  pub memory : length (before .memory) ≡ n
-  pub file : length (before .file) ≡ 20
-  pub long : length known ≡ 19
-  pub agrees : Agrees known (before .file)
-
-storeEffect-keeps-file : (to value : ℕ) (memory file : List ℕ) → storeEffect to value memory file .file ≡ file
-unfolding storeEffect refused
-storeEffect-keeps-file to value memory file = by-test (leb (length memory) to)
-  where
-    by-test : (outside : Bool) → (if outside then refused 10 memory file else did 1 (set memory to value) file) .file ≡ file
-    by-test true = refl
-    by-test false = refl
-
--- after a step that is copied, knowledge agrees
-module _ (n : ℕ) (known : List Known) (before : Machine) (stands : Stands n known before) where
-  after-lengths : (step : Step) (next : ℕ) (learned : List Known) → length learned ≡ 19
-      → Agrees learned (stepEffect step (before .memory) (before .file) .file)
-      → Stands n learned (after before (stepEffect step (before .memory) (before .file)))
-  unfolding effect
-  after-lengths step next learned long agrees =
-      record {
-        memory = effect-keeps-memory-length (Read.Step step next) (before .memory) (before .file) ∙ stands .memory;
-        file = effect-keeps-file-length (Read.Step step next) (before .memory) (before .file) ∙ stands .file;
-        long = long;
-        agrees = agrees;
-      }
-
-  stands-after-register : (place value next : ℕ) → Stands n (written place value known) (after before (stepEffect (Step.Register place value) (before .memory) (before .file)))
-  unfolding written stepEffect registerEffect
-  stands-after-register place value next =
-      after-lengths (Step.Register place value) next (written place value known) (length-set known place _ ∙ stands .long)
-      (agrees-of-set known (before .file) place (kept place value) (stands .long) (stands .file) (stands .agrees))
-
-  stands-after-store : (to value next : ℕ) → Stands n known (after before (stepEffect (Step.Store to value) (before .memory) (before .file)))
-  unfolding stepEffect
-  stands-after-store to value next =
-      after-lengths (Step.Store to value) next known (stands .long)
-      (subst (Agrees known) (sym (storeEffect-keeps-file to value (before .memory) (before .file))) (stands .agrees))
-
-  stands-after-flag : (value next : ℕ) → Stands n known (after before (stepEffect (Step.Flag value) (before .memory) (before .file)))
-  unfolding stepEffect flagEffect
-  stands-after-flag value next =
-      after-lengths (Step.Flag value) next known (stands .long) (agrees-of-flag known (before .file) value (stands .long) (stands .agrees))
-
-  stands-after-kept : (size next : ℕ) → Stands n (forgotten known) (after before (stepEffect (Step.Size size) (before .memory) (before .file)))
-  unfolding stepEffect
-  stands-after-kept size next =
-      after-lengths (Step.Size size) next (forgotten known) (forgotten-keeps-length known ∙ stands .long)
-      (agrees-of-kept known (before .memory) (before .file) size (stands .long) (stands .agrees))
-
--- two runs that go on alike, or have ended
-goes-on : (number at place : ℕ) (before : Machine) (this other : End) (test : Bool) → SameButPlace this other
-    → SameButPlace (if test then this else ended number at before) (if test then other else ended number place before)
-goes-on number at place before this other true alike = alike
-goes-on number at place before this other false alike = record { numbers = refl; machines = refl }
-
-pub decoded : (at : ℕ) (raw more : List ℕ) (step : Step) → front at raw ≡ found at step → front at (raw ++ more) ≡ found at step
-unfolding found
-decoded at raw more step reads = front-of-append at raw more step (at + (1 + operands step)) reads
-
--- a step that is copied
-copied-runs : (at place next : ℕ) (raw more : List ℕ) (step : Step) (rest : List Placed) (before : Machine)
-    → length raw ≡ 1 + operands step → ((to : ℕ) → front to raw ≡ found to step)
-    → SameButPlace (runFrom (at + 1 + operands step) more (after before (stepEffect step (before .memory) (before .file))))
-    (runSteps rest (after before (stepEffect step (before .memory) (before .file))))
-    → SameButPlace (runFrom at (raw ++ more) before) (runSteps (placed place (Read.Step step next) ∷ rest) before)
-unfolding runSteps effect
-copied-runs at place next raw more step rest before long decodes later =
-    let outcome : Outcome = stepEffect step (before .memory) (before .file) in
-    rw (run-of-step at (raw ++ more) step before (decoded at raw more step (decodes at)), drop-at raw more (1 + operands step) long)
-    (goes-on (outcome .number) at place before (runFrom (at + 1 + operands step) more (after before outcome)) (runSteps rest (after before outcome)) (eqb (outcome .number) 0) later)
+use Rattle.demands.proofs.GoodStepLaws.{Good, byStep-is-clean, byStep-fits, steps-are-good}
+use Rattle.demands.specs.DemandThree.{DemandThree}
+use Rattle.demands.proofs.StepRunLaws.{copied-runs}
+use Rattle.demands.proofs.StandsLaws.{Stands, after-lengths, stands-after-register, stands-after-store, stands-after-flag, stands-after-kept}
 
 -- a blit that is settled
 module _ (n : ℕ) (known : List Known) (before : Machine) (stands : Stands n known before) (size : ℕ) (holds : settled n known size ≡ true) where

@@ -3,5 +3,7 @@ pub mod AgreesLaws
 pub mod LearnLaws
 pub mod SettledKnownLaws
 pub mod GoodStepLaws
+pub mod StepRunLaws
+pub mod StandsLaws
 pub mod DemandThreeLaws
 pub mod SettledAreReplacedLaws

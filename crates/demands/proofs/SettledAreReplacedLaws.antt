@@ -39,7 +39,8 @@ use Rattle.demands.specs.DemandThree.{FolderAccepts}
 use Rattle.demands.specs.SettledAreReplaced.{sizeOf, sizes, unsettledOf, unsettled, SettledAreReplaced}
 use Rattle.demands.proofs.SettledKnownLaws.{settled-uses-d}
 use Rattle.demands.proofs.GoodStepLaws.{GoodStep, Good, byStep-is-clean, steps-are-good}
-use Rattle.demands.proofs.DemandThreeLaws.{decoded, empty-begins-nothing, folding-starts}
+use Rattle.demands.proofs.StepRunLaws.{decoded, empty-begins-nothing}
+use Rattle.demands.proofs.DemandThreeLaws.{folding-starts}
 
 -- the size writes of a run of words
 abbrev sizesFrom : (at : ℕ) (words : List ℕ) → List ℕ

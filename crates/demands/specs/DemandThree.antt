@@ -1,6 +1,6 @@
--- Demand 3: "Take any job the folder accepts, any memory of the size it was folded for, and any register file the runner accepts at
--- the start. The folded job and the original end with the same memory, registers, zero flag, count of stored words and answer number.
--- Only the place told with a refusal may differ."
+-- Demand 3: "Take any job the folder accepts, any memory of the size it was folded for, and any register file the
+-- runner accepts at the start. The folded job and the original end with the same memory, registers, zero flag, count
+-- of stored words and answer number. Only the place told with a refusal may differ."
 use Prim.Native.Nat.{ℕ}
 use mathlib.Core.Path.{_≡_}
 use mathlib.Core.Bool.{true}

@@ -37,7 +37,9 @@ unsettledOf n known (size ∷ rest) = (if settled n known size then [] else size
 -- the sizes of all size writes that aren't settled
 unfoldable pub unsettled : (n : ℕ) → (known : List Known) → List Placed → List ℕ
 unsettled n known [] = []
-unsettled n known (one ∷ rest) = unsettledOf n known (sizeOf (one .read)) ++ unsettled n (learnedAfter n known (one .read)) rest
+unsettled n known (one ∷ rest) =
+    unsettledOf n known (sizeOf (one .read))
+    ++ unsettled n (learnedAfter n known (one .read)) rest
 
 abbrev pub SettledAreReplaced : Type 0
 SettledAreReplaced =

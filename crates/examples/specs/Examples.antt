@@ -63,4 +63,6 @@ examples =
 
 -- every example gives what the paper says
 abbrev pub ExamplesHold : Type 0
-ExamplesHold = map (λ (example : Example). example .gives) examples ≡ map (λ (example : Example). example .says) examples
+ExamplesHold =
+    map (λ (example : Example). example .gives) examples
+    ≡ map (λ (example : Example). example .says) examples

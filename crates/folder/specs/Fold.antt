@@ -34,7 +34,8 @@ learned n known (Step.Flag value) = known
 abbrev pub rawWords : (job : List ℕ) → (at : ℕ) → Step → List ℕ
 rawWords job at step = take (1 + operands step) (drop at job)
 
--- what stands at a place becomes, and what is known after it; what is no step becomes nothing, and the folder refuses the job for it
+-- what stands at a place becomes, and what is known after it; what is no step becomes nothing, and the folder refuses
+-- the job for it
 unfoldable pub piece : (n : ℕ) → (known : List Known) → (job : List ℕ) → (at : ℕ) → Read → List ℕ
 piece n known job at (Read.Step step next) = folded n known step (rawWords job at step)
 piece n known job at Read.End = []

@@ -1,4 +1,5 @@
--- Paper 01, "Folding": what a step does to the folder's knowledge, a list of what is known of each register in the file's order.
+-- Paper 01, "Folding": what a step does to the folder's knowledge, a list of what is known of each register in the
+-- file's order.
 use Prim.Native.Nat.{ℕ, _+_}
 use mathlib.Core.Bool.{Bool, true}
 use mathlib.Core.List.{List}

@@ -21,7 +21,8 @@ following Read.NoStep = 0
 following Read.CutOff = 0
 following Read.OddStore = 0
 
--- the steps of a run of words, of which the first is word `at` of the job and the first `skip` belong to the step before
+-- the steps of a run of words, of which the first is word `at` of the job and the first `skip` belong to the step
+-- before
 unfoldable pub stepsFrom : (skip at : ℕ) → (words : List ℕ) → List Placed
 stepsFrom skip at [] = []
 stepsFrom zero at (first ∷ rest) =

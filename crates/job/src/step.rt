@@ -45,7 +45,8 @@ fn word_at(job: &[u16], at: usize) -> u16
     0
 }
 
-// The step whose first word stands at a place of the job, by what that word begins: a register's write, a size, a store.
+// The step whose first word stands at a place of the job, by what that word begins: a register's write, a size, a
+// store.
 fn register_at(job: &[u16], at: usize, place: u32) -> Read
     requires { ⌜ at < length (now job) ⌝ }
     ensures { λ read. ⌜ read ≡ begun (Kind.Register place) at (drop (at + 1) (now (job .entry))) ⌝ }

@@ -68,7 +68,8 @@ impl Knowledge {
         self.sources.at(place - 16)
     }
 
-    // The knowledge with one register replaced: by its number where a write makes it known, by Unknown where it is forgotten.
+    // The knowledge with one register replaced: by its number where a write makes it known, by Unknown where it is
+    // forgotten.
     // A place that is no register's changes nothing.
     pub fn with(self, place: u32, known: Known) -> Knowledge
         ensures { λ after. ⌜ listed after ≡ set (listed self) place known ⌝ }

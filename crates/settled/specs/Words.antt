@@ -1,5 +1,6 @@
--- Paper 01, "Folding": "A settled 058 write becomes its stores in the blit's order, writes of 054 and 056 with the final D pointer,
--- then the flag step." The words are the blit's own: a settled blit uses D alone, so it fetches nothing and memory has no part in it.
+-- Paper 01, "Folding": "A settled 058 write becomes its stores in the blit's order, writes of 054 and 056 with the
+-- final D pointer, then the flag step." The words are the blit's own: a settled blit uses D alone, so it fetches
+-- nothing and memory has no part in it.
 use Prim.Native.Nat.{ℕ, zero, suc, _+_}
 use mathlib.Core.Bool.{Bool}
 use mathlib.Core.List.{List, [], _∷_, _++_}

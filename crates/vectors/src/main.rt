@@ -1,4 +1,5 @@
-// The manual's vectors, run through the blit on memory and printed; the file stdout beside src/ holds what the manual says.
+// The manual's vectors, run through the blit on memory and printed; the file stdout beside src/ holds what the manual
+// says.
 
 // A register file with masks of all ones and the pointers' low halves.
 fn registers(con0: u16, con1: u16, a: u16, b: u16, c: u16, d: u16) -> [u16; 20] {

@@ -1,4 +1,5 @@
--- How the definitions choose: one test a line, the first that holds; and the paper's table of numbers as a list of rules.
+-- How the definitions choose: one test a line, the first that holds; and the paper's table of numbers as a list of
+-- rules.
 use Prim.Native.Nat.{ℕ, zero, suc}
 use mathlib.Core.Bool.{Bool, true, false, _&&_}
 use mathlib.Core.List.{List, [], _∷_}

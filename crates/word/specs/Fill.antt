@@ -1,4 +1,5 @@
--- Paper 01, "The area blit": the fill of one word, from bit 0 to bit 15, with the carry that comes to it and the carry it hands on.
+-- Paper 01, "The area blit": the fill of one word, from bit 0 to bit 15, with the carry that comes to it and the carry
+-- it hands on.
 use Prim.Native.Nat.{ℕ, zero, suc, _%_}
 use lib.Bits.{bitOr, bitXor}
 use Rattle.word.specs.declared.types.Fill.{Fill}

@@ -1,4 +1,5 @@
--- Paper 01, "The area blit": "A is ANDed with BLTAFWM on the first word of a row and BLTALWM on the last; with both where the width is one."
+-- Paper 01, "The area blit": "A is ANDed with BLTAFWM on the first word of a row and BLTALWM on the last; with both
+-- where the width is one."
 use Prim.Native.Nat.{ℕ}
 use mathlib.Core.Bool.{Bool}
 use lib.Bits.{bitAnd}

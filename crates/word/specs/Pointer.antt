@@ -1,5 +1,6 @@
 -- Paper 01, "Memory and registers": pointers and modulos.
--- A pointer's high and low half are kept bits only (high 2-0, low 15-1); the remainder by 262,144 bounds any other number.
+-- A pointer's high and low half are kept bits only (high 2-0, low 15-1); the remainder by 262,144 bounds any other
+-- number.
 use Prim.Native.Nat.{ℕ, _+_, _-_, _*_, _/_, _%_}
 use Rattle.word.specs.declared.types.Direction.{Direction}
 use Rattle.word.specs.declared.types.Direction.the-variants.{Ascending, Descending}

@@ -1,4 +1,5 @@
-// The leaves of the area blit: the moved pointer, a blit's size, and the mask, shift, logic function and fill of one word.
+// The leaves of the area blit: the moved pointer, a blit's size, and the mask, shift, logic function and fill of one
+// word.
 pub mod fill;
 pub mod logic;
 pub mod mask;

@@ -2,7 +2,8 @@
 ghost use mathlib.Core.Path.{_≡_};
 ghost use Rattle.word.specs.Logic.{logic};
 
-// Bit i of the function, spread over a word, is what the sources' setting i gives; bit by bit c, then b, then a picks one of two.
+// Bit i of the function, spread over a word, is what the sources' setting i gives; bit by bit c, then b, then a picks
+// one of two.
 pub fn logic(function: u16, a: u16, b: u16, c: u16) -> u16
     ensures { λ result. ⌜ result ≡ logic function a b c ⌝ }
 {

@@ -1,0 +1,72 @@
+-- Laws of the machine that a run stands on: after every step that is copied, what the folder knows agrees with its file.
+use mathlib.Core.Path.{_≡_, refl, sym, subst, _∙_}
+use Prim.Native.Nat.{ℕ}
+use mathlib.Core.Bool.{Bool, true, false}
+use mathlib.Core.List.{List}
+use lib.Dec.{leb}
+use lib.ListN.{length, set, length-set}
+use Rattle.word.specs.Choice.{if_then_else_}
+use Rattle.file.specs.File.{kept}
+use Rattle.blit.specs.Blit.{refused}
+use Rattle.job.specs.declared.types.Step.{Step}
+use Rattle.job.specs.declared.types.Read.{Read}
+use Rattle.runner.specs.Effect.{did, registerEffect, storeEffect, flagEffect, stepEffect, effect}
+use Rattle.runner.specs.Run.{Machine, machine, after, run}
+use Rattle.runner.proofs.LengthLaws.{effect-keeps-memory-length, effect-keeps-file-length}
+use Rattle.knowledge.specs.declared.types.Known.{Known}
+use Rattle.folder.specs.Learn.{written, forgotten}
+use Rattle.folder.specs.Fold.{learned}
+use Rattle.demands.proofs.AgreesLaws.{Agrees, agrees-of-set, agrees-of-flag}
+use Rattle.demands.proofs.LearnLaws.{forgotten-keeps-length, agrees-of-kept}
+
+-- what a run has at a step of the machine that it stands on: memory of n words, a file of 20, and knowledge that agrees with it
+pub record Stands (n : ℕ) (known : List Known) (before : Machine) : Type 0 where
+  pub memory : length (before .memory) ≡ n
+  pub file : length (before .file) ≡ 20
+  pub long : length known ≡ 19
+  pub agrees : Agrees known (before .file)
+
+storeEffect-keeps-file : (to value : ℕ) (memory file : List ℕ) → storeEffect to value memory file .file ≡ file
+unfolding storeEffect refused
+storeEffect-keeps-file to value memory file = by-test (leb (length memory) to)
+  where
+    by-test : (outside : Bool) → (if outside then refused 10 memory file else did 1 (set memory to value) file) .file ≡ file
+    by-test true = refl
+    by-test false = refl
+
+-- after a step that is copied, knowledge agrees
+module _ (n : ℕ) (known : List Known) (before : Machine) (stands : Stands n known before) where
+  pub after-lengths : (step : Step) (next : ℕ) (learned : List Known) → length learned ≡ 19
+      → Agrees learned (stepEffect step (before .memory) (before .file) .file)
+      → Stands n learned (after before (stepEffect step (before .memory) (before .file)))
+  unfolding effect
+  after-lengths step next learned long agrees =
+      record {
+        memory = effect-keeps-memory-length (Read.Step step next) (before .memory) (before .file) ∙ stands .memory;
+        file = effect-keeps-file-length (Read.Step step next) (before .memory) (before .file) ∙ stands .file;
+        long = long;
+        agrees = agrees;
+      }
+
+  pub stands-after-register : (place value next : ℕ) → Stands n (written place value known) (after before (stepEffect (Step.Register place value) (before .memory) (before .file)))
+  unfolding written stepEffect registerEffect
+  stands-after-register place value next =
+      after-lengths (Step.Register place value) next (written place value known) (length-set known place _ ∙ stands .long)
+      (agrees-of-set known (before .file) place (kept place value) (stands .long) (stands .file) (stands .agrees))
+
+  pub stands-after-store : (to value next : ℕ) → Stands n known (after before (stepEffect (Step.Store to value) (before .memory) (before .file)))
+  unfolding stepEffect
+  stands-after-store to value next =
+      after-lengths (Step.Store to value) next known (stands .long)
+      (subst (Agrees known) (sym (storeEffect-keeps-file to value (before .memory) (before .file))) (stands .agrees))
+
+  pub stands-after-flag : (value next : ℕ) → Stands n known (after before (stepEffect (Step.Flag value) (before .memory) (before .file)))
+  unfolding stepEffect flagEffect
+  stands-after-flag value next =
+      after-lengths (Step.Flag value) next known (stands .long) (agrees-of-flag known (before .file) value (stands .long) (stands .agrees))
+
+  pub stands-after-kept : (size next : ℕ) → Stands n (forgotten known) (after before (stepEffect (Step.Size size) (before .memory) (before .file)))
+  unfolding stepEffect
+  stands-after-kept size next =
+      after-lengths (Step.Size size) next (forgotten known) (forgotten-keeps-length known ∙ stands .long)
+      (agrees-of-kept known (before .memory) (before .file) size (stands .long) (stands .agrees))

@@ -1,4 +1,5 @@
 -- The laws of the definitions in specs/, a file for each.
+pub mod RowTouchLaws
 pub mod TouchLaws
 pub mod RefusalLaws
 pub mod BlitLaws

@@ -23,7 +23,8 @@ use Rattle.blit.proofs.RefusalLaws.{numbered}
 use Rattle.depends.specs.Depends.{counts}
 use Rattle.settled.specs.Words.{pointerWords, flagWords, blitStores, settledEnd, settledWords}
 use Rattle.settled.proofs.OnlyDLaws.{OnlyD}
-use Rattle.settled.proofs.AlikeLaws.{AlikeSetup, AlikeFlow, blitStores-alike, rows-alike}
+use Rattle.settled.proofs.AlikeLaws.{AlikeSetup, AlikeFlow}
+use Rattle.settled.proofs.AlikeRowsLaws.{blitStores-alike, rows-alike}
 
 pub record Agree (this other : List ℕ) : Type 0 where
   pub control0 : con0 this ≡ con0 other

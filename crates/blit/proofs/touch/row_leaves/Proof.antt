@@ -1,5 +1,5 @@
 -- `blit::touch::row_leaves` meets its contract: a row's two ends tell for the row.
-use Rattle.blit.proofs.TouchLaws.{leaves-when-ascending, leaves-when-first-above, leaves-when-first-below}
+use Rattle.blit.proofs.RowTouchLaws.{leaves-when-ascending, leaves-when-first-above, leaves-when-first-below}
 use borrow.Author.Needs.{needs}
 use Rattle.blit.proofs.touch.row_leaves.Statement.{statement}
 use Rattle.blit.proofs.touch.row_leaves.Tie as tie

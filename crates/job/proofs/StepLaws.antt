@@ -163,7 +163,7 @@ begun-is-some (Kind.Store high) at (low ∷ value ∷ rest) reads = by-test (isO
     by-test false reads = let n : _≡_ {A = ℕ} 0 1 = cc in omega arith
 begun-is-some (Kind.Flag flag) at rest reads = let n : _≡_ {A = ℕ} 0 1 = cc in omega arith
 
-front-of-end : (at : ℕ) (words : List ℕ) → front at words ≡ Read.End → length words ≡ 0
+pub front-of-end : (at : ℕ) (words : List ℕ) → front at words ≡ Read.End → length words ≡ 0
 unfolding front
 front-of-end at [] reads = refl
 front-of-end at (first ∷ rest) reads = absurd (begun-is-some (kind first) at rest reads)

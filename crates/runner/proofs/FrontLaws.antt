@@ -4,7 +4,7 @@ use Prim.Native.Nat.{ℕ, zero, suc, _≤_}
 use native.Mathlib.Omega.{arith}
 use mathlib.Core.Bool.{Bool, true, false}
 use mathlib.Core.List.{List, [], _∷_}
-use lib.ListN.{take}
+use lib.ListN.{length, take}
 use Rattle.word.specs.Choice.{if_then_else_}
 use Rattle.word.specs.Pointer.{pointer}
 use Rattle.job.specs.declared.types.Kind.{Kind}
@@ -12,6 +12,7 @@ use Rattle.job.specs.declared.types.Step.{Step}
 use Rattle.job.specs.declared.types.Read.{Read}
 use Rattle.job.specs.Kind.{kind}
 use Rattle.job.specs.Step.{operands, found, isOdd, begun, front}
+use Rattle.job.proofs.StepLaws.{front-of-end}
 
 -- a step stands whole in a run of words that is cut after its last word
 begun-of-take : (begins : Kind) (at more : ℕ) (rest : List ℕ) (step : Step) (next : ℕ)
@@ -47,22 +48,5 @@ unfolding front
 front-of-take at more first rest step next reads fits = begun-of-take (kind first) at more rest step next reads fits
 
 -- what a first word begins is never the end
-begun-is-some : (begins : Kind) (at : ℕ) (rest : List ℕ) → begun begins at rest ≡ Read.End → ⊥
-unfolding begun found
-begun-is-some Kind.Nothing at rest reads = let n : _≡_ {A = ℕ} 0 1 = cc in omega arith
-begun-is-some (Kind.Register place) at [] reads = let n : _≡_ {A = ℕ} 0 1 = cc in omega arith
-begun-is-some (Kind.Register place) at (value ∷ rest) reads = let n : _≡_ {A = ℕ} 0 1 = cc in omega arith
-begun-is-some Kind.Size at [] reads = let n : _≡_ {A = ℕ} 0 1 = cc in omega arith
-begun-is-some Kind.Size at (value ∷ rest) reads = let n : _≡_ {A = ℕ} 0 1 = cc in omega arith
-begun-is-some (Kind.Store high) at [] reads = let n : _≡_ {A = ℕ} 0 1 = cc in omega arith
-begun-is-some (Kind.Store high) at (low ∷ []) reads = let n : _≡_ {A = ℕ} 0 1 = cc in omega arith
-begun-is-some (Kind.Store high) at (low ∷ value ∷ rest) reads = by-test (isOdd low) reads
-  where
-    by-test : (odd : Bool) → (if odd then Read.OddStore else found at (Step.Store (pointer high low .word) value)) ≡ Read.End → ⊥
-    by-test true reads = let n : _≡_ {A = ℕ} 0 1 = cc in omega arith
-    by-test false reads = let n : _≡_ {A = ℕ} 0 1 = cc in omega arith
-begun-is-some (Kind.Flag flag) at rest reads = let n : _≡_ {A = ℕ} 0 1 = cc in omega arith
-
 pub front-is-some : (at first : ℕ) (rest : List ℕ) → front at (first ∷ rest) ≡ Read.End → ⊥
-unfolding front
-front-is-some at first rest reads = begun-is-some (kind first) at rest reads
+front-is-some at first rest reads = let none : length (first ∷ rest) ≡ 0 = front-of-end at (first ∷ rest) reads in omega arith

@@ -1,1 +1,3 @@
--- The laws of the definitions in specs/.
+-- The laws of the folder.
+pub mod SettledLaws
+pub mod LearnLaws

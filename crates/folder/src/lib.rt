@@ -1,1 +1,4 @@
 // The folder.
+mod learn;
+mod settle;
+pub mod types;

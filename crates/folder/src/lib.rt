@@ -1,4 +1,6 @@
 // The folder.
 mod learn;
+mod measure;
+mod piece;
 mod settle;
 pub mod types;

@@ -3,3 +3,8 @@ pub mod SettledLaws
 pub mod LearnLaws
 pub mod PieceLaws
 pub mod MeasureLaws
+pub mod LaidLaws
+pub mod StoresLaws
+pub mod WriteLaws
+pub mod FoldingLaws
+pub mod OneAnswerLaws

@@ -46,20 +46,21 @@ abbrev pub stepsAt : (job : List ℕ) → (at : ℕ) → List Placed
 stepsAt job at = stepsFrom 0 at (drop at job)
 
 -- the first step of a list
-foldSteps-of-step : (n : ℕ) (known : List Known) (job : List ℕ) (at : ℕ) (step : Step) (next : ℕ) → stepAt job at ≡ Read.Step step next
+pub foldSteps-of-step : (n : ℕ) (known : List Known) (job : List ℕ) (at : ℕ) (step : Step) (next : ℕ) → stepAt job at ≡ Read.Step step next
     → foldSteps n known job (stepsAt job at)
     ≡ folded n known step (rawWords job at step) ++ foldSteps n (learned n known step) job (stepsAt job next)
 unfolding foldSteps piece learnedAfter
 foldSteps-of-step n known job at step next reads = ap (λ (list : List Placed). foldSteps n known job list) (steps-of-step job at step next reads)
 
-module _ (n : ℕ) (job out : List ℕ) (at : ℕ) (known : List Known) (words : ℕ)
-    (so-far : byStep (fold n job) out (stepsAt job at) ≡ byStep (fold n job) out (steps job))
-    (counted : words + length (foldSteps n known job (stepsAt job at)) ≡ length (fold n job)) where
+module _ (n : ℕ) (job out : List ℕ) (at : ℕ)
+    (so-far : byStep (fold n job) out (stepsAt job at) ≡ byStep (fold n job) out (steps job)) where
   -- the end of the list
-  at-last : (answer : Answer) → stepsAt job at ≡ [] → answer ≡ fitting words (length out)
+  at-last : (known : List Known) (words : ℕ) (answer : Answer)
+      → words + length (foldSteps n known job (stepsAt job at)) ≡ length (fold n job)
+      → stepsAt job at ≡ [] → answer ≡ fitting words (length out)
       → left answer (byStep (fold n job) out (steps job) .out) ≡ byStep (fold n job) out (steps job)
   unfolding byStep tooLong foldSteps
-  at-last answer none fits =
+  at-last known words answer counted none fits =
       let all : words ≡ length (fold n job) = omega (arith, ap (λ (list : List Placed). length (foldSteps n known job list)) none, counted) in
       let ends : byStep (fold n job) out [] ≡ byStep (fold n job) out (steps job) =
       sym (ap (λ (list : List Placed). byStep (fold n job) out list) none) ∙ so-far in
@@ -75,14 +76,18 @@ module _ (n : ℕ) (job out : List ℕ) (at : ℕ) (known : List Known) (words :
       by-test true = refl
       by-test false = refl
 
-  pub measure-at-end : (answer : Answer) → length job ≤ at → answer ≡ fitting words (length out)
+  pub measure-at-end : (known : List Known) (words : ℕ) (answer : Answer)
+      → words + length (foldSteps n known job (stepsAt job at)) ≡ length (fold n job)
+      → length job ≤ at → answer ≡ fitting words (length out)
       → left answer (byStep (fold n job) out (steps job) .out) ≡ byStep (fold n job) out (steps job)
-  measure-at-end answer past fits = at-last answer (steps-at-end job at past) fits
+  measure-at-end known words answer counted past fits = at-last known words answer counted (steps-at-end job at past) fits
 
   module _ (read : Read) (reads : read ≡ stepAt job at) where
-    pub measure-of-end : (answer : Answer) → read ≡ Read.End → answer ≡ fitting words (length out)
+    pub measure-of-end : (known : List Known) (words : ℕ) (answer : Answer)
+        → words + length (foldSteps n known job (stepsAt job at)) ≡ length (fold n job)
+        → read ≡ Read.End → answer ≡ fitting words (length out)
         → left answer (byStep (fold n job) out (steps job) .out) ≡ byStep (fold n job) out (steps job)
-    measure-of-end answer same fits = at-last answer (steps-of-end job at (sym reads ∙ same)) fits
+    measure-of-end known words answer counted same fits = at-last known words answer counted (steps-of-end job at (sym reads ∙ same)) fits
 
     -- what is no step is refused with its own number, at its place
     of-fault : (why : Refusal) (fault : Read) → read ≡ fault → 0 < readNumber fault

@@ -62,13 +62,7 @@ pub fn step_piece(n: usize, known: Knowledge, step: Step) -> Piece
             }
         }
         Step::Size(size) => size_piece(n, known, size),
-        Step::Store(_, _) => Piece {
-            length: 3,
-            known,
-        },
-        Step::Flag(_) => Piece {
-            length: 1,
-            known,
-        },
+        Step::Store(_, _) => Piece { length: 3, known },
+        Step::Flag(_) => Piece { length: 1, known },
     }
 }

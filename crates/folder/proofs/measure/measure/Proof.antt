@@ -51,11 +51,12 @@ loop-again c =
     let steps = match .match .keys1 in
     let reads = match .before .read-at .ensures in
     let inv = match .before .before .before .loop .inv in
-    let piece = c .before .before .step-piece .ensures in
-    ( search (byStep-turn, steps, reads, inv .0)
-    , search (count-turn, steps, reads, inv .1, piece .0, piece .1)
-    , search (count-le, steps, reads, inv .2, piece .0, piece .1)
-    , search (runAt-inside, steps, reads))
+    let piece = c .before .before .step-piece .ensures in (
+      search (byStep-turn, steps, reads, inv .0),
+      search (count-turn, steps, reads, inv .1, piece .0, piece .1),
+      search (count-le, steps, reads, inv .2, piece .0, piece .1),
+      search (runAt-inside, steps, reads),
+    )
 
 enum-told : tie.Need-enum-told Inv-loop μ-loop
 enum-told c = search needs

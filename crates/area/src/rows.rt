@@ -7,7 +7,7 @@ use crate::types::Flow;
 use crate::types::Setup;
 
 // One word: fetched, finished, stored, and the pointers moved on. So many of its row are left after it.
-fn one_word(ram: &mut [u16], setup: Setup, width: u32, left: u32, flow: Flow) -> Flow
+pub fn one_word(ram: &mut [u16], setup: Setup, width: u32, left: u32, flow: Flow) -> Flow
     requires { ⌜ (setup .shifts .a < 16) × (setup .shifts .b < 16)
         × (flow .stored < 4294967295) × (left < 4294967295) ⌝ }
     ensures { λ after. ⌜
@@ -40,7 +40,7 @@ fn words(ram: &mut [u16], setup: Setup, width: u32, flow: Flow) -> Flow
 }
 
 // The carry starts at carry-in on every row.
-fn row_start(setup: Setup, flow: Flow) -> Flow
+pub fn row_start(setup: Setup, flow: Flow) -> Flow
     ensures { λ after. ⌜ after ≡ withCarry (setup .carry) flow ⌝ }
 {
     let pointers = flow.pointers;

@@ -1,1 +1,10 @@
--- The laws of the definitions in specs/.
+-- The laws of the folder.
+pub mod SettledLaws
+pub mod LearnLaws
+pub mod PieceLaws
+pub mod MeasureLaws
+pub mod LaidLaws
+pub mod StoresLaws
+pub mod WriteLaws
+pub mod FoldingLaws
+pub mod OneAnswerLaws

@@ -1,1 +1,38 @@
-// The folder.
+// The folder: steps whose outcome is known from the job alone become stores, and what is left is the same job to the runner.
+mod learn;
+mod measure;
+mod piece;
+mod put;
+mod settle;
+mod stores;
+pub mod theorems;
+pub mod types;
+mod write;
+
+ghost use mathlib.Core.Path.{_≡_};
+ghost use Rattle.folder.specs.Folding.{folding};
+ghost use Rattle.folder.specs.Answer.{left};
+use crate::types::Answer;
+use crate::types::Refusal;
+
+// Folds a job for n words of memory into an output run. A refusal leaves the output as it was.
+pub fn fold(n: usize, job: &[u16], out: &mut [u16]) -> Answer
+    ensures { λ answer. ⌜
+        left answer (now (out .exit))
+        ≡ folding n (now (job .entry)) (now (out .entry)) ⌝ }
+{
+    if runner::start::memory_size(n) {
+        return Answer::Refused(Refusal::MemorySize, 0);
+    }
+    if runner::start::job_length(job) {
+        return Answer::Refused(Refusal::JobLength, 0);
+    }
+    let answer = crate::measure::measure(n, job, out);
+    match answer {
+        Answer::Done(length) => {
+            crate::write::write(n, job, out);
+            Answer::Done(length)
+        }
+        Answer::Refused(why, place) => Answer::Refused(why, place),
+    }
+}

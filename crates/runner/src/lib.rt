@@ -1,6 +1,6 @@
 // The runner: takes a job's steps in order over lent memory and a lent register file, by the blit's contract.
 pub mod answer;
-mod start;
+pub mod start;
 mod step;
 mod steps;
 pub mod theorems;

@@ -1,0 +1,102 @@
+-- Laws of words laid into a run: one after the other, and what the run then holds.
+use mathlib.Core.Path.{_≡_, refl, sym, ap, _∙_}
+use Prim.Native.Nat.{ℕ, zero, suc, _+_, _-_, _<_, _≤_}
+use native.Mathlib.Nat.{add-zero, le-of-suc-le-suc}
+use native.Mathlib.Numerals.{sub-one}
+use native.Mathlib.Omega.{arith}
+use mathlib.Core.Bool.{Bool, true, false}
+use mathlib.Core.List.{List, [], _∷_, _++_}
+use lib.ListN.{length, getD, set, take, drop, length-set}
+use lib.Seq.{drop-cons}
+use Rattle.word.specs.declared.types.Pointer.{Pointer}
+use Rattle.word.specs.Pointer.{high, low}
+use Rattle.settled.specs.Words.{storeWords, pointerWords, flagWords}
+use Rattle.folder.specs.Laid.{laid}
+
+pub laid-of-append : (words more : List ℕ) (at : ℕ) (out : List ℕ)
+    → laid (words ++ more) at out ≡ laid more (at + length words) (laid words at out)
+unfolding laid
+laid-of-append [] more at out = rw add-zero
+laid-of-append (word ∷ words) more at out =
+    let same : at + 1 + length words ≡ at + suc (length words) = omega arith in
+    laid-of-append words more (at + 1) (set out at word)
+    ∙ ap (λ (place : ℕ). laid more place (laid words (at + 1) (set out at word))) same
+
+pub laid-keeps-length : (words : List ℕ) (at : ℕ) (out : List ℕ) → length (laid words at out) ≡ length out
+unfolding laid
+laid-keeps-length [] at out = refl
+laid-keeps-length (word ∷ words) at out = laid-keeps-length words (at + 1) (set out at word) ∙ length-set out at word
+
+-- words that fit, laid from the front on, stand there, and the rest stays
+laid-past : (words : List ℕ) (at first : ℕ) (out : List ℕ) → laid words (suc at) (first ∷ out) ≡ first ∷ laid words at out
+unfolding laid
+laid-past [] at first out = refl
+laid-past (word ∷ words) at first out =
+    let same : suc at + 1 ≡ suc (at + 1) = omega arith in
+    ap (λ (place : ℕ). laid words place (first ∷ set out at word)) same ∙ laid-past words (at + 1) first (set out at word)
+
+pub laid-in-front : (words out : List ℕ) → length words ≤ length out → laid words 0 out ≡ words ++ drop (length words) out
+unfolding laid
+laid-in-front [] out fits = refl
+laid-in-front (word ∷ words) [] fits = absurd (omega arith)
+laid-in-front (word ∷ words) (first ∷ out) fits =
+    laid-past words 0 word out
+    ∙ ap (λ (rest : List ℕ). word ∷ rest) (laid-in-front words out (le-of-suc-le-suc fits))
+
+-- a few words
+pub put-store-of-parts : (to : Pointer) (up down value at : ℕ) (out one two three : List ℕ)
+    → up ≡ high to → down ≡ low to
+    → one ≡ set out at (0x8000 + up) → two ≡ set one (at + 1) down → three ≡ set two (at + 2) value
+    → three ≡ laid (storeWords to value) at out
+unfolding laid
+put-store-of-parts to up down value at out one two three is-up is-down first second third =
+    let same : at + 2 ≡ at + 1 + 1 = omega arith in
+    third ∙ rw (second, first, is-up, is-down, same)
+
+pub put-pointer-of-parts : (pointer : Pointer) (up down at : ℕ) (out one two three four : List ℕ)
+    → up ≡ high pointer → down ≡ low pointer
+    → one ≡ set out at 0x0054 → two ≡ set one (at + 1) up → three ≡ set two (at + 2) 0x0056 → four ≡ set three (at + 3) down
+    → four ≡ laid (pointerWords pointer) at out
+unfolding laid
+put-pointer-of-parts pointer up down at out one two three four is-up is-down first second third fourth =
+    let same : at + 2 ≡ at + 1 + 1 = omega arith in
+    let last : at + 3 ≡ at + 1 + 1 + 1 = omega arith in
+    fourth ∙ rw (third, second, first, is-up, is-down, same, last)
+
+pub flag-word-when-zero : (allzero : Bool) → allzero ≡ true → (0xC001 ∷ []) ≡ flagWords allzero
+flag-word-when-zero allzero holds = rw holds
+
+pub flag-word-when-some : (allzero : Bool) → allzero ≡ false → (0xC000 ∷ []) ≡ flagWords allzero
+flag-word-when-some allzero fails = rw fails
+
+pub put-end-of-parts : (pointer : Pointer) (allzero : Bool) (word at : ℕ) (out one two : List ℕ)
+    → (word ∷ []) ≡ flagWords allzero
+    → one ≡ laid (pointerWords pointer) at out → two ≡ set one (at + 4) word
+    → two ≡ laid (pointerWords pointer ++ flagWords allzero) at out
+unfolding laid
+put-end-of-parts pointer allzero word at out one two flags first second =
+    second
+    ∙ ap (λ (before : List ℕ). set before (at + 4) word) first
+    ∙ sym (laid-of-append (pointerWords pointer) (word ∷ []) at out)
+    ∙ ap (λ (last : List ℕ). laid (pointerWords pointer ++ last) at out) flags
+
+-- words copied one by one
+pub copied-turn : (job out next whole : List ℕ) (left at from word : ℕ)
+    → 0 < left → from + left ≤ length job → word ≡ getD job from 0 → next ≡ set out at word
+    → laid (take left (drop from job)) at out ≡ whole
+    → laid (take (left - 1) (drop (from + 1) job)) (at + 1) next ≡ whole
+unfolding laid
+copied-turn job out next whole zero at from word more inside is sets so-far = absurd (omega arith)
+copied-turn job out next whole (suc left) at from word more inside is sets so-far =
+    let same : suc from ≡ from + 1 = omega arith in
+    let split : drop from job ≡ getD job from 0 ∷ drop (from + 1) job =
+    drop-cons job from 0 (omega arith) ∙ ap (λ (place : ℕ). getD job from 0 ∷ drop place job) same in
+    rw (sub-one, sets, is) (sym (ap (λ (rest : List ℕ). laid (take (suc left) rest) at out) split) ∙ so-far)
+
+pub copied-done : (job out whole : List ℕ) (left at from : ℕ) → left ≤ 0 → laid (take left (drop from job)) at out ≡ whole → out ≡ whole
+unfolding laid
+copied-done job out whole zero at from none so-far = so-far
+copied-done job out whole (suc left) at from none so-far = absurd (omega arith)
+
+pub laid-as-long : (words : List ℕ) (at long : ℕ) (out next : List ℕ) → next ≡ laid words at out → length out ≡ long → length next ≡ long
+laid-as-long words at long out next lays same = ap length lays ∙ laid-keeps-length words at out ∙ same

@@ -1,0 +1,79 @@
+-- Laws of a settled blit: each condition from its parts.
+use mathlib.Core.Path.{_≡_, refl, sym, ap, _∙_}
+use Prim.Native.Nat.{ℕ, _+_, _*_, _%_}
+use native.Mathlib.Omega.{arith}
+use mathlib.Core.Bool.{Bool, true, false, not, _&&_, _||_, and-assoc}
+use mathlib.Core.List.{List}
+use borrow.Author.Tests.{eq-eqb, ne-eqb}
+use lib.Dec.{eqb, leb}
+use lib.ListN.{getD}
+use Rattle.word.specs.Size.{height, width}
+use Rattle.file.specs.File.{control0, control1, firstMask, lastMask, pointerD, moduloD, sourceA, sourceB, sourceC}
+use Rattle.area.specs.declared.types.Uses.{Uses}
+use Rattle.area.specs.Setup.{con0, uses, function}
+use Rattle.blit.specs.declared.types.Refusal.{Refusal}
+use Rattle.blit.specs.declared.types.Verdict.{Verdict}
+use Rattle.blit.specs.Refusal.{stepRefusal, refusalNumber, verdictNumber}
+use Rattle.depends.specs.declared.types.Depends.{Depends}
+use Rattle.depends.specs.Depends.{counts, depends}
+use Rattle.knowledge.specs.declared.types.Known.{Known}
+use Rattle.knowledge.specs.Known.{isKnown}
+use Rattle.knowledge.specs.Knowledge.{numbers}
+use Rattle.folder.specs.Settled.{has, controlsKnown, onlyDUsed, sourcesKnown, settled}
+
+pub has-of-parts : (known : List Known) (place : ℕ) (register : Known) (told : Bool)
+    → register ≡ getD known place Known.Unknown → told ≡ isKnown register → told ≡ has known place
+has-of-parts known place register told is says = says ∙ ap isKnown is
+
+pub controlsKnown-of-parts : (known : List Known) (a b c d e : Bool)
+    → a ≡ has known control0 → b ≡ has known control1 → c ≡ has known pointerD → d ≡ has known (pointerD + 1) → e ≡ has known moduloD
+    → (a && b && c && d && e) ≡ controlsKnown known
+unfolding controlsKnown
+controlsKnown-of-parts known a b c d e is-a is-b is-c is-d is-e = rw (is-a, is-b, is-c, is-d, is-e)
+
+pub onlyDUsed-of-uses : (con0 : ℕ) (used : Uses) → used ≡ uses con0 → (not (used .a) && not (used .b) && not (used .c) && used .d) ≡ onlyDUsed con0
+unfolding onlyDUsed
+onlyDUsed-of-uses con0 used same = ap (λ (u : Uses). not (u .a) && not (u .b) && not (u .c) && u .d) same
+
+pub sourcesKnown-of-parts : (function : ℕ) (known : List Known) (on : Depends) (a first last b c : Bool)
+    → on ≡ depends function
+    → a ≡ has known sourceA → first ≡ has known firstMask → last ≡ has known lastMask → b ≡ has known sourceB → c ≡ has known sourceC
+    → ((not (on .a) || a && first && last) && (not (on .b) || b) && (not (on .c) || c)) ≡ sourcesKnown function known
+unfolding sourcesKnown
+sourcesKnown-of-parts function known on a first last b c same is-a is-first is-last is-b is-c =
+    rw (is-a, is-first, is-last, is-b, is-c)
+    (ap (λ (d : Depends). (not (d .a) || has known sourceA && has known firstMask && has known lastMask) && (not (d .b) || has known sourceB) && (not (d .c) || has known sourceC)) same)
+
+refusalNumber-positive : (why : Refusal) → refusalNumber why ≡ 0 → ⊥
+refusalNumber-positive Refusal.MemorySize same = omega arith
+refusalNumber-positive Refusal.RegisterFile same = omega arith
+refusalNumber-positive Refusal.NoWords same = omega arith
+refusalNumber-positive Refusal.Line same = omega arith
+refusalNumber-positive Refusal.BothFills same = omega arith
+refusalNumber-positive Refusal.FillUpward same = omega arith
+refusalNumber-positive Refusal.LeavesMemory same = omega arith
+
+module _ (verdict : Verdict) (number : ℕ) (gives : verdictNumber verdict ≡ number) where
+  pub lawful-when-lawful : verdict ≡ Verdict.Lawful → true ≡ eqb number 0
+  lawful-when-lawful same = sym (eq-eqb number 0 (sym gives ∙ ap verdictNumber same))
+
+  pub lawful-when-refused : (why : Refusal) → verdict ≡ Verdict.Refused why → false ≡ eqb number 0
+  lawful-when-refused why same =
+      sym (ne-eqb number 0 (λ none. refusalNumber-positive why (sym (ap verdictNumber same) ∙ gives ∙ none)))
+
+pub small-of-parts : (size rows words : ℕ) → rows ≡ height size → words ≡ width size
+    → leb (rows * words) 64 ≡ leb (height size * width size) 64
+small-of-parts size rows words tall wide = rw (tall, wide)
+
+pub settled-of-parts : (n size : ℕ) (known : List Known) (file : List ℕ) (controls file-does sources : Bool)
+    → file ≡ numbers known
+    → controls ≡ controlsKnown known
+    → file-does ≡ (onlyDUsed (con0 file) && eqb (stepRefusal n file size) 0 && leb (height size * width size) 64)
+    → sources ≡ sourcesKnown (con0 file % 256) known
+    → (controls && file-does && sources) ≡ settled n known size
+unfolding settled
+settled-of-parts n size known file controls file-does sources same is-controls is-file is-sources =
+    rw (is-controls, is-file, is-sources, same)
+    (ap (λ (b : Bool). b && sourcesKnown (function (con0 (numbers known))) known)
+    (sym (and-assoc (controlsKnown known) (onlyDUsed (con0 (numbers known)) && eqb (stepRefusal n (numbers known) size) 0) (leb (height size * width size) 64))
+    ∙ ap (λ (b : Bool). b && leb (height size * width size) 64) (sym (and-assoc (controlsKnown known) (onlyDUsed (con0 (numbers known))) (eqb (stepRefusal n (numbers known) size) 0)))))

@@ -1,0 +1,28 @@
+-- `folder::piece::settled_length` meets its contract: the numbers fit.
+use Rattle.blit.proofs.RefusalLaws.{words-fit}
+use Rattle.folder.proofs.PieceLaws.{settledLength-fits, settledLength-fits-all, settledLength-of-parts}
+use borrow.Author.Needs.{needs}
+use Rattle.folder.proofs.piece.settled_length.Statement.{statement}
+use Rattle.folder.proofs.piece.settled_length.Tie as tie
+
+height-requires : tie.Need-height-requires
+height-requires c κs = search needs
+
+width-requires : tie.Need-width-requires
+width-requires c κs = search needs
+
+mul-result : tie.Need-mul-result
+mul-result c = search words-fit
+
+mul-result-2 : tie.Need-mul-result-2
+mul-result-2 c = search settledLength-fits
+
+add-result : tie.Need-add-result
+add-result c = search settledLength-fits-all
+
+returns : tie.Need-returns
+returns c = search settledLength-of-parts
+
+pub settled-length-spec : {M : Type 1} → statement M
+settled-length-spec =
+    tie.close (tie.spec height-requires width-requires mul-result mul-result-2 add-result returns)

@@ -1,0 +1,137 @@
+-- `folder::write::write` meets its contract: what is left of the job from here gives what the whole gives.
+use mathlib.Core.Path.{_≡_, refl}
+use Prim.Native.Nat.{_+_, _-_, _≤_}
+use lib.ListN.{length}
+use Rattle.job.specs.Steps.{steps}
+use Rattle.runner.proofs.RunLaws.{runAt-falls, runAt-inside}
+use Rattle.knowledge.specs.Knowledge.{listed}
+use Rattle.folder.specs.Fold.{foldSteps, fold}
+use Rattle.folder.specs.Folding.{byStep}
+use Rattle.folder.specs.Laid.{laid}
+use Rattle.folder.proofs.MeasureLaws.{stepsAt, byStep-turn, count-turn, count-start}
+use Rattle.folder.proofs.LaidLaws.{laid-as-long}
+use Rattle.folder.proofs.WriteLaws.{write-at-end, write-of-end, write-of-nothing, write-of-cut, write-of-odd, step-inside, write-turn, at-fits, at-room, write-start}
+use borrow.Author.Needs.{needs}
+use Rattle.folder.proofs.write.write.Statement.{statement}
+use Rattle.folder.proofs.write.write.Tie as tie
+
+abbrev Inv-loop : tie.InvT-loop
+Inv-loop n job out₀ at₀ from₀ known₀ out at from known =
+    (laid (foldSteps n (listed known) job (stepsAt job from)) at out ≡ laid (fold n job) 0 out₀)
+    × (at + length (foldSteps n (listed known) job (stepsAt job from)) ≡ length (fold n job))
+    × (byStep (fold n job) out₀ (stepsAt job from) ≡ byStep (fold n job) out₀ (steps job))
+    × (from ≤ length job)
+    × (length out ≡ length out₀)
+
+abbrev μ-loop : tie.MeasureT-loop
+μ-loop n job out₀ at₀ from₀ known₀ out at from known = length job - from
+
+nothing-requires : tie.Need-nothing-requires Inv-loop μ-loop
+nothing-requires c κs = search needs
+
+loop-holds : tie.Need-loop-holds Inv-loop μ-loop
+loop-holds c = (search write-start, search count-start, refl, search needs, search needs)
+
+read-at-requires : tie.Need-read-at-requires Inv-loop μ-loop
+read-at-requires c κs = search needs
+
+enum-known-step : tie.Need-enum-known-step Inv-loop μ-loop
+enum-known-step c = search needs
+
+put-step-requires : tie.Need-put-step-requires Inv-loop μ-loop
+put-step-requires c κs = search (needs, at-room, step-inside)
+
+add-at : tie.Need-add-at Inv-loop μ-loop
+add-at c =
+    let put = c .before .before .before .put-step .ensures in
+    let match = c .before .before .before .before .before .before .before in
+    let pre = c .before .before .before .before .before .before .before .before .before .before .before .before .before .before .pre in
+    search (at-fits, match .match .keys1, match .before .read-at .ensures, put .1, put .2, match .before .before .before .loop .inv .1, pre .1)
+
+loop-less : tie.Need-loop-less Inv-loop μ-loop
+loop-less c = search (needs, runAt-falls)
+
+loop-again : tie.Need-loop-again Inv-loop μ-loop
+loop-again c =
+    let put = c .before .before .before .before .put-step .ensures in
+    let match = c .before .before .before .before .before .before .before .before in
+    let steps = match .match .keys1 in
+    let reads = match .before .read-at .ensures in
+    let inv = match .before .before .before .loop .inv in (
+      search (write-turn, steps, reads, put .0, put .1, put .2, inv .0),
+      search (count-turn, steps, reads, put .1, put .2, inv .1),
+      search (byStep-turn, steps, reads, inv .2),
+      search (runAt-inside, steps, reads),
+      search (laid-as-long, put .0, inv .4),
+    )
+
+enum-told : tie.Need-enum-told Inv-loop μ-loop
+enum-told c = search needs
+
+same-length : tie.Need-same-length Inv-loop μ-loop
+same-length c = search needs
+
+returns : tie.Need-returns Inv-loop μ-loop
+returns c = search write-of-end
+
+enum-told-2 : tie.Need-enum-told-2 Inv-loop μ-loop
+enum-told-2 c = search needs
+
+same-length-2 : tie.Need-same-length-2 Inv-loop μ-loop
+same-length-2 c = search needs
+
+returns-2 : tie.Need-returns-2 Inv-loop μ-loop
+returns-2 c = search write-of-nothing
+
+enum-told-3 : tie.Need-enum-told-3 Inv-loop μ-loop
+enum-told-3 c = search needs
+
+same-length-3 : tie.Need-same-length-3 Inv-loop μ-loop
+same-length-3 c = search needs
+
+returns-3 : tie.Need-returns-3 Inv-loop μ-loop
+returns-3 c = search write-of-cut
+
+enum-told-4 : tie.Need-enum-told-4 Inv-loop μ-loop
+enum-told-4 c = search needs
+
+same-length-4 : tie.Need-same-length-4 Inv-loop μ-loop
+same-length-4 c = search needs
+
+returns-4 : tie.Need-returns-4 Inv-loop μ-loop
+returns-4 c = search write-of-odd
+
+same-length-5 : tie.Need-same-length-5 Inv-loop μ-loop
+same-length-5 c = search needs
+
+returns-5 : tie.Need-returns-5 Inv-loop μ-loop
+returns-5 c = search write-at-end
+
+pub write-spec : {M : Type 1} → statement M
+write-spec =
+    tie.close
+    (tie.spec
+    Inv-loop
+    μ-loop
+    nothing-requires
+    loop-holds
+    read-at-requires
+    enum-known-step
+    put-step-requires
+    add-at
+    loop-less
+    loop-again
+    enum-told
+    same-length
+    returns
+    enum-told-2
+    same-length-2
+    returns-2
+    enum-told-3
+    same-length-3
+    returns-3
+    enum-told-4
+    same-length-4
+    returns-4
+    same-length-5
+    returns-5)

@@ -1,0 +1,68 @@
+// How many words a step becomes, and what is known after it.
+ghost use mathlib.Core.Path.{_≡_};
+ghost use Rattle.job.specs.declared.types.Step as steps;
+ghost use Rattle.settled.specs.Words.{settledEnd};
+ghost use Rattle.knowledge.specs.Knowledge.{listed, numbers};
+ghost use Rattle.folder.specs.Learn.{movedD};
+ghost use Rattle.folder.specs.Fold.{learned};
+ghost use Rattle.folder.specs.Laid.{settledLength, pieceLength};
+use crate::types::Piece;
+use job::types::Step;
+use knowledge::types::Knowledge;
+
+pub fn settled_length(size: u16) -> u32
+    ensures { λ length. ⌜ length ≡ settledLength size ⌝ }
+{
+    let height = word::size::height(size);
+    let width = word::size::width(size);
+    3 * (height * width) + 5
+}
+
+// What is known after a settled 058.
+fn settled_known(known: Knowledge, size: u16) -> Knowledge
+    ensures { λ after. ⌜
+        listed after
+        ≡ movedD (settledEnd (numbers (listed known)) size .flow .pointers .d) (listed known) ⌝ }
+{
+    let file = known.numbers();
+    let end = crate::learn::settled_end(&file, size);
+    let pointers = end.pointers;
+    let d = pointers.d;
+    crate::learn::moved_d(known, d)
+}
+
+fn size_piece(n: usize, known: Knowledge, size: u16) -> Piece
+    ensures { λ piece. ⌜ (piece .length ≡ pieceLength n (listed known) (steps.Step.Size size))
+        × (listed (piece .known) ≡ learned n (listed known) (steps.Step.Size size)) ⌝ }
+{
+    if crate::settle::settled(n, known, size) {
+        let after = settled_known(known, size);
+        return Piece {
+            length: settled_length(size),
+            known: after,
+        };
+    }
+    let after = crate::learn::forgotten(known);
+    Piece {
+        length: 2,
+        known: after,
+    }
+}
+
+pub fn step_piece(n: usize, known: Knowledge, step: Step) -> Piece
+    ensures { λ piece. ⌜ (piece .length ≡ pieceLength n (listed known) step)
+        × (listed (piece .known) ≡ learned n (listed known) step) ⌝ }
+{
+    match step {
+        Step::Register(place, value) => {
+            let after = crate::learn::written(known, place, value);
+            Piece {
+                length: 2,
+                known: after,
+            }
+        }
+        Step::Size(size) => size_piece(n, known, size),
+        Step::Store(_, _) => Piece { length: 3, known },
+        Step::Flag(_) => Piece { length: 1, known },
+    }
+}

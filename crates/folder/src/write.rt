@@ -1,0 +1,123 @@
+// The folded job laid into the output, from its front on.
+ghost use mathlib.Core.Path.{_≡_};
+ghost use Prim.Native.Nat.{_+_, _<_, _≤_};
+ghost use lib.ListN.{length, take, drop};
+ghost use Rattle.job.specs.declared.types.Step as job-steps;
+ghost use Rattle.job.specs.Step.{operands};
+ghost use Rattle.job.specs.Steps.{steps};
+ghost use Rattle.settled.specs.Words.{settledEnd, settledWords};
+ghost use Rattle.knowledge.specs.Knowledge.{listed, numbers};
+ghost use Rattle.folder.specs.Learn.{movedD};
+ghost use Rattle.folder.specs.Fold.{folded, learned, rawWords, fold};
+ghost use Rattle.folder.specs.Folding.{byStep};
+ghost use Rattle.folder.specs.Laid.{laid, pieceLength};
+use crate::types::Piece;
+use job::types::Read;
+use job::types::Step;
+use knowledge::types::Knowledge;
+
+// Lays a settled blit, and answers what is known after it.
+fn put_blit(out: &mut [u16], at: u32, known: Knowledge, size: u16) -> Knowledge
+    requires { ⌜ at < 1000000 ⌝ }
+    ensures { λ after. ⌜ (now (out .exit) ≡ laid (settledWords (numbers (listed known)) size) at (now (out .entry)))
+        × (listed after ≡ movedD (settledEnd (numbers (listed known)) size .flow .pointers .d) (listed known)) ⌝ }
+{
+    let file = known.numbers();
+    let end = crate::stores::put_settled(out, at, &file, size);
+    let pointers = end.pointers;
+    let d = pointers.d;
+    crate::learn::moved_d(known, d)
+}
+
+fn put_size(
+    out: &mut [u16],
+    at: u32,
+    n: usize,
+    known: Knowledge,
+    size: u16,
+    job: &[u16],
+    from: usize,
+) -> Piece
+    requires { ⌜ (at < 1000000) × (from + 2 ≤ length (now job)) ⌝ }
+    ensures { λ piece. ⌜ (now (out .exit)
+        ≡ laid (folded n (listed known) (job-steps.Step.Size size) (take 2 (drop from (now (job .entry))))) at (now (out .entry)))
+        × (piece .length ≡ pieceLength n (listed known) (job-steps.Step.Size size))
+        × (listed (piece .known) ≡ learned n (listed known) (job-steps.Step.Size size)) ⌝ }
+{
+    if crate::settle::settled(n, known, size) {
+        let after = put_blit(out, at, known, size);
+        return Piece {
+            length: crate::piece::settled_length(size),
+            known: after,
+        };
+    }
+    crate::put::put_copied(out, at, job, from, 2);
+    let after = crate::learn::forgotten(known);
+    Piece {
+        length: 2,
+        known: after,
+    }
+}
+
+// Lays what a step becomes, and answers how many words that were and what is known after it.
+fn put_step(
+    out: &mut [u16],
+    at: u32,
+    n: usize,
+    known: Knowledge,
+    step: Step,
+    job: &[u16],
+    from: usize,
+) -> Piece
+    requires { ⌜ (at < 1000000) × (from + (1 + operands step) ≤ length (now job)) ⌝ }
+    ensures { λ piece. ⌜ (now (out .exit)
+        ≡ laid (folded n (listed known) step (rawWords (now (job .entry)) from step)) at (now (out .entry)))
+        × (piece .length ≡ pieceLength n (listed known) step)
+        × (listed (piece .known) ≡ learned n (listed known) step) ⌝ }
+{
+    match step {
+        Step::Register(place, value) => {
+            crate::put::put_copied(out, at, job, from, 2);
+            let after = crate::learn::written(known, place, value);
+            Piece {
+                length: 2,
+                known: after,
+            }
+        }
+        Step::Size(size) => put_size(out, at, n, known, size, job, from),
+        Step::Store(_, _) => {
+            crate::put::put_copied(out, at, job, from, 3);
+            Piece { length: 3, known }
+        }
+        Step::Flag(_) => {
+            crate::put::put_copied(out, at, job, from, 1);
+            Piece { length: 1, known }
+        }
+    }
+}
+
+// Lays the folded job of a folding that isn't refused.
+pub fn write(n: usize, job: &[u16], out: &mut [u16])
+    requires { ⌜ (length (now job) ≤ 4096)
+        × (length (fold n (now job)) ≤ 4096)
+        × (byStep (fold n (now job)) (now out) (steps (now job)) .number ≡ 0) ⌝ }
+    ensures { λ _. ⌜ now (out .exit) ≡ laid (fold n (now (job .entry))) 0 (now (out .entry)) ⌝ }
+{
+    let mut at: u32 = 0;
+    let mut from: usize = 0;
+    let mut known = knowledge::knowledge::nothing();
+    while from < job.len() {
+        match job::reader::read_at(job, from) {
+            Read::Step(step, next) => {
+                let piece = put_step(out, at, n, known, step, job, from);
+                at = at + piece.length;
+                known = piece.known;
+                from = next;
+            }
+            Read::End => return,
+            Read::NoStep => return,
+            Read::CutOff => return,
+            Read::OddStore => return,
+        }
+    }
+}

@@ -1,4 +1,5 @@
 // The folder: steps whose outcome is known from the job alone become stores, and what is left is the same job to the runner.
+pub mod answer;
 mod learn;
 mod measure;
 mod piece;

@@ -1,0 +1,16 @@
+// Folds jobs and prints what the foldings give and leave: paper 01's "Run and compared" cases, each number of the folder's,
+// and what is known after blits. What it must print is written out beside it, from the paper.
+mod blits;
+mod known;
+mod lengths;
+mod paper;
+mod print;
+mod refusals;
+
+fn main() {
+    paper::all();
+    lengths::all();
+    blits::all();
+    known::all();
+    refusals::all();
+}

@@ -71,9 +71,9 @@ fn out_lengths() {
     crate::print::words(b"  out", &none);
 }
 
-// Blits of 64 words, each folded to 197: 20 of them are 3,950 words with the ten before them, 21 are 4,147.
-fn folded_lengths() {
-    let twenty = [
+// The word at a place of a job that readies D, then blits 64 words over and over, then from `flags` on holds flags C000.
+fn word(at: usize, flags: usize) -> u16 {
+    let first = [
         0x0040u16,
         0x0100,
         0x0042,
@@ -84,110 +84,42 @@ fn folded_lengths() {
         0x0010,
         0x0066,
         0x0000,
-        0x0058,
-        0x0040,
-        0x0058,
-        0x0040,
-        0x0058,
-        0x0040,
-        0x0058,
-        0x0040,
-        0x0058,
-        0x0040,
-        0x0058,
-        0x0040,
-        0x0058,
-        0x0040,
-        0x0058,
-        0x0040,
-        0x0058,
-        0x0040,
-        0x0058,
-        0x0040,
-        0x0058,
-        0x0040,
-        0x0058,
-        0x0040,
-        0x0058,
-        0x0040,
-        0x0058,
-        0x0040,
-        0x0058,
-        0x0040,
-        0x0058,
-        0x0040,
-        0x0058,
-        0x0040,
-        0x0058,
-        0x0040,
-        0x0058,
-        0x0040,
-        0x0058,
-        0x0040,
     ];
-    let more = [
-        0x0040u16,
-        0x0100,
-        0x0042,
-        0x0000,
-        0x0054,
-        0x0000,
-        0x0056,
-        0x0010,
-        0x0066,
-        0x0000,
-        0x0058,
-        0x0040,
-        0x0058,
-        0x0040,
-        0x0058,
-        0x0040,
-        0x0058,
-        0x0040,
-        0x0058,
-        0x0040,
-        0x0058,
-        0x0040,
-        0x0058,
-        0x0040,
-        0x0058,
-        0x0040,
-        0x0058,
-        0x0040,
-        0x0058,
-        0x0040,
-        0x0058,
-        0x0040,
-        0x0058,
-        0x0040,
-        0x0058,
-        0x0040,
-        0x0058,
-        0x0040,
-        0x0058,
-        0x0040,
-        0x0058,
-        0x0040,
-        0x0058,
-        0x0040,
-        0x0058,
-        0x0040,
-        0x0058,
-        0x0040,
-        0x0058,
-        0x0040,
-        0x0058,
-        0x0040,
-    ];
+    if at < 10 {
+        first[at]
+    } else {
+        if at < flags {
+            if at % 2 == 0 { 0x0058 } else { 0x0040 }
+        } else {
+            0xC000
+        }
+    }
+}
+
+fn lay(job: &mut [u16], flags: usize) {
+    let words = job.len();
+    let mut at: usize = 0;
+    while at < words {
+        job[at] = word(at, flags);
+        at = at + 1;
+    }
+}
+
+// The job, folded into an output of 8,192 words that hold EEEE, and what stands about the 4,096th.
+fn folded(name: &[u8], job: &mut [u16], flags: usize) {
+    lay(job, flags);
     let mut out = [0xEEEEu16; 8192];
-    crate::print::answer(
-        b"20 blits of 64 words",
-        folder::fold(262144, &twenty, &mut out),
-    );
-    crate::print::answer(
-        b"21 blits of 64 words",
-        folder::fold(262144, &more, &mut out),
-    );
+    crate::print::answer(name, folder::fold(262144, job, &mut out));
+    let about = [out[0], out[3949], out[3950], out[4095], out[4096]];
+    crate::print::words(b"  words 0, 3949, 3950, 4095, 4096", &about);
+}
+
+// Each blit is folded to 197 words: 20 of them are 3,950 words with the ten before them, and 146 flags make 4,096.
+fn folded_lengths() {
+    folded(b"20 blits of 64 words", &mut [0u16; 50], 50);
+    folded(b"21 blits of 64 words", &mut [0u16; 52], 52);
+    folded(b"20 blits and 146 flags", &mut [0u16; 196], 50);
+    folded(b"20 blits and 147 flags", &mut [0u16; 197], 50);
 }
 
 pub fn all() {

@@ -17,6 +17,7 @@ use crate::types::Answer;
 use crate::types::Refusal;
 
 // Folds a job for n words of memory into an output run. A refusal leaves the output as it was.
+// The folded job ends exactly as its original: `DemandThree` and `SettledAreReplaced`, in the crate `demands`.
 pub fn fold(n: usize, job: &[u16], out: &mut [u16]) -> Answer
     ensures { λ answer. ⌜
         left answer (now (out .exit))

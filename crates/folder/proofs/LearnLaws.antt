@@ -80,9 +80,9 @@ unfolding movedD
 movedD-of-parts pointer up down known half after is-up is-down one two = rw (one, is-up, is-down) at two
 
 -- a memory of no words is the empty list
-empty : (memory : List ℕ) → length memory ≡ 0 → memory ≡ []
-empty [] none = refl
-empty (word ∷ rest) none = absurd (omega arith)
+pub none-is-empty : (memory : List ℕ) → length memory ≡ 0 → memory ≡ []
+none-is-empty [] none = refl
+none-is-empty (word ∷ rest) none = absurd (omega arith)
 
 pub settledEnd-of-parts : (file memory : List ℕ) (size wide tall : ℕ) (set : Setup) (flow end : Flow)
     → set ≡ setup file → flow ≡ start file → wide ≡ width size → tall ≡ height size
@@ -91,4 +91,4 @@ pub settledEnd-of-parts : (file memory : List ℕ) (size wide tall : ℕ) (set :
     → state [] end ≡ settledEnd file size
 unfolding settledEnd
 settledEnd-of-parts file memory size wide tall set flow end is-set is-flow is-wide is-tall none does =
-    ap (λ (m : List ℕ). state m end) (sym (empty memory none)) ∙ rw (is-set, is-flow, is-wide, is-tall) at does
+    ap (λ (m : List ℕ). state m end) (sym (none-is-empty memory none)) ∙ rw (is-set, is-flow, is-wide, is-tall) at does

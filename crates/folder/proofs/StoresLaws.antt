@@ -26,12 +26,9 @@ use Rattle.area.specs.Rows.{finishedWord, oneWord, words, rowStart, oneRow, row
 use Rattle.area.proofs.RowsLaws.{oneRow-counts}
 use Rattle.settled.specs.Words.{storeWords, pointerWords, flagWords, rowStores, blitStores, settledEnd, settledWords}
 use Rattle.folder.specs.Laid.{laid}
+use Rattle.folder.proofs.LearnLaws.{none-is-empty}
 use Rattle.folder.proofs.PieceLaws.{rowStores-length, blitStores-length}
 use Rattle.folder.proofs.LaidLaws.{laid-of-append}
-
-empty : (memory : List ℕ) → length memory ≡ 0 → memory ≡ []
-empty [] none = refl
-empty (word ∷ rest) none = absurd (omega arith)
 
 pub finishedWord-of-parts : (setup : Setup) (width left : ℕ) (flow fetched : Flow) (made : Finished)
     → fetched ≡ fetch (setup .uses) [] flow
@@ -43,7 +40,7 @@ finishedWord-of-parts setup width left flow fetched made fetches finishes = rw (
 pub oneWord-of-empty : (setup : Setup) (width left : ℕ) (flow after : Flow) (memory : List ℕ)
     → length memory ≡ 0 → state memory after ≡ oneWord setup width left (state [] flow)
     → state [] after ≡ oneWord setup width left (state [] flow)
-oneWord-of-empty setup width left flow after memory none does = ap (λ (m : List ℕ). state m after) (sym (empty memory none)) ∙ does
+oneWord-of-empty setup width left flow after memory none does = ap (λ (m : List ℕ). state m after) (sym (none-is-empty memory none)) ∙ does
 
 pub one-store-of-parts : (setup : Setup) (width left word at : ℕ) (flow : Flow) (out next : List ℕ)
     → word ≡ finishedWord setup width left (state [] flow) .word

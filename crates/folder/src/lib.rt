@@ -1,4 +1,4 @@
-// The folder: steps whose outcome is known from the job alone become stores, and what is left is the same job to the runner.
+// The folder: blits whose outcome the job alone settles become stores, and all else is copied.
 pub mod answer;
 mod learn;
 mod measure;

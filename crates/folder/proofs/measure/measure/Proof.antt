@@ -1,4 +1,5 @@
 -- `folder::measure::measure` meets its contract: what is left of the job from here gives what the whole gives.
+-- The facts of a step are named by their paths: the structs hold more records than a search looks into.
 use mathlib.Core.Path.{_≡_, refl}
 use Prim.Native.Nat.{_+_, _*_, _-_, _≤_}
 use lib.ListN.{length}

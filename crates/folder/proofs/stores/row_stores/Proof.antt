@@ -1,4 +1,5 @@
 -- `folder::stores::row_stores` meets its contract: what is left of the row from here gives what the whole gives.
+-- The facts of a step are named by their paths: the structs hold more records than a search looks into.
 use mathlib.Core.Path.{_≡_}
 use mathlib.Core.List.{[]}
 use Prim.Native.Nat.{_+_, _*_, _<_, _≤_}

@@ -1,0 +1,61 @@
+/* The machine-checked Blitter for C: one area blit, a job run, a job folded.
+ *
+ * Common to all calls
+ * - Memory, register file, job and output are runs of 16-bit words; every length counts words, not bytes.
+ *   Any length is taken, 0 and too long a one too: such a call is refused with its number.
+ * - A register file has 20 words: BLTCON0, BLTCON1, BLTAFWM, BLTALWM, the pointers of C, B, A and D (high half, then
+ *   low half), the modulos of C, B, A and D, the data registers of C, B and A, and last the zero flag, 0 or 1.
+ * - No pointer is null, not even with length 0, and no two buffers or numbers of one call overlap.
+ *   Nothing checks this; a call that keeps to it touches only what it is lent.
+ * - *number is 0 when all is done, otherwise the refusal's:
+ *      1  memory of 0 words or of more than 262,144
+ *      2  a register file that hasn't 20 words, or holds a bit that isn't kept
+ *      3  a job of more than 4,096 words
+ *      4  a word that begins no step
+ *      5  a step cut off by the job's end
+ *      6  a store to an odd byte address
+ *     13  a blit of no words (no size gives it)
+ *      7  a line: bit 0 of BLTCON1
+ *      8  both fills
+ *      9  a fill without descending
+ *     10  a blit or a store at a word that memory doesn't have
+ *     11  a folded job longer than the output or than 4,096 words
+ * - The three numbers are written at every call, refused or not.
+ * - There is no state: calls on different buffers may run at the same time. No call allocates, prints or fails otherwise.
+ */
+#ifndef DESK_H
+#define DESK_H
+
+#include <stddef.h>
+#include <stdint.h>
+
+#ifdef __cplusplus
+extern "C" {
+#endif
+
+/* Does one area blit of the given BLTSIZE. *number is 0 when it is done, and *stored the count of words stored;
+ * otherwise it is 1, 2, 13, 7, 8, 9 or 10 (the first that holds, in this order), *stored is 0, and ram and file are
+ * unchanged. */
+void desk_blit(uint16_t *ram, size_t ram_words, uint16_t *file, size_t file_words, uint16_t size,
+               uint32_t *number, uint32_t *stored);
+
+/* Runs a job. *number is 0 when it is done, and *place is 0; otherwise it is 1 to 10 or 13, *place the word index of the
+ * refused step (0 for 1 to 3), and ram, file and *stored are as after the last step that was done. *stored counts the
+ * words stored by blits and store steps together. */
+void desk_run(uint16_t *ram, size_t ram_words, uint16_t *file, size_t file_words,
+              const uint16_t *job, size_t job_words,
+              uint32_t *number, uint32_t *place, uint32_t *stored);
+
+/* Folds a job for memory of ram_words words. *number is 0 when it is done, *place is 0, *length is the length of the
+ * folded job, which stands at the start of out; out beyond it is unchanged. Otherwise *number is 1, 3, 4, 5, 6 or 11,
+ * *place the word index of the refused step (0 for 1, 3 and 11), *length 0, and the whole of out is unchanged.
+ * No folded job is longer than 4,096 words. A step that a run would refuse is copied, not refused. On every memory
+ * of ram_words words the folded job and its original end alike, but for the place told with a refusal. */
+void desk_fold(size_t ram_words, const uint16_t *job, size_t job_words, uint16_t *out, size_t out_words,
+               uint32_t *number, uint32_t *place, uint32_t *length);
+
+#ifdef __cplusplus
+}
+#endif
+
+#endif

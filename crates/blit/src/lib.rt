@@ -1,4 +1,5 @@
 // The area blit: set-up and flow, one word, rows, refusals, and the blit itself.
+pub mod answer;
 mod done;
 mod refuse;
 mod registers;

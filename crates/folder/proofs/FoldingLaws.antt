@@ -19,8 +19,8 @@ use Rattle.folder.specs.declared.types.Answer.{Answer}
 use Rattle.folder.specs.Fold.{fold}
 use Rattle.folder.specs.Folding.{Folding, refused, done, startRefusal, tooLong, byStep, folding}
 use Rattle.folder.specs.Answer.{refusalNumber, left}
-use Rattle.folder.specs.Laid.{laid}
-use Rattle.folder.proofs.LaidLaws.{laid-in-front}
+use Rattle.word.specs.Laid.{laid}
+use Rattle.word.proofs.LaidLaws.{laid-in-front}
 
 -- a refusal's number is never 0
 pub refusalNumber-positive : (why : Refusal) → refusalNumber why ≡ 0 → ⊥
@@ -40,6 +40,11 @@ inside words most fits = by-order (decLt most words)
         let n : _≡_ {A = ℕ} 0 1 = cc in absurd (omega arith)
     by-order (no near) = omega arith
 
+pub tooLong-when-few : (words out : List ℕ) → tooLong words out ≡ false → length words ≤ jobMost
+unfolding tooLong
+tooLong-when-few words out is =
+    inside (length words) jobMost (or-right (not (leb (length words) (length out))) (not (leb (length words) jobMost)) is)
+
 -- what is known of a folding by its number
 pub record Fits (words out : List ℕ) (end : Folding) : Type 0 where
   pub gives : end ≡ done words out
@@ -57,7 +62,7 @@ byStep-when-done words out [] none = by-test (tooLong words out) refl none
         record {
           gives = refl;
           room = inside (length words) (length out) (or-left (not (leb (length words) (length out))) (not (leb (length words) jobMost)) is);
-          few = inside (length words) jobMost (or-right (not (leb (length words) (length out))) (not (leb (length words) jobMost)) is);
+          few = tooLong-when-few words out is;
         }
 byStep-when-done words out (one ∷ rest) none =
     by-test (λ later. byStep-when-done words out rest later) (eqb (readNumber (one .read)) 0) refl none

@@ -3,7 +3,7 @@ pub mod SettledLaws
 pub mod LearnLaws
 pub mod PieceLaws
 pub mod MeasureLaws
-pub mod LaidLaws
+pub mod PutLaws
 pub mod StoresLaws
 pub mod WriteLaws
 pub mod FoldingLaws

@@ -25,7 +25,7 @@ use Rattle.folder.specs.declared.types.Answer.{Answer}
 use Rattle.folder.specs.Fold.{folded, learned, rawWords, piece, learnedAfter, foldSteps, foldFrom, fold}
 use Rattle.folder.specs.Folding.{Folding, refused, done, tooLong, byStep}
 use Rattle.folder.specs.Answer.{left}
-use Rattle.folder.specs.Laid.{pieceLength}
+use Rattle.folder.specs.PieceLength.{pieceLength}
 use Rattle.folder.proofs.PieceLaws.{piece-length, pieceLength-le}
 
 -- the length tested last of all

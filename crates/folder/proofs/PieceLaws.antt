@@ -32,7 +32,7 @@ use Rattle.folder.specs.Learn.{written, forgotten, movedD}
 use Rattle.blit.specs.Refusal.{stepRefusal}
 use Rattle.folder.specs.Settled.{controlsKnown, onlyDUsed, sourcesKnown, settled}
 use Rattle.folder.specs.Fold.{folded, learned, rawWords}
-use Rattle.folder.specs.Laid.{settledLength, pieceLength}
+use Rattle.folder.specs.PieceLength.{settledLength, pieceLength}
 
 -- the words of a settled blit
 pub rowStores-length : (setup : Setup) (width left : ℕ) (now : State) → length (rowStores setup width left now) ≡ 3 * left

@@ -25,10 +25,10 @@ use Rattle.area.specs.Move.{rowEnd}
 use Rattle.area.specs.Rows.{finishedWord, oneWord, words, rowStart, oneRow, rows}
 use Rattle.area.proofs.RowsLaws.{oneRow-counts}
 use Rattle.settled.specs.Words.{storeWords, pointerWords, flagWords, rowStores, blitStores, settledEnd, settledWords}
-use Rattle.folder.specs.Laid.{laid}
+use Rattle.word.specs.Laid.{laid}
 use Rattle.folder.proofs.LearnLaws.{none-is-empty}
 use Rattle.folder.proofs.PieceLaws.{rowStores-length, blitStores-length}
-use Rattle.folder.proofs.LaidLaws.{laid-of-append}
+use Rattle.word.proofs.LaidLaws.{laid-of-append}
 
 pub finishedWord-of-parts : (setup : Setup) (width left : ℕ) (flow fetched : Flow) (made : Finished)
     → fetched ≡ fetch (setup .uses) [] flow

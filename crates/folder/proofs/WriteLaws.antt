@@ -23,10 +23,11 @@ use Rattle.folder.specs.Settled.{settled}
 use Rattle.folder.specs.Fold.{folded, learned, rawWords, foldSteps, foldFrom, fold}
 use Rattle.folder.specs.Folding.{Folding, byStep}
 use Rattle.folder.specs.Answer.{left}
-use Rattle.folder.specs.Laid.{laid, pieceLength}
+use Rattle.word.specs.Laid.{laid}
+use Rattle.folder.specs.PieceLength.{pieceLength}
 use Rattle.folder.proofs.PieceLaws.{piece-length}
 use Rattle.folder.proofs.MeasureLaws.{stepsAt, foldSteps-of-step, measure-of-nothing, measure-of-cut, measure-of-odd, count-turn}
-use Rattle.folder.proofs.LaidLaws.{laid-of-append}
+use Rattle.word.proofs.LaidLaws.{laid-of-append}
 
 pub put-blit-of-parts : (size at : ℕ) (known : List Known) (file out next : List ℕ)
     → file ≡ numbers known → next ≡ laid (settledWords file size) at out → next ≡ laid (settledWords (numbers known) size) at out

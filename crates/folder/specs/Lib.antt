@@ -5,4 +5,4 @@ pub mod Fold
 pub mod Folding
 pub mod Answer
 pub mod OneAnswer
-pub mod Laid
+pub mod PieceLength

@@ -5,7 +5,7 @@ ghost use Rattle.settled.specs.Words.{settledEnd};
 ghost use Rattle.knowledge.specs.Knowledge.{listed, numbers};
 ghost use Rattle.folder.specs.Learn.{movedD};
 ghost use Rattle.folder.specs.Fold.{learned};
-ghost use Rattle.folder.specs.Laid.{settledLength, pieceLength};
+ghost use Rattle.folder.specs.PieceLength.{settledLength, pieceLength};
 use crate::types::Piece;
 use job::types::Step;
 use knowledge::types::Knowledge;

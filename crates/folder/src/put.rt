@@ -4,7 +4,7 @@ ghost use mathlib.Core.List.{[], _∷_, _++_};
 ghost use Prim.Native.Nat.{_+_, _<_, _≤_};
 ghost use lib.ListN.{length, take, drop};
 ghost use Rattle.settled.specs.Words.{storeWords, pointerWords, flagWords};
-ghost use Rattle.folder.specs.Laid.{laid};
+ghost use Rattle.word.specs.Laid.{laid};
 use word::types::Pointer;
 
 // A store step.

@@ -5,7 +5,7 @@ ghost use Prim.Native.Nat.{_+_, _*_, _<_, _≤_};
 ghost use Rattle.area.specs.Flow.{state};
 ghost use Rattle.area.specs.Rows.{finishedWord, oneWord, words, rowStart, oneRow, rows};
 ghost use Rattle.settled.specs.Words.{storeWords, rowStores, blitStores, settledEnd, settledWords};
-ghost use Rattle.folder.specs.Laid.{laid};
+ghost use Rattle.word.specs.Laid.{laid};
 use area::types::Flow;
 use area::types::Setup;
 

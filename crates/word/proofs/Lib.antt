@@ -2,6 +2,7 @@
 pub mod ChoiceLaws
 pub mod RepeatLaws
 pub mod WordLaws
+pub mod LaidLaws
 pub mod PointerLaws
 pub mod SizeLaws
 pub mod MaskLaws

@@ -2,6 +2,7 @@
 pub mod Choice
 pub mod Repeat
 pub mod Word
+pub mod Laid
 pub mod Pointer
 pub mod Size
 pub mod Mask

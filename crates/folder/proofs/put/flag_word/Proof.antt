@@ -1,5 +1,5 @@
 -- `folder::put::flag_word` meets its contract, all zero or not.
-use Rattle.folder.proofs.LaidLaws.{flag-word-when-zero, flag-word-when-some}
+use Rattle.folder.proofs.PutLaws.{flag-word-when-zero, flag-word-when-some}
 use Rattle.folder.proofs.put.flag_word.Statement.{statement}
 use Rattle.folder.proofs.put.flag_word.Tie as tie
 

@@ -2,8 +2,8 @@
 use mathlib.Core.Path.{_≡_}
 use Prim.Native.Nat.{_+_, _<_, _≤_}
 use lib.ListN.{length, take, drop}
-use Rattle.folder.specs.Laid.{laid}
-use Rattle.folder.proofs.LaidLaws.{copied-turn, copied-done}
+use Rattle.word.specs.Laid.{laid}
+use Rattle.folder.proofs.PutLaws.{copied-turn, copied-done}
 use borrow.Author.Needs.{needs}
 use Rattle.folder.proofs.put.put_copied.Statement.{statement}
 use Rattle.folder.proofs.put.put_copied.Tie as tie

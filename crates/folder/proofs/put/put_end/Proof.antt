@@ -1,5 +1,5 @@
 -- `folder::put::put_end` meets its contract: the pointer's words, then the flag's.
-use Rattle.folder.proofs.LaidLaws.{put-end-of-parts}
+use Rattle.folder.proofs.PutLaws.{put-end-of-parts}
 use borrow.Author.Needs.{needs}
 use Rattle.folder.proofs.put.put_end.Statement.{statement}
 use Rattle.folder.proofs.put.put_end.Tie as tie

@@ -1,5 +1,5 @@
 -- `folder::put::put_pointer` meets its contract, word by word.
-use Rattle.folder.proofs.LaidLaws.{put-pointer-of-parts}
+use Rattle.folder.proofs.PutLaws.{put-pointer-of-parts}
 use borrow.Author.Needs.{needs}
 use Rattle.folder.proofs.put.put_pointer.Statement.{statement}
 use Rattle.folder.proofs.put.put_pointer.Tie as tie

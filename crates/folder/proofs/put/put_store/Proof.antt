@@ -1,5 +1,5 @@
 -- `folder::put::put_store` meets its contract, word by word.
-use Rattle.folder.proofs.LaidLaws.{put-store-of-parts}
+use Rattle.folder.proofs.PutLaws.{put-store-of-parts}
 use borrow.Author.Needs.{needs}
 use Rattle.folder.proofs.put.put_store.Statement.{statement}
 use Rattle.folder.proofs.put.put_store.Tie as tie

@@ -7,7 +7,7 @@ use Rattle.word.proofs.RepeatLaws.{repeated-done}
 use Rattle.area.specs.Flow.{state}
 use Rattle.area.specs.Rows.{rows}
 use Rattle.settled.specs.Words.{blitStores}
-use Rattle.folder.specs.Laid.{laid}
+use Rattle.word.specs.Laid.{laid}
 use Rattle.folder.proofs.StoresLaws.{blit-turn, rows-turn-empty, rows-room-empty, blit-done}
 use borrow.Author.Needs.{needs}
 use Rattle.folder.proofs.stores.blit_stores.Statement.{statement}

@@ -9,7 +9,7 @@ use Rattle.area.specs.Flow.{state}
 use Rattle.area.specs.Rows.{words}
 use Rattle.area.proofs.RowsLaws.{words-room}
 use Rattle.settled.specs.Words.{rowStores}
-use Rattle.folder.specs.Laid.{laid}
+use Rattle.word.specs.Laid.{laid}
 use Rattle.folder.proofs.StoresLaws.{row-turn, row-done}
 use borrow.Author.Needs.{needs}
 use Rattle.folder.proofs.stores.row_stores.Statement.{statement}

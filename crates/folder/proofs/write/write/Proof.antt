@@ -8,9 +8,9 @@ use Rattle.runner.proofs.RunLaws.{runAt-falls, runAt-inside}
 use Rattle.knowledge.specs.Knowledge.{listed}
 use Rattle.folder.specs.Fold.{foldSteps, fold}
 use Rattle.folder.specs.Folding.{byStep}
-use Rattle.folder.specs.Laid.{laid}
+use Rattle.word.specs.Laid.{laid}
 use Rattle.folder.proofs.MeasureLaws.{stepsAt, byStep-turn, count-turn, count-start}
-use Rattle.folder.proofs.LaidLaws.{laid-as-long}
+use Rattle.word.proofs.LaidLaws.{laid-as-long}
 use Rattle.folder.proofs.WriteLaws.{write-at-end, write-of-end, write-of-nothing, write-of-cut, write-of-odd, step-inside, write-turn, at-fits, at-room, write-start}
 use borrow.Author.Needs.{needs}
 use Rattle.folder.proofs.write.write.Statement.{statement}

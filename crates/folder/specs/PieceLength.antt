@@ -1,16 +1,11 @@
--- How the code makes a folding, which no promise of the folder speaks of: words laid into a run one after the other, and how many a step becomes.
+-- How many words a step becomes. The code measures by it; no promise of the folder speaks of it.
 use Prim.Native.Nat.{ℕ, _+_, _*_}
-use mathlib.Core.List.{List, [], _∷_}
-use lib.ListN.{set}
+use mathlib.Core.List.{List}
 use Rattle.word.specs.Choice.{if_then_else_}
 use Rattle.word.specs.Size.{height, width}
 use Rattle.job.specs.declared.types.Step.{Step}
 use Rattle.knowledge.specs.declared.types.Known.{Known}
 use Rattle.folder.specs.Settled.{settled}
-
-unfoldable pub laid : (words : List ℕ) → (at : ℕ) → (out : List ℕ) → List ℕ
-laid [] at out = out
-laid (word ∷ rest) at out = laid rest (at + 1) (set out at word)
 
 -- three words for each store, four for the pointer and one for the flag
 abbrev pub settledLength : (size : ℕ) → ℕ

@@ -1,0 +1,2 @@
+-- The laws behind the entries.
+pub mod PlaceLaws

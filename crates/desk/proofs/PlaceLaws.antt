@@ -1,0 +1,151 @@
+-- Laws of places and lengths: a job has at most 4,096 words and a folded job too, so that 32 bits hold them.
+use mathlib.Core.Path.{_≡_, refl, sym, ap, _∙_}
+use Prim.Native.Nat.{ℕ, zero, suc, _+_, _<_, _≤_}
+use native.Mathlib.Decide.{decLt}
+use native.Mathlib.Omega.{arith}
+use mathlib.Core.Bool.{Bool, true, false}
+use mathlib.Core.List.{List, [], _∷_}
+use borrow.Author.Tests.{eq-eqb, ne-eqb}
+use lib.Dec.{eqb}
+use lib.ListN.{length}
+use Rattle.word.specs.Choice.{if_then_else_, _when_, given}
+use Rattle.blit.specs.Refusal.{memorySize}
+use Rattle.job.specs.Step.{front, readNumber}
+use Rattle.job.specs.Steps.{Placed, placed, following, stepsFrom, steps}
+use Rattle.runner.specs.Run.{Machine, machine, effectOn, after, End, ended, runSteps, runFrom, jobLength, startRefusal, run}
+use Rattle.runner.proofs.RunLaws.{jobLength-when-short}
+use Rattle.runner.proofs.StartLaws.{startRefusal-is-none, run-when-started, run-when-unstarted}
+use Rattle.blit.specs.declared.types.Answer as blitAnswer
+use Rattle.blit.specs.Blit as blits
+use Rattle.blit.specs.Blit.{blit}
+use Rattle.runner.specs.declared.types.Answer as runAnswer
+use Rattle.runner.specs.Answer as runs
+use Rattle.folder.specs.declared.types.Answer as foldAnswer
+use Rattle.folder.specs.Answer as folds
+use Rattle.folder.specs.Fold.{fold}
+use Rattle.folder.specs.Folding as foldings
+use Rattle.folder.specs.Folding.{Folding, refused, done, tooLong, byStep, folding}
+use Rattle.folder.proofs.FoldingLaws.{tooLong-when-few}
+
+-- a run is refused at a word of its job
+runSteps-place-le : (skip at : ℕ) (words : List ℕ) (before : Machine)
+    → runSteps (stepsFrom skip at words) before .place ≤ at + length words
+unfolding runSteps stepsFrom
+runSteps-place-le skip at [] before = omega arith
+runSteps-place-le zero at (first ∷ rest) before =
+    by-test
+    (runSteps-place-le (following (front at (first ∷ rest))) (at + 1) rest (after before (effectOn before (front at (first ∷ rest)))))
+    (eqb (effectOn before (front at (first ∷ rest)) .number) 0)
+  where
+    later : End
+    later =
+        runSteps (stepsFrom (following (front at (first ∷ rest))) (at + 1) rest)
+        (after before (effectOn before (front at (first ∷ rest))))
+    by-test : later .place ≤ at + 1 + length rest → (fine : Bool)
+        → (if fine then later else ended (effectOn before (front at (first ∷ rest)) .number) at before) .place
+        ≤ at + suc (length rest)
+    by-test inside true = omega (arith, inside)
+    by-test inside false = omega arith
+runSteps-place-le (suc skip) at (word ∷ rest) before = omega (arith, runSteps-place-le skip (at + 1) rest before)
+
+run-place-le : (memory file job : List ℕ) → run memory file job .place ≤ 4096
+run-place-le memory file job = by-start (decLt 0 (startRefusal memory file job))
+  where
+    by-start : Dec (0 < startRefusal memory file job) → run memory file job .place ≤ 4096
+    by-start (yes some) =
+        let same = ap (λ (end : End). end .place) (run-when-unstarted memory file job (λ none. omega (arith, none, some))) in
+        omega (arith, same)
+    by-start (no none) =
+        let begins : startRefusal memory file job ≡ 0 = omega (arith, none) in
+        let starts = startRefusal-is-none memory file job begins in
+        let short : length job ≤ 4096 = jobLength-when-short job (jobLength job) refl (starts .2) in
+        let same = ap (λ (end : End). end .place) (run-when-started memory file job begins) in
+        omega (arith, same, short, runSteps-place-le 0 0 job (machine memory file 0))
+
+-- a folding is refused at a word of its job
+byStep-place-le : (words out : List ℕ) (skip at : ℕ) (job : List ℕ)
+    → byStep words out (stepsFrom skip at job) .place ≤ at + length job
+unfolding byStep stepsFrom
+byStep-place-le words out skip at [] = by-test (tooLong words out)
+  where
+    by-test : (long : Bool) → (if long then refused 11 0 out else done words out) .place ≤ at + 0
+    by-test true = omega arith
+    by-test false = omega arith
+byStep-place-le words out zero at (first ∷ rest) =
+    by-test (byStep-place-le words out (following (front at (first ∷ rest))) (at + 1) rest)
+    (eqb (readNumber (front at (first ∷ rest))) 0)
+  where
+    later : Folding
+    later = byStep words out (stepsFrom (following (front at (first ∷ rest))) (at + 1) rest)
+    by-test : later .place ≤ at + 1 + length rest → (fine : Bool)
+        → (if fine then later else refused (readNumber (front at (first ∷ rest))) at out) .place ≤ at + suc (length rest)
+    by-test inside true = omega (arith, inside)
+    by-test inside false = omega arith
+byStep-place-le words out (suc skip) at (word ∷ rest) = omega (arith, byStep-place-le words out skip (at + 1) rest)
+
+-- a folding's length is 0 or that of a folded job
+byStep-length-le : (words out : List ℕ) (list : List Placed) → byStep words out list .length ≤ 4096
+unfolding byStep
+byStep-length-le words out [] = by-test (tooLong words out) refl
+  where
+    by-test : (long : Bool) → tooLong words out ≡ long → (if long then refused 11 0 out else done words out) .length ≤ 4096
+    by-test true is = omega arith
+    by-test false is = tooLong-when-few words out is
+byStep-length-le words out (one ∷ rest) =
+    by-test (byStep-length-le words out rest) (eqb (readNumber (one .read)) 0)
+  where
+    by-test : byStep words out rest .length ≤ 4096 → (fine : Bool)
+        → (if fine then byStep words out rest else refused (readNumber (one .read)) (one .place) out) .length ≤ 4096
+    by-test inside true = inside
+    by-test inside false = omega arith
+
+module _ (n : ℕ) (job out : List ℕ) where
+  few-of-start : foldings.startRefusal n job ≡ 0 → length job ≤ 4096
+  unfolding foldings.startRefusal given
+  few-of-start none = by-rules (memorySize n) (jobLength job) refl none
+    where
+      by-rules : (bad long : Bool) → long ≡ jobLength job → given (1 when bad ∷ 3 when long ∷ []) ≡ 0 → length job ≤ 4096
+      by-rules true long is none = absurd (omega arith)
+      by-rules false true is none = absurd (omega arith)
+      by-rules false false is none = jobLength-when-short job false is refl
+
+  folding-le : (folding n job out .place ≤ 4096) × (folding n job out .length ≤ 4096)
+  unfolding folding
+  folding-le = by-start (decLt 0 (foldings.startRefusal n job))
+    where
+      by-start : Dec (0 < foldings.startRefusal n job) → (folding n job out .place ≤ 4096) × (folding n job out .length ≤ 4096)
+      by-start (yes some) = rw (ne-eqb (foldings.startRefusal n job) 0 (λ none. omega (arith, none, some))) (omega arith, omega arith)
+      by-start (no none) =
+          let begins : foldings.startRefusal n job ≡ 0 = omega (arith, none) in
+          rw (eq-eqb (foldings.startRefusal n job) 0 begins)
+          (omega (arith, few-of-start begins, byStep-place-le (fold n job) out 0 0 job), byStep-length-le (fold n job) out (steps job))
+
+-- what the entries tell, by the answers of the calls
+module _ (memory file job next end : List ℕ) (answer : runAnswer.Answer) (gives : runs.left answer next end ≡ run memory file job) where
+  pub run-place-lt : (place : ℕ) → place ≡ runs.answerPlace answer → place < 4294967296
+  run-place-lt place same =
+      omega (arith, same, ap (λ (end : End). end .place) gives, run-place-le memory file job)
+
+  pub run-of-answer : (number place stored : ℕ)
+      → number ≡ runs.answerNumber answer → place ≡ runs.answerPlace answer → stored ≡ runs.answerStored answer
+      → ended number place (machine next end stored) ≡ run memory file job
+  run-of-answer number place stored is-number is-place is-stored = rw (is-number, is-place, is-stored) gives
+
+module _ (n : ℕ) (job out next : List ℕ) (answer : foldAnswer.Answer) (gives : folds.left answer next ≡ folding n job out) where
+  pub folding-place-lt : (place : ℕ) → place ≡ folds.answerPlace answer → place < 4294967296
+  folding-place-lt place same =
+      omega (arith, same, ap (λ (end : Folding). end .place) gives, folding-le n job out .0)
+
+  pub folding-length-lt : (length : ℕ) → length ≡ folds.answerLength answer → length < 4294967296
+  folding-length-lt length same =
+      omega (arith, same, ap (λ (end : Folding). end .length) gives, folding-le n job out .1)
+
+  pub folding-of-answer : (number place length : ℕ)
+      → number ≡ folds.answerNumber answer → place ≡ folds.answerPlace answer → length ≡ folds.answerLength answer
+      → record { number = number; place = place; length = length; out = next } ≡ folding n job out
+  folding-of-answer number place length is-number is-place is-length = rw (is-number, is-place, is-length) gives
+
+pub blit-of-answer : (memory file next end : List ℕ) (size number stored : ℕ) (answer : blitAnswer.Answer)
+    → number ≡ blits.answerNumber answer → stored ≡ blits.answerStored answer → blits.left answer next end ≡ blit memory file size
+    → record { number = number; stored = stored; memory = next; file = end } ≡ blit memory file size
+blit-of-answer memory file next end size number stored answer is-number is-stored gives = rw (is-number, is-stored) gives

@@ -1,0 +1,64 @@
+// The entries that a C program calls; include/desk.h declares them. A slice is two arguments there, its address and its
+// count of words; results are written into lent numbers. Each gives and leaves what the call below it does.
+ghost use mathlib.Core.Path.{_≡_};
+ghost use Rattle.blit.specs.Blit.{blit};
+ghost use Rattle.runner.specs.Run.{machine, ended, run};
+ghost use Rattle.folder.specs.Folding.{folding};
+
+// Does one area blit.
+#[no_mangle]
+pub extern "C" fn desk_blit(
+    ram: &mut [u16],
+    file: &mut [u16],
+    size: u16,
+    number: &mut u32,
+    stored: &mut u32,
+)
+    ensures { λ _. ⌜
+        record { number = now (number .exit); stored = now (stored .exit); memory = now (ram .exit); file = now (file .exit) }
+        ≡ blit (now (ram .entry)) (now (file .entry)) size ⌝ }
+{
+    let answer = blit::blit(ram, file, size);
+    *number = blit::answer::number(answer);
+    *stored = blit::answer::stored(answer);
+}
+
+// Runs a job.
+#[no_mangle]
+pub extern "C" fn desk_run(
+    ram: &mut [u16],
+    file: &mut [u16],
+    job: &[u16],
+    number: &mut u32,
+    place: &mut u32,
+    stored: &mut u32,
+)
+    ensures { λ _. ⌜
+        ended (now (number .exit)) (now (place .exit)) (machine (now (ram .exit)) (now (file .exit)) (now (stored .exit)))
+        ≡ run (now (ram .entry)) (now (file .entry)) (now (job .entry)) ⌝ }
+{
+    let answer = runner::run(ram, file, job);
+    *number = runner::answer::number(answer);
+    *place = runner::answer::place(answer) as u32;
+    *stored = runner::answer::stored(answer);
+}
+
+// Folds a job for memory of `words` words.
+#[no_mangle]
+pub extern "C" fn desk_fold(
+    words: usize,
+    job: &[u16],
+    out: &mut [u16],
+    number: &mut u32,
+    place: &mut u32,
+    length: &mut u32,
+)
+    ensures { λ _. ⌜
+        record { number = now (number .exit); place = now (place .exit); length = now (length .exit); out = now (out .exit) }
+        ≡ folding words (now (job .entry)) (now (out .entry)) ⌝ }
+{
+    let answer = folder::fold(words, job, out);
+    *number = folder::answer::number(answer);
+    *place = folder::answer::place(answer) as u32;
+    *length = folder::answer::length(answer) as u32;
+}

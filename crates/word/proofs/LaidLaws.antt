@@ -3,8 +3,9 @@ use mathlib.Core.Path.{_≡_, refl, ap, _∙_}
 use Prim.Native.Nat.{ℕ, suc, _+_, _≤_}
 use native.Mathlib.Nat.{add-zero, le-of-suc-le-suc}
 use native.Mathlib.Omega.{arith}
-use mathlib.Core.List.{List, [], _∷_, _++_}
+use mathlib.Core.List.{List, [], _∷_, _++_, append-nil}
 use lib.ListN.{length, set, drop, length-set}
+use lib.Seq.{drop-length}
 use Rattle.word.specs.Laid.{laid}
 
 pub laid-of-append : (words more : List ℕ) (at : ℕ) (out : List ℕ)
@@ -39,3 +40,11 @@ laid-in-front (word ∷ words) (first ∷ out) fits =
 
 pub laid-as-long : (words : List ℕ) (at long : ℕ) (out next : List ℕ) → next ≡ laid words at out → length out ≡ long → length next ≡ long
 laid-as-long words at long out next lays same = ap length lays ∙ laid-keeps-length words at out ∙ same
+
+-- as many words as the run has stand there alone
+pub laid-over : (words out : List ℕ) → length words ≡ length out → laid words 0 out ≡ words
+laid-over words out same =
+    laid-in-front words out (omega (arith, same))
+    ∙ ap (λ (many : ℕ). words ++ drop many out) same
+    ∙ ap (λ (rest : List ℕ). words ++ rest) (drop-length out)
+    ∙ append-nil words

@@ -1,0 +1,91 @@
+-- Laws of the card as a whole: the run that it prints, and the cases of its text.
+use mathlib.Core.Path.{_≡_, refl, sym, ap, _∙_}
+use Prim.Native.Nat.{ℕ, _+_, _≤_}
+use native.Mathlib.Omega.{arith}
+use mathlib.Core.Bool.{Bool, true, false}
+use mathlib.Core.List.{List}
+use borrow.Author.Tests.{eq-eqb, ne-eqb}
+use lib.ListN.{length, take}
+use lib.Seq.{length-take-le}
+use Rattle.runner.specs.declared.types.Answer.{Answer}
+use Rattle.runner.specs.Run.{End, ended, machine, run}
+use Rattle.runner.specs.Answer.{answerNumber, answerPlace, answerStored, left}
+use Rattle.card_text.specs.declared.types.Ram.{Ram}
+use Rattle.card_text.specs.Reading.{ramWords, ramEnd, ramLine, badFrom, badLine}
+use Rattle.card_text.specs.Ram.{ramRead}
+use Rattle.card_text.specs.Job.{counted, zeros, writeOrder, writes, cardRun}
+use Rattle.card_text.specs.Printing.{printedRun, printedBad}
+use Rattle.card_text.specs.Card.{Written, writing, printed}
+use Rattle.word.specs.Laid.{laid}
+use Rattle.card_text.proofs.JobLaws.{writes-fill}
+use Rattle.card_text.proofs.RamLaws.{ramRead-of-words, ramRead-of-bad}
+
+-- what is printed of a run doesn't tell its place
+printedRun-anywhere : (number place stored : ℕ) (memory file : List ℕ)
+    → printedRun (ended number 0 (machine memory file stored)) ≡ printedRun (ended number place (machine memory file stored))
+unfolding printedRun
+printedRun-anywhere number place stored memory file = refl
+
+pub printedRun-of-answer : (many number stored : ℕ) (answer : Answer) (start memory file job ram end : List ℕ) (before after : Written)
+    → ram ≡ counted 0 many → start ≡ zeros 20 → left answer memory file ≡ run ram start job
+    → number ≡ answerNumber answer → stored ≡ answerStored answer
+    → after ≡ writing (printedRun (ended number 0 (machine memory file stored))) before
+    → after ≡ writing (printedRun (run (counted 0 many) (zeros 20) job)) before
+printedRun-of-answer many number stored answer start memory file job ram end before after counts none gives is-number is-stored prints =
+    let same : ended number (answerPlace answer) (machine memory file stored) ≡ run ram start job = rw (is-number, is-stored) gives in
+    let asked : run ram start job ≡ run (counted 0 many) (zeros 20) job = rw (counts, none) in
+    prints
+    ∙ ap (λ (text : List ℕ). writing text before)
+    (printedRun-anywhere number (answerPlace answer) stored memory file ∙ ap printedRun (same ∙ asked))
+
+-- what a good first line leaves to the others
+module _ (text : List ℕ) (ram : Ram) (reads : ram ≡ ramRead text) (words start : ℕ) (is : ram ≡ Ram.Words words start) where
+  pub start-le : start ≤ length text
+  start-le = ramRead-of-words text words start (sym is ∙ reads) .inside
+
+  pub words-le : words ≤ 32768
+  words-le = ramRead-of-words text words start (sym is ∙ reads) .small
+
+-- the card's text, case by case
+module _ (text : List ℕ) (before after : Written) where
+  pub printed-when-ram-bad : (ram : Ram) → ram ≡ ramRead text → ram ≡ Ram.Bad → after ≡ writing (printedBad 1) before
+      → after ≡ writing (printed text) before
+  unfolding printed badLine
+  printed-when-ram-bad ram reads bad prints = rw (ramRead-of-bad text (sym bad ∙ reads)) prints
+
+  module _ (ram : Ram) (reads : ram ≡ ramRead text) (words start : ℕ) (is : ram ≡ Ram.Words words start)
+      (line : ℕ) (of-line : line ≡ badFrom text start 0 20) where
+    line-of-lines : line ≡ badLine text
+    unfolding badLine
+    line-of-lines =
+        let said = ramRead-of-words text words start (sym is ∙ reads) in
+        rw (said .good) (of-line ∙ ap (λ (at : ℕ). badFrom text at 0 20) (said .next))
+
+    pub printed-when-bad : (line ≡ 0 → ⊥) → after ≡ writing (printedBad line) before → after ≡ writing (printed text) before
+    unfolding printed
+    printed-when-bad some prints = rw (← line-of-lines, ne-eqb line 0 some) prints
+
+    pub printed-when-good : line ≡ 0
+        → after ≡ writing (printedRun (run (counted 0 words) (zeros 20) (writes text start writeOrder))) before
+        → after ≡ writing (printed text) before
+    unfolding printed cardRun
+    printed-when-good none prints =
+        let said = ramRead-of-words text words start (sym is ∙ reads) in
+        rw (← line-of-lines, none, ← said .many, ← said .next) prints
+
+-- the first words of a run that is long enough
+pub prefix-length : (room : List ℕ) (many : ℕ) → many ≤ 32768 → 32768 ≡ length room → many ≡ length (take many room)
+prefix-length room many small long = sym (length-take-le many room (omega (arith, small, long)))
+
+pub prefix-le : (room : List ℕ) (many : ℕ) → many ≤ 32768 → 32768 ≡ length room → length (take many room) ≤ 32768
+prefix-le room many small long = omega (arith, small, prefix-length room many small long)
+
+-- the run of a good card, its job and memory made
+pub printedRun-of-job : (text room before-job job out : List ℕ) (start words : ℕ) (before after : Written)
+    → words ≤ 32768 → 32768 ≡ length room → length before-job ≡ 40 → job ≡ laid (writes text start writeOrder) 0 before-job
+    → after ≡ writing (printedRun (run (counted 0 (length (take words room))) (zeros 20) job)) before
+    → after ≡ writing (printedRun (run (counted 0 words) (zeros 20) (writes text start writeOrder))) before
+printedRun-of-job text room before-job job out start words before after small long forty lays prints =
+    let many : length (take words room) ≡ words = sym (prefix-length room words small long) in
+    let same : job ≡ writes text start writeOrder = writes-fill text before-job job start forty lays in
+    rw (← many, ← same) prints

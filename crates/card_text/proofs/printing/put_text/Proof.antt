@@ -1,0 +1,58 @@
+-- `card_text::printing::put_text` meets its contract: what is left from here gives what the whole gives.
+use mathlib.Core.Path.{_≡_}
+use Prim.Native.Nat.{_+_, _-_, _≤_}
+use lib.ListN.{length, drop}
+use Rattle.card_text.specs.Card.{written, writing}
+use Rattle.card_text.proofs.WritingLaws.{writing-turn, writing-done}
+use borrow.Author.Needs.{needs}
+use Rattle.card_text.proofs.printing.put_text.Statement.{statement}
+use Rattle.card_text.proofs.printing.put_text.Tie as tie
+
+abbrev Inv-loop : tie.InvT-loop
+Inv-loop out₀ at text from₀ to₀ out from to =
+    (writing (drop from text) (written to out) ≡ writing text (written at out₀))
+    × (to ≡ at + from)
+    × (from ≤ length text)
+    × (length out ≡ length out₀)
+
+abbrev μ-loop : tie.MeasureT-loop
+μ-loop out₀ at text from₀ to₀ out from to = length text - from
+
+loop-holds : tie.Need-loop-holds Inv-loop μ-loop
+loop-holds c = search needs
+
+shared-slice-read-put : tie.Need-shared-slice-read-put Inv-loop μ-loop
+shared-slice-read-put c = search needs
+
+put-requires : tie.Need-put-requires Inv-loop μ-loop
+put-requires c κs = search needs
+
+add-from : tie.Need-add-from Inv-loop μ-loop
+add-from c = search needs
+
+loop-less : tie.Need-loop-less Inv-loop μ-loop
+loop-less c = search needs
+
+loop-again : tie.Need-loop-again Inv-loop μ-loop
+loop-again c = (search writing-turn, search needs, search needs, search needs)
+
+same-length : tie.Need-same-length Inv-loop μ-loop
+same-length c = search needs
+
+returns : tie.Need-returns Inv-loop μ-loop
+returns c = (search writing-done, search needs)
+
+pub put-text-spec : {M : Type 1} → statement M
+put-text-spec =
+    tie.close
+    (tie.spec
+    Inv-loop
+    μ-loop
+    loop-holds
+    shared-slice-read-put
+    put-requires
+    add-from
+    loop-less
+    loop-again
+    same-length
+    returns)

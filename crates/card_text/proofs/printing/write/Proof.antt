@@ -1,0 +1,21 @@
+-- `card_text::printing::write` meets its contract: past the end nothing is set.
+use mathlib.Core.Path.{sym}
+use lib.Seq.{set-out}
+use borrow.Author.Needs.{needs}
+use Rattle.card_text.proofs.printing.write.Statement.{statement}
+use Rattle.card_text.proofs.printing.write.Tie as tie
+
+slice-write-out : tie.Need-slice-write-out
+slice-write-out c = search needs
+
+same-length : tie.Need-same-length
+same-length c = search needs
+
+returns : tie.Need-returns
+returns c = search needs
+
+returns-2 : tie.Need-returns-2
+returns-2 c = sym (set-out _ _ _ (c .if1 .left))
+
+pub write-spec : {M : Type 1} → statement M
+write-spec = tie.close (tie.spec slice-write-out same-length returns returns-2)

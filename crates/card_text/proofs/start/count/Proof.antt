@@ -1,0 +1,64 @@
+-- `card_text::start::count` meets its contract: the words from here on give what all give.
+use mathlib.Core.Path.{_≡_}
+use Prim.Native.Nat.{_-_, _≤_}
+use lib.ListN.{length}
+use Rattle.word.specs.Laid.{laid}
+use Rattle.card_text.specs.Job.{counted}
+use Rattle.card_text.proofs.JobLaws.{counted-start, counted-turn, counted-done}
+use borrow.Author.Needs.{needs}
+use Rattle.card_text.proofs.start.count.Statement.{statement}
+use Rattle.card_text.proofs.start.count.Tie as tie
+
+abbrev Inv-loop : tie.InvT-loop
+Inv-loop ram₀ words at₀ ram at =
+    (laid (counted at (words - at)) at ram ≡ counted 0 (length ram₀))
+    × (at ≤ words)
+    × (words ≤ 32768)
+    × (length ram ≡ words)
+    × (words ≡ length ram₀)
+
+abbrev μ-loop : tie.MeasureT-loop
+μ-loop ram₀ words at₀ ram at = words - at
+
+loop-holds : tie.Need-loop-holds Inv-loop μ-loop
+loop-holds c = (search counted-start, search needs, search needs, search needs, search needs)
+
+cast-write : tie.Need-cast-write Inv-loop μ-loop
+cast-write c = search needs
+
+cast-write-2 : tie.Need-cast-write-2 Inv-loop μ-loop
+cast-write-2 c = search needs
+
+write-requires : tie.Need-write-requires Inv-loop μ-loop
+write-requires c κs = search needs
+
+add-at : tie.Need-add-at Inv-loop μ-loop
+add-at c = search needs
+
+loop-less : tie.Need-loop-less Inv-loop μ-loop
+loop-less c = search needs
+
+loop-again : tie.Need-loop-again Inv-loop μ-loop
+loop-again c = (search counted-turn, search needs, search needs, search needs, search needs)
+
+same-length : tie.Need-same-length Inv-loop μ-loop
+same-length c = search needs
+
+returns : tie.Need-returns Inv-loop μ-loop
+returns c = search counted-done
+
+pub count-spec : {M : Type 1} → statement M
+count-spec =
+    tie.close
+    (tie.spec
+    Inv-loop
+    μ-loop
+    loop-holds
+    cast-write
+    cast-write-2
+    write-requires
+    add-at
+    loop-less
+    loop-again
+    same-length
+    returns)

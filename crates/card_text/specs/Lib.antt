@@ -1,0 +1,7 @@
+-- What a reader must believe of the bench card, in the order of paper 01.
+pub mod Text
+pub mod Reading
+pub mod Job
+pub mod Printing
+pub mod Card
+pub mod Ram

@@ -10,7 +10,7 @@ enum {
     RAM_ROOM = 262145,
     FILE_ROOM = 24,
     JOB_ROOM = 4097,
-    OUT_ROOM = 4500
+    OUT_ROOM = 40000
 };
 
 enum { POINTERS = 262144, REGISTERS = 19, FILE_WORDS = 20, USE_D = 0x0100 };

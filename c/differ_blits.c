@@ -65,8 +65,8 @@ static void pick_size(struct plan *plan, uint32_t n, bool settled)
         plan->width = widths[which];
         plan->height = heights[which];
     }
-    if (!settled && one_in(1500)) {
-        plan->width = 64 - below(3);
+    if (!settled && one_in(300)) {
+        plan->width = one_in(6) ? 64 - below(3) : at_most(plan->width, 3);
         plan->height = 1024 - below(3);
     }
     plan->size = (plan->height % 1024) << 6 | plan->width % 64;

@@ -6,10 +6,14 @@
 #include "differ.h"
 
 static struct test smaller;
+static unsigned tries_left = 10000;
 
 /* Takes the smaller case if it differs still. */
 static bool taken(struct test *test)
 {
+    if (tries_left == 0)
+        return false;
+    tries_left--;
     if (difference(&smaller) == NULL)
         return false;
     *test = smaller;
@@ -32,7 +36,7 @@ static bool drop_steps(struct test *test)
             if (drop_words(test, at, words))
                 any = true;
             else
-                at++;
+                at += words > 8 ? words / 2 : 1;
     return any;
 }
 

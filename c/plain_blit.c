@@ -193,11 +193,9 @@ static uint16_t filled(struct blit *blit, uint16_t word)
     return result;
 }
 
-/* The blit's next word, and all pointers moved on behind it; D's word is stored where its pointer stood. */
-static uint16_t next_word(struct blit *blit, uint16_t *ram, uint32_t column)
+/* The blit's next word: fetched, masked, shifted, combined and filled. */
+static uint16_t next_word(struct blit *blit, const uint16_t *ram, bool first, bool last)
 {
-    bool first = column == 0;
-    bool last = column + 1 == blit->width;
     uint16_t a = fetched(&blit->a, ram);
     uint16_t b = fetched(&blit->b, ram);
     uint16_t c = fetched(&blit->c, ram);
@@ -212,13 +210,29 @@ static uint16_t next_word(struct blit *blit, uint16_t *ram, uint32_t column)
         blit->carry = blit->carry_in;
     if (blit->exclusive || blit->inclusive)
         word = filled(blit, word);
-    if (blit->d.used && ram)
-        ram[blit->d.at] = word;
-    move(&blit->a.channel, last);
-    move(&blit->b.channel, last);
-    move(&blit->c.channel, last);
-    move(&blit->d, last);
     return word;
+}
+
+/* Does the words in their order. They are stored in memory, or listed instead where there is a list.
+ * Gives whether all were zero. */
+static bool do_words(struct blit *blit, uint16_t *ram, struct store *list)
+{
+    uint16_t ones = 0;
+    for (uint32_t row = 0; row < blit->height; row++)
+        for (uint32_t column = 0; column < blit->width; column++) {
+            bool last = column + 1 == blit->width;
+            uint16_t word = next_word(blit, ram, column == 0, last);
+            ones |= word;
+            if (list)
+                *list++ = (struct store){blit->d.at, word};
+            else if (blit->d.used)
+                ram[blit->d.at] = word;
+            move(&blit->a.channel, last);
+            move(&blit->b.channel, last);
+            move(&blit->c.channel, last);
+            move(&blit->d, last);
+        }
+    return ones == 0;
 }
 
 static void keep_pointer(uint16_t *file, int high, const struct channel *channel)
@@ -243,28 +257,15 @@ static void keep(uint16_t *file, const struct blit *blit, bool all_zero)
 uint32_t plain_blit_done(uint16_t *ram, uint16_t *file, uint16_t size)
 {
     struct blit blit = blit_of(file, size);
-    uint16_t ones = 0;
-    for (uint32_t row = 0; row < blit.height; row++)
-        for (uint32_t column = 0; column < blit.width; column++)
-            ones |= next_word(&blit, ram, column);
-    keep(file, &blit, ones == 0);
+    keep(file, &blit, do_words(&blit, ram, NULL));
     return blit.d.used ? blit.height * blit.width : 0;
 }
 
 uint32_t plain_blit_stores(uint16_t *file, uint16_t size, struct store *stores)
 {
     struct blit blit = blit_of(file, size);
-    uint16_t ones = 0;
-    uint32_t count = 0;
-    for (uint32_t row = 0; row < blit.height; row++)
-        for (uint32_t column = 0; column < blit.width; column++) {
-            stores[count].at = blit.d.at;
-            stores[count].word = next_word(&blit, NULL, column);
-            ones |= stores[count].word;
-            count++;
-        }
-    keep(file, &blit, ones == 0);
-    return count;
+    keep(file, &blit, do_words(&blit, NULL, stores));
+    return blit.height * blit.width;
 }
 
 void plain_blit(uint16_t *ram, size_t ram_words, uint16_t *file, size_t file_words, uint16_t size,

@@ -96,31 +96,30 @@ static void blits(blit_call *engine, const struct blit_case *blit, const char *t
     printf("%lu\n", (unsigned long)stored);
 }
 
-/* Words of a job that are put there over and over; flags fill what is left. */
-static void lay(const uint16_t *first, size_t first_words, const uint16_t *again, size_t again_words, size_t words)
+/* A job of some steps over and over; flags fill what is left. */
+static void lay(const uint16_t *steps, size_t step_words, size_t words)
 {
     size_t at = 0;
-    for (; at < first_words && at < words; at++)
-        job[at] = first[at];
-    for (; at + again_words <= words; at += again_words)
-        memcpy(job + at, again, again_words * sizeof *job);
+    for (; at + step_words <= words; at += step_words)
+        memcpy(job + at, steps, step_words * sizeof *job);
     for (; at < words; at++)
         job[at] = 0xC000;
 }
 
-/* kept: a copy of a word, a store and a flag over and over. settled: two words cleared over and over. */
+/* kept: a copy of one word, a store and a flag. settled: the paper's P11, which clears two words. */
 static void make_job(const char *name, size_t words)
 {
     static const uint16_t copy[] = {
         0x0040, 0x09F0, 0x0042, 0x0000, 0x0050, 0x0000, 0x0052, 0x0000, 0x0054, 0x0000, 0x0056, 0x0010, 0x0058, 0x0041,
         0x8000, 0x0020, 0x1234, 0xC001
     };
-    static const uint16_t ready[] = {0x0040, 0x0100, 0x0042, 0x0000, 0x0054, 0x0000, 0x0056, 0x0010, 0x0066, 0x0000};
-    static const uint16_t clear[] = {0x0056, 0x0010, 0x0058, 0x0042};
+    static const uint16_t clear[] = {
+        0x0040, 0x0100, 0x0042, 0x0000, 0x0054, 0x0000, 0x0056, 0x0010, 0x0066, 0x0000, 0x0058, 0x0042
+    };
     if (strcmp(name, "kept") == 0)
-        lay(NULL, 0, copy, sizeof copy / sizeof *copy, words);
+        lay(copy, sizeof copy / sizeof *copy, words);
     else
-        lay(ready, sizeof ready / sizeof *ready, clear, sizeof clear / sizeof *clear, words);
+        lay(clear, sizeof clear / sizeof *clear, words);
 }
 
 static uint32_t fold_once(fold_call *engine, size_t words, uint16_t *folded)

@@ -22,7 +22,7 @@ struct blit {
     uint32_t height, width;
     uint16_t first_mask, last_mask;
     uint32_t shift_a, shift_b;
-    uint32_t function;
+    uint16_t minterm[8];  /* all ones where the logic function has that bit */
     bool descending, inclusive, exclusive;
     uint32_t carry_in, carry;
 };
@@ -96,7 +96,8 @@ static struct blit blit_of(const uint16_t *file, uint16_t size)
     blit.last_mask = file[BLTALWM];
     blit.shift_a = file[BLTCON0] >> 12;
     blit.shift_b = file[BLTCON1] >> 12;
-    blit.function = file[BLTCON0] & 0xFF;
+    for (int setting = 0; setting < 8; setting++)
+        blit.minterm[setting] = file[BLTCON0] >> setting & 1 ? 0xFFFF : 0;
     blit.exclusive = file[BLTCON1] >> 4 & 1;
     blit.inclusive = file[BLTCON1] >> 3 & 1;
     blit.carry_in = file[BLTCON1] >> 2 & 1;
@@ -170,14 +171,12 @@ static uint16_t shifted(struct source *source, uint16_t word, uint32_t n, bool d
     return (earlier << 16 | word) >> n;
 }
 
-/* Bit 4a + 2b + c of the function, for the sixteen bits at once: each minterm selects where its setting stands. */
-static uint16_t logic(uint32_t function, uint16_t a, uint16_t b, uint16_t c)
+/* Bit 4a + 2b + c of the function, for the sixteen bits at once: each minterm holds where its setting stands. */
+static uint16_t logic(const uint16_t *minterm, uint16_t a, uint16_t b, uint16_t c)
 {
-    uint16_t result = 0;
-    for (uint32_t setting = 0; setting < 8; setting++)
-        if (function >> setting & 1)
-            result |= (setting & 4 ? a : ~a) & (setting & 2 ? b : ~b) & (setting & 1 ? c : ~c);
-    return result;
+    return (minterm[0] & ~a & ~b & ~c) | (minterm[1] & ~a & ~b & c) | (minterm[2] & ~a & b & ~c)
+         | (minterm[3] & ~a & b & c) | (minterm[4] & a & ~b & ~c) | (minterm[5] & a & ~b & c)
+         | (minterm[6] & a & b & ~c) | (minterm[7] & a & b & c);
 }
 
 static uint16_t filled(struct blit *blit, uint16_t word)
@@ -205,7 +204,7 @@ static uint16_t next_word(struct blit *blit, const uint16_t *ram, bool first, bo
         a &= blit->last_mask;
     a = shifted(&blit->a, a, blit->shift_a, blit->descending);
     b = shifted(&blit->b, b, blit->shift_b, blit->descending);
-    uint16_t word = logic(blit->function, a, b, c);
+    uint16_t word = logic(blit->minterm, a, b, c);
     if (first)
         blit->carry = blit->carry_in;
     if (blit->exclusive || blit->inclusive)

@@ -1,0 +1,47 @@
+/* A plugin for qemu-user: counts the guest instructions a program executes and says the total on standard error at its
+ * end. The count depends on the program and its input alone, so it is the same on a busy machine and on an idle one.
+ * Debian's package has no header for plugins; what is used of it is declared here. */
+#include <stddef.h>
+#include <stdint.h>
+#include <stdio.h>
+
+typedef uint64_t plugin_id;
+struct qemu_plugin_tb;
+struct qemu_info;
+
+enum inline_operation { ADD_U64 };
+
+extern void qemu_plugin_register_vcpu_tb_trans_cb(plugin_id id,
+                                                  void (*call)(plugin_id id, struct qemu_plugin_tb *block));
+extern size_t qemu_plugin_tb_n_insns(const struct qemu_plugin_tb *block);
+extern void qemu_plugin_register_vcpu_tb_exec_inline(struct qemu_plugin_tb *block, enum inline_operation operation,
+                                                     void *number, uint64_t operand);
+extern void qemu_plugin_register_atexit_cb(plugin_id id, void (*call)(plugin_id id, void *data), void *data);
+
+int qemu_plugin_version = 1;
+
+static uint64_t instructions;
+
+/* Each time a translated block is entered, its instructions are added. */
+static void translated(plugin_id id, struct qemu_plugin_tb *block)
+{
+    (void)id;
+    qemu_plugin_register_vcpu_tb_exec_inline(block, ADD_U64, &instructions, qemu_plugin_tb_n_insns(block));
+}
+
+static void ended(plugin_id id, void *data)
+{
+    (void)id;
+    (void)data;
+    fprintf(stderr, "instructions=%llu\n", (unsigned long long)instructions);
+}
+
+int qemu_plugin_install(plugin_id id, const struct qemu_info *info, int words, char **word)
+{
+    (void)info;
+    (void)words;
+    (void)word;
+    qemu_plugin_register_vcpu_tb_trans_cb(id, translated);
+    qemu_plugin_register_atexit_cb(id, ended, NULL);
+    return 0;
+}

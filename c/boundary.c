@@ -1,0 +1,160 @@
+/* boundary: calls every entry of the archive from C, with valid and with damaged input. Every buffer, and every number
+ * the results are written into, stands between fences that must survive; every result is compared with what is written
+ * out beside the call. */
+#include <stdio.h>
+#include <stdlib.h>
+
+#include "boundary.h"
+#include "desk.h"
+
+enum { FENCE = 16, ROOM = 262145, FENCE_WORD = 0x5AA5, OUT_WORD = 0xEEEE };
+
+/* A run of words between two fences, and the same run as it must be afterwards. */
+struct run {
+    uint16_t lent[FENCE + ROOM + FENCE];
+    uint16_t after[ROOM];
+    size_t words;
+};
+
+/* Three numbers between fences. */
+struct numbers {
+    uint32_t fence0, number, fence1, place, fence2, count, fence3;
+};
+
+static struct run ram, file, job, out;
+static struct numbers numbers;
+static unsigned long checks, failed;
+
+static void check(const char *name, const char *what, int holds)
+{
+    checks++;
+    if (holds)
+        return;
+    failed++;
+    printf("%s: %s\n", name, what);
+}
+
+static void check_number(const char *name, const char *what, uint32_t given, uint32_t wanted)
+{
+    checks++;
+    if (given == wanted)
+        return;
+    failed++;
+    printf("%s: %s is %lu, not %lu\n", name, what, (unsigned long)given, (unsigned long)wanted);
+}
+
+/* Reads words written in hex; gives their count. */
+static size_t read_words(uint16_t *words, const char *text)
+{
+    size_t count = 0;
+    char *end = (char *)text;
+    for (;;) {
+        unsigned long word = strtoul(text, &end, 16);
+        if (end == text)
+            return count;
+        unsigned long times = *end == '*' ? strtoul(end + 1, &end, 10) : 1;
+        for (text = end; times > 0; times--)
+            words[count++] = word;
+    }
+}
+
+/* Lends the words written before; they must be those written after, or the same. */
+static uint16_t *lend(struct run *run, const char *before, const char *after)
+{
+    uint16_t *words = run->lent + FENCE;
+    run->words = read_words(words, before);
+    read_words(run->after, after == SAME ? before : after);
+    for (size_t i = 0; i < FENCE; i++)
+        run->lent[i] = words[run->words + i] = FENCE_WORD;
+    return words;
+}
+
+static void check_run(const char *name, const char *what, const char *fence, const struct run *run)
+{
+    const uint16_t *words = run->lent + FENCE;
+    int same = 1, whole = 1;
+    for (size_t i = 0; i < run->words; i++)
+        same &= words[i] == run->after[i];
+    for (size_t i = 0; i < FENCE; i++)
+        whole &= run->lent[i] == FENCE_WORD && words[run->words + i] == FENCE_WORD;
+    check(name, what, same);
+    check(name, fence, whole);
+}
+
+static void lend_numbers(void)
+{
+    static const struct numbers unwritten = {1, 0xDEAD, 2, 0xDEAD, 3, 0xDEAD, 4};
+    numbers = unwritten;
+}
+
+static void check_fences_of_numbers(const char *name)
+{
+    check(name, "the fence of a number", numbers.fence0 == 1 && numbers.fence1 == 2 && numbers.fence2 == 3 &&
+          numbers.fence3 == 4);
+}
+
+void blit(const char *name, const char *ram_before, const char *file_before, uint16_t size,
+          uint32_t number, uint32_t stored, const char *ram_after, const char *file_after)
+{
+    uint16_t *ram_words = lend(&ram, ram_before, ram_after), *file_words = lend(&file, file_before, file_after);
+    lend_numbers();
+    desk_blit(ram_words, ram.words, file_words, file.words, size, &numbers.number, &numbers.count);
+    check_number(name, "number", numbers.number, number);
+    check_number(name, "stored", numbers.count, stored);
+    check_fences_of_numbers(name);
+    check_run(name, "memory", "the fence of memory", &ram);
+    check_run(name, "file", "the fence of the file", &file);
+}
+
+void run(const char *name, const char *ram_before, const char *file_before, const char *job_before,
+         uint32_t number, uint32_t place, uint32_t stored, const char *ram_after, const char *file_after)
+{
+    uint16_t *ram_words = lend(&ram, ram_before, ram_after), *file_words = lend(&file, file_before, file_after);
+    uint16_t *job_words = lend(&job, job_before, SAME);
+    lend_numbers();
+    desk_run(ram_words, ram.words, file_words, file.words, job_words, job.words,
+             &numbers.number, &numbers.place, &numbers.count);
+    check_number(name, "number", numbers.number, number);
+    check_number(name, "place", numbers.place, place);
+    check_number(name, "stored", numbers.count, stored);
+    check_fences_of_numbers(name);
+    check_run(name, "memory", "the fence of memory", &ram);
+    check_run(name, "file", "the fence of the file", &file);
+    check_run(name, "job", "the fence of the job", &job);
+}
+
+/* The output: EEEE throughout, and afterwards the folded job with EEEE beyond it. */
+static uint16_t *lend_out(size_t words, const char *folded)
+{
+    uint16_t *lent = lend(&out, "", SAME);
+    out.words = words;
+    for (size_t i = 0; i < words; i++)
+        lent[i] = out.after[i] = OUT_WORD;
+    for (size_t i = 0; i < FENCE; i++)
+        lent[words + i] = FENCE_WORD;
+    read_words(out.after, folded);
+    return lent;
+}
+
+void fold(const char *name, size_t ram_words, const char *job_before, size_t out_words,
+          uint32_t number, uint32_t place, uint32_t length, const char *folded)
+{
+    uint16_t *job_words = lend(&job, job_before, SAME), *lent = lend_out(out_words, folded);
+    lend_numbers();
+    desk_fold(ram_words, job_words, job.words, lent, out.words, &numbers.number, &numbers.place, &numbers.count);
+    check_number(name, "number", numbers.number, number);
+    check_number(name, "place", numbers.place, place);
+    check_number(name, "length", numbers.count, length);
+    check_fences_of_numbers(name);
+    check_run(name, "job", "the fence of the job", &job);
+    check_run(name, "output", "the fence of the output", &out);
+}
+
+int main(void)
+{
+    blits();
+    runs();
+    foldings();
+    printf("boundary: %lu checks, %lu failed\n", checks, failed);
+    return failed != 0;
+}

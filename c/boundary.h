@@ -1,0 +1,23 @@
+/* What the parts of the boundary test share. Runs of words are written in hex; 0000*16 is sixteen words of 0000. */
+#ifndef BOUNDARY_H
+#define BOUNDARY_H
+
+#include <stddef.h>
+#include <stdint.h>
+
+#define SAME NULL  /* as it was before the call */
+
+/* A call with what goes in, then what must come out: the numbers, and memory and file or the folded job.
+ * The output of a folding holds EEEE before it, and must hold EEEE wherever no folded job stands. */
+void blit(const char *name, const char *ram, const char *file, uint16_t size,
+          uint32_t number, uint32_t stored, const char *ram_after, const char *file_after);
+void run(const char *name, const char *ram, const char *file, const char *job,
+         uint32_t number, uint32_t place, uint32_t stored, const char *ram_after, const char *file_after);
+void fold(const char *name, size_t ram_words, const char *job, size_t out_words,
+          uint32_t number, uint32_t place, uint32_t length, const char *folded);
+
+void blits(void);
+void runs(void);
+void foldings(void);
+
+#endif

@@ -1,0 +1,192 @@
+/* differ [CASES [SEED]]: does random cases with the archive and with the plain engine and compares all that comes out.
+ * Case i has the seed SEED + i, so `differ 1 S` does the case of seed S again. On the first difference the case is
+ * shrunk and printed, and the program ends with 1. */
+#include <inttypes.h>
+#include <stdio.h>
+#include <stdlib.h>
+#include <string.h>
+
+#include "desk.h"
+#include "differ.h"
+#include "plain.h"
+
+enum { FENCE = 8, FENCE_WORD = 0xA55A, NUMBERS = 14 };
+
+/* One side's buffers, a fence on either side of each, and its answer. */
+struct side {
+    uint16_t ram[FENCE + RAM_ROOM + FENCE];
+    uint16_t file[FENCE + FILE_ROOM + FENCE];
+    uint16_t out[FENCE + OUT_ROOM + FENCE];
+    size_t ram_words;
+    uint32_t number, place, count;  /* count: words stored, or the folded length */
+};
+
+static struct side desk, plain;
+
+/* How often each outcome came: by the call and its number. */
+static uint64_t outcomes[3][NUMBERS], changed, pairs, pairs_refused;
+
+static void fence(uint16_t *words, size_t length)
+{
+    for (size_t i = 0; i < FENCE; i++)
+        words[i] = words[FENCE + length + i] = FENCE_WORD;
+}
+
+static void set_up(struct side *side, const struct test *test)
+{
+    side->ram_words = test->ram_words <= RAM_ROOM ? test->ram_words : 0;
+    fence(side->ram, side->ram_words);
+    fence(side->file, FILE_ROOM);
+    fill_ram(side->ram + FENCE, side->ram_words, test->ram_seed);
+    memcpy(side->file + FENCE, test->file, sizeof test->file);
+    side->number = side->count = 0xDEAD;
+    side->place = test->call == BLIT ? 0 : 0xDEAD;
+}
+
+static void set_up_out(struct side *side, size_t out_words)
+{
+    for (size_t i = 0; i < FENCE + out_words + FENCE; i++)
+        side->out[i] = FENCE_WORD + i;
+}
+
+static const char *compare(void)
+{
+    if (desk.number != plain.number)
+        return "number";
+    if (desk.count != plain.count)
+        return "count";
+    if (memcmp(desk.ram, plain.ram, (FENCE + desk.ram_words + FENCE) * sizeof *desk.ram) != 0)
+        return "memory";
+    if (memcmp(desk.file, plain.file, sizeof desk.file) != 0)
+        return "register file";
+    return NULL;
+}
+
+static const char *difference_of_blits(const struct test *test)
+{
+    set_up(&desk, test);
+    set_up(&plain, test);
+    desk_blit(desk.ram + FENCE, test->ram_words, desk.file + FENCE, test->file_words, test->size,
+              &desk.number, &desk.count);
+    plain_blit(plain.ram + FENCE, test->ram_words, plain.file + FENCE, test->file_words, test->size,
+               &plain.number, &plain.count);
+    outcomes[BLIT][plain.number]++;
+    return compare();
+}
+
+static const char *difference_of_runs(const struct test *test)
+{
+    set_up(&desk, test);
+    set_up(&plain, test);
+    desk_run(desk.ram + FENCE, test->ram_words, desk.file + FENCE, test->file_words, test->job, test->job_words,
+             &desk.number, &desk.place, &desk.count);
+    plain_run(plain.ram + FENCE, test->ram_words, plain.file + FENCE, test->file_words, test->job, test->job_words,
+              &plain.number, &plain.place, &plain.count);
+    outcomes[RUN][plain.number]++;
+    if (desk.number == plain.number && desk.place != plain.place)
+        return "place";
+    return compare();
+}
+
+/* The length of output that leaves the wanted number of words spare. */
+static size_t out_words_of(const struct test *test)
+{
+    uint32_t number, place, length;
+    plain_fold(test->ram_words, test->job, test->job_words, plain.out + FENCE, OUT_ROOM, &number, &place, &length);
+    if (number == 11)
+        return OUT_ROOM + test->spare - 40;
+    return test->spare < 0 && length == 0 ? 0 : length + test->spare;
+}
+
+/* Demand 3, by the archive alone: on one memory and one file the folded job and its original end alike. */
+static const char *difference_of_pair(const struct test *test, const uint16_t *folded, size_t folded_words)
+{
+    set_up(&desk, test);
+    set_up(&plain, test);
+    desk_run(desk.ram + FENCE, test->ram_words, desk.file + FENCE, test->file_words, test->job, test->job_words,
+             &desk.number, &desk.place, &desk.count);
+    desk_run(plain.ram + FENCE, test->ram_words, plain.file + FENCE, test->file_words, folded, folded_words,
+             &plain.number, &plain.place, &plain.count);
+    pairs++;
+    pairs_refused += desk.number != 0;
+    return compare() == NULL ? NULL : "end of the folded job, both run by the archive";
+}
+
+static const char *difference_of_foldings(const struct test *test)
+{
+    size_t out_words = out_words_of(test);
+    set_up_out(&desk, out_words);
+    set_up_out(&plain, out_words);
+    desk_fold(test->ram_words, test->job, test->job_words, desk.out + FENCE, out_words,
+              &desk.number, &desk.place, &desk.count);
+    plain_fold(test->ram_words, test->job, test->job_words, plain.out + FENCE, out_words,
+               &plain.number, &plain.place, &plain.count);
+    outcomes[FOLD][plain.number]++;
+    if (desk.number != plain.number)
+        return "number";
+    if (desk.place != plain.place)
+        return "place";
+    if (desk.count != plain.count)
+        return "length";
+    if (memcmp(desk.out, plain.out, (FENCE + out_words + FENCE) * sizeof *desk.out) != 0)
+        return "output";
+    if (plain.number != 0)
+        return NULL;
+    changed += desk.count != test->job_words || memcmp(desk.out + FENCE, test->job, desk.count * sizeof *desk.out) != 0;
+    return difference_of_pair(test, desk.out + FENCE, desk.count);
+}
+
+const char *difference(const struct test *test)
+{
+    switch (test->call) {
+    case BLIT: return difference_of_blits(test);
+    case RUN: return difference_of_runs(test);
+    default: return difference_of_foldings(test);
+    }
+}
+
+static void print_outcomes(void)
+{
+    static const char *const names[] = {"blits", "runs", "foldings"};
+    for (int call = 0; call < 3; call++) {
+        printf("%s by number:", names[call]);
+        for (int number = 0; number < NUMBERS; number++)
+            if (outcomes[call][number] != 0)
+                printf(" %d: %" PRIu64, number, outcomes[call][number]);
+        printf(call < 2 ? "; " : "\n");
+    }
+    printf("foldings unlike their job: %" PRIu64 "; pairs of runs compared: %" PRIu64 ", refused alike: %" PRIu64 "\n",
+           changed, pairs, pairs_refused);
+}
+
+static void print_answer(const char *name, const struct side *side)
+{
+    printf("%s: number %" PRIu32 ", place %" PRIu32 ", count %" PRIu32 "\n",
+           name, side->number, side->place, side->count);
+}
+
+static int report(struct test *test, uint64_t seed)
+{
+    printf("the case of seed %" PRIu64 " differs: %s\n", seed, difference(test));
+    shrink(test);
+    printf("shrunk, it differs: %s\n", difference(test));
+    print_test(test);
+    print_answer("archive", &desk);
+    print_answer("plain", &plain);
+    return 1;
+}
+
+int main(int words, char **word)
+{
+    static struct test test;
+    uint64_t cases = words > 1 ? strtoull(word[1], NULL, 10) : 200000;
+    uint64_t seed = words > 2 ? strtoull(word[2], NULL, 10) : 1985;
+    for (uint64_t i = 0; i < cases; i++) {
+        make_test(&test, seed + i);
+        if (difference(&test) != NULL)
+            return report(&test, seed + i);
+    }
+    print_outcomes();
+    printf("differ: %" PRIu64 " cases, 0 differences\n", cases);
+    return 0;
+}

@@ -1,0 +1,65 @@
+/* What the parts of the differential test share. */
+#ifndef DIFFER_H
+#define DIFFER_H
+
+#include <stdbool.h>
+#include <stddef.h>
+#include <stdint.h>
+
+enum {
+    RAM_ROOM = 262145,
+    FILE_ROOM = 24,
+    JOB_ROOM = 4097,
+    OUT_ROOM = 40000
+};
+
+enum { POINTERS = 262144, REGISTERS = 19, FILE_WORDS = 20, USE_D = 0x0100 };
+
+enum call { BLIT, RUN, FOLD };
+
+/* One case: everything a call is given. */
+struct test {
+    enum call call;
+    size_t ram_words;
+    uint64_t ram_seed;          /* what memory holds, by fill_ram */
+    uint16_t file[FILE_ROOM];   /* for a folding: the file of the two runs that are compared */
+    size_t file_words;
+    uint16_t size;              /* of a blit called alone */
+    uint16_t job[JOB_ROOM];
+    size_t job_words;
+    int spare;                  /* of a folding: words of output beyond those it needs, or missing if negative */
+};
+
+/* A blit: its register file and size. */
+struct plan {
+    uint16_t file[FILE_WORDS];
+    uint16_t size;
+    uint32_t height, width;
+};
+
+/* Random numbers: begun from a seed; 64 bits; below an end; true once in so many; a word, often of few or all ones. */
+void start_random(uint64_t seed);
+uint64_t random64(void);
+uint32_t below(uint32_t end);
+bool one_in(uint32_t chances);
+uint16_t random_word(void);
+
+uint32_t at_most(uint32_t value, uint32_t most);
+
+/* A blit for memory of n words: one that could be settled, or any; at risk of leaving memory or of refusal, or not. */
+void make_plan(struct plan *plan, uint32_t n, bool settled, bool risk);
+
+/* The case that belongs to a seed. */
+void make_test(struct test *test, uint64_t seed);
+
+/* Memory by its seed: word i is i modulo 1,024 for seed 0, otherwise random words, words of few ones, or zeros. */
+void fill_ram(uint16_t *ram, size_t words, uint64_t seed);
+
+/* Does the case on both sides: NULL if they agree, otherwise what differs. */
+const char *difference(const struct test *test);
+
+/* Takes away from a case whatever the difference doesn't need, and prints what is left. */
+void shrink(struct test *test);
+void print_test(const struct test *test);
+
+#endif

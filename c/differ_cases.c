@@ -1,0 +1,190 @@
+/* The cases of the differential test: blits, jobs and foldings, lawful, near the edge and damaged. */
+#include <string.h>
+
+#include "differ.h"
+
+/* By a register's place in the file: its offset in a job, and the bits it keeps. */
+static const uint16_t offsets[REGISTERS] = {
+    0x040, 0x042, 0x044, 0x046, 0x048, 0x04A, 0x04C, 0x04E, 0x050, 0x052,
+    0x054, 0x056, 0x060, 0x062, 0x064, 0x066, 0x070, 0x072, 0x074
+};
+static const uint16_t kept[FILE_WORDS] = {
+    0xFFFF, 0xFFFF, 0xFFFF, 0xFFFF, 0x0007, 0xFFFE, 0x0007, 0xFFFE, 0x0007, 0xFFFE,
+    0x0007, 0xFFFE, 0xFFFE, 0xFFFE, 0xFFFE, 0xFFFE, 0xFFFF, 0xFFFF, 0xFFFF, 0x0001
+};
+
+/* How far a case goes astray. */
+enum care { LAWFUL, RISKY, DAMAGED };
+
+static void put(struct test *test, uint16_t value)
+{
+    if (test->job_words < JOB_ROOM)
+        test->job[test->job_words++] = value;
+}
+
+/* A register write; bits that aren't kept are set now and then. */
+static void put_write(struct test *test, uint32_t i, uint16_t value)
+{
+    put(test, offsets[i]);
+    put(test, one_in(8) ? value | (random64() & (uint16_t)~kept[i]) : value);
+}
+
+/* All of a blit's registers, in any order, one or the other of them left out now and then, and its size. */
+static void put_blit(struct test *test, const struct plan *plan, bool risk)
+{
+    uint32_t first = below(REGISTERS), stride = 1 + below(REGISTERS - 1);
+    uint32_t left_out = risk || one_in(6) ? below(REGISTERS) : REGISTERS;
+    for (uint32_t i = 0; i < REGISTERS; i++) {
+        uint32_t which = (first + i * stride) % REGISTERS;
+        if (which != left_out)
+            put_write(test, which, plan->file[which]);
+    }
+    put(test, 0x058);
+    put(test, plan->size);
+}
+
+/* The blit before once more: as pointers stand, or with some or all of them written again. */
+static void put_again(struct test *test, const struct plan *plan)
+{
+    uint32_t which = below(4);
+    for (uint32_t i = 4; i < 12; i++)
+        if (which > 1 || (which == 1 && one_in(2)))
+            put_write(test, i, plan->file[i]);
+    if (which == 3)
+        put_write(test, 0, (plan->file[0] & 0xF000) | USE_D | below(256));
+    put(test, 0x058);
+    put(test, which == 0 && one_in(2) ? 0x0041 : plan->size);
+}
+
+static void put_store(struct test *test, uint32_t n, bool risk)
+{
+    uint32_t at = risk && one_in(6) ? n + below(2) : below(n);
+    uint32_t address = at % POINTERS * 2;
+    put(test, 0x8000 | address >> 16);
+    put(test, (address & 0xFFFF) | (risk && one_in(8)));
+    put(test, random_word());
+}
+
+static void put_steps(struct test *test, uint32_t n, size_t words, enum care care)
+{
+    struct plan plan;
+    bool settled = one_in(2);
+    make_plan(&plan, n, settled, false);
+    while (test->job_words < words) {
+        bool risk = care != LAWFUL && one_in(5);
+        uint32_t chance = below(20);
+        if (chance < 7) {
+            make_plan(&plan, n, one_in(4) ? !settled : settled, risk);
+            put_blit(test, &plan, risk);
+        } else if (chance < 11)
+            put_again(test, &plan);
+        else if (chance < 14)
+            put_store(test, n, risk);
+        else if (chance < 17)
+            put(test, 0xC000 | below(2));
+        else if (chance < 19)
+            put_write(test, risk ? below(REGISTERS) : 2 + below(2), random_word());
+        else if (risk)
+            put(test, 0x058), put(test, random64());
+    }
+}
+
+/* One word wrong: a word that begins no step, any word at any place, one gone, a cut end, an odd or a far store. */
+static void damage(struct test *test, uint32_t n)
+{
+    static const uint16_t no_step[] = {
+        0x0000, 0x003E, 0x0041, 0x0059, 0x005A, 0x005E, 0x0068, 0x006E, 0x0076, 0x0140, 0x1040, 0x8008, 0x9000,
+        0xC002, 0xE000, 0xFFFF
+    };
+    if (test->job_words == 0)
+        return;
+    uint32_t at = below(test->job_words);
+    switch (below(6)) {
+    case 0: put(test, no_step[below(16)]); break;
+    case 1: test->job[at] = one_in(2) ? no_step[below(16)] : random64(); break;
+    case 2:
+        test->job_words--;
+        memmove(test->job + at, test->job + at + 1, (test->job_words - at) * sizeof *test->job);
+        break;
+    case 3: test->job_words -= at_most(test->job_words, 1 + below(2)); break;
+    case 4: put(test, 0x8000 | below(8)); put(test, random64() | 1); put(test, random_word()); break;
+    default: put_store(test, n, true); break;
+    }
+    while (one_in(2))
+        put(test, 0xC000 | below(2));
+}
+
+static void make_job(struct test *test, uint32_t n, enum care care)
+{
+    uint32_t chance = below(300);
+    size_t words = chance == 0 ? 4000 : chance < 6 ? 600 : chance < 16 ? below(12) : 30 + below(130);
+    put_steps(test, n, words, care);
+    if (care == DAMAGED)
+        damage(test, n);
+    if (chance == 0) {
+        size_t length = 4095 + below(3);
+        test->job_words = at_most(test->job_words, length);
+        while (test->job_words < length)
+            put(test, 0xC000 | below(2));
+    }
+}
+
+/* A register file: all zero, any that is accepted, or one that fits the memory. */
+static void make_file(struct test *test, uint32_t n, bool risk)
+{
+    struct plan plan;
+    uint32_t chance = test->call == BLIT ? 2 : below(3);
+    make_plan(&plan, n, false, risk);
+    for (size_t i = 0; i < FILE_WORDS; i++)
+        test->file[i] = chance == 0 ? 0 : chance == 1 ? random64() & kept[i] : plan.file[i];
+    test->size = plan.size;
+}
+
+/* A file of the wrong length, or with a bit that isn't kept. */
+static void damage_file(struct test *test)
+{
+    static const size_t lengths[] = {0, 1, 19, 21, 24};
+    if (one_in(2))
+        test->file_words = lengths[below(5)];
+    else
+        test->file[4 + below(16)] ^= 1u << below(16);
+}
+
+static size_t pick_ram_words(void)
+{
+    uint32_t chance = below(400);
+    if (chance < 240)
+        return 4 + below(40);
+    if (chance < 300)
+        return 1 + below(8);
+    if (chance < 360)
+        return 40 + below(260);
+    if (chance < 388)
+        return 300 + below(2000);
+    if (chance < 395)
+        return POINTERS;
+    if (chance < 397)
+        return POINTERS - below(20);
+    return chance == 397 ? 0 : chance == 398 ? POINTERS + 1 : 30000 + below(200000);
+}
+
+void make_test(struct test *test, uint64_t seed)
+{
+    start_random(seed);
+    memset(test, 0, sizeof *test);
+    uint32_t chance = below(100);
+    enum care care = chance < 55 ? LAWFUL : chance < 80 ? RISKY : DAMAGED;
+    test->call = one_in(5) ? BLIT : one_in(2) ? RUN : FOLD;
+    test->ram_words = pick_ram_words();
+    test->ram_seed = random64();
+    test->file_words = FILE_WORDS;
+    uint32_t n = test->ram_words == 0 ? 1 : at_most(test->ram_words, POINTERS);
+    make_file(test, n, care != LAWFUL && one_in(2));
+    if (test->call != BLIT && !one_in(200))
+        make_job(test, n, care);
+    if (test->call != FOLD && care == DAMAGED && one_in(5))
+        damage_file(test);
+    if (test->call == FOLD && one_in(500))
+        test->ram_words = SIZE_MAX - below(2);
+    test->spare = one_in(4) ? -1 : one_in(2) ? 0 : 1 + (int)below(40);
+}

@@ -1,0 +1,118 @@
+/* Shrinks a case that differs: what can go without the difference going too is taken away. */
+#include <inttypes.h>
+#include <stdio.h>
+#include <string.h>
+
+#include "differ.h"
+
+static struct test smaller;
+static unsigned tries_left = 10000;
+
+/* Takes the smaller case if it differs still. */
+static bool taken(struct test *test)
+{
+    if (tries_left == 0)
+        return false;
+    tries_left--;
+    if (difference(&smaller) == NULL)
+        return false;
+    *test = smaller;
+    return true;
+}
+
+static bool drop_words(struct test *test, size_t at, size_t words)
+{
+    smaller = *test;
+    smaller.job_words -= words;
+    memmove(smaller.job + at, smaller.job + at + words, (smaller.job_words - at) * sizeof *smaller.job);
+    return taken(test);
+}
+
+static bool drop_steps(struct test *test)
+{
+    bool any = false;
+    for (size_t words = test->job_words; words > 0; words = words > 8 ? words / 2 : words - 1)
+        for (size_t at = 0; at + words <= test->job_words;)
+            if (drop_words(test, at, words))
+                any = true;
+            else
+                at += words > 8 ? words / 2 : 1;
+    return any;
+}
+
+static bool clear_words(struct test *test)
+{
+    bool any = false;
+    for (size_t i = 0; i < test->job_words; i++)
+        if (test->job[i] != 0) {
+            smaller = *test;
+            smaller.job[i] = 0;
+            any |= taken(test);
+        }
+    for (size_t i = 0; i < FILE_ROOM; i++)
+        if (test->file[i] != 0) {
+            smaller = *test;
+            smaller.file[i] = 0;
+            any |= taken(test);
+        }
+    return any;
+}
+
+static bool lessen(struct test *test)
+{
+    bool any = false;
+    if (test->ram_seed != 0) {
+        smaller = *test;
+        smaller.ram_seed = 0;
+        any |= taken(test);
+    }
+    for (size_t words = test->ram_words / 2; words > 0; words /= 2)
+        if (words < test->ram_words) {
+            smaller = *test;
+            smaller.ram_words -= words;
+            any |= taken(test);
+        }
+    static const uint16_t sizes[] = {0x0041, 0x0042, 0x0081, 0x0082};
+    for (size_t i = 0; i < 4 && test->call == BLIT; i++)
+        if (test->size > sizes[i] || test->size == 0) {
+            smaller = *test;
+            smaller.size = sizes[i];
+            any |= taken(test);
+        }
+    return any;
+}
+
+void shrink(struct test *test)
+{
+    bool any = true;
+    for (int rounds = 0; any && rounds < 10; rounds++) {
+        any = drop_steps(test);
+        any |= clear_words(test);
+        any |= lessen(test);
+    }
+}
+
+static void print_words(const char *name, const uint16_t *words, size_t length)
+{
+    printf("%s:", name);
+    for (size_t i = 0; i < length; i++)
+        printf(" %04X", words[i]);
+    printf("\n");
+}
+
+void print_test(const struct test *test)
+{
+    static const char *const calls[] = {"blit", "run", "fold"};
+    printf("%s, %zu words of memory, ", calls[test->call], test->ram_words);
+    if (test->ram_seed == 0)
+        printf("word i is i modulo 1,024\n");
+    else
+        printf("filled from %" PRIu64 "\n", test->ram_seed);
+    print_words("file", test->file, test->file_words < FILE_ROOM ? test->file_words : FILE_ROOM);
+    if (test->call == BLIT)
+        printf("size: %04X\n", test->size);
+    else
+        print_words("job", test->job, test->job_words);
+    if (test->call == FOLD)
+        printf("words of output spare: %d\n", test->spare);
+}

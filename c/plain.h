@@ -1,0 +1,20 @@
+/* A second Blitter, in plain C, written from paper 01 alone: one area blit, a job run, a job folded.
+ * Nothing of it is proved. It is what the archive is compared with, call by call, and what its cost is set beside.
+ * Parameters, numbers and what a refusal leaves are those of the entries of the same name in desk.h. */
+#ifndef PLAIN_H
+#define PLAIN_H
+
+#include <stddef.h>
+#include <stdint.h>
+
+void plain_blit(uint16_t *ram, size_t ram_words, uint16_t *file, size_t file_words, uint16_t size,
+                uint32_t *number, uint32_t *stored);
+
+void plain_run(uint16_t *ram, size_t ram_words, uint16_t *file, size_t file_words,
+               const uint16_t *job, size_t job_words,
+               uint32_t *number, uint32_t *place, uint32_t *stored);
+
+void plain_fold(size_t ram_words, const uint16_t *job, size_t job_words, uint16_t *out, size_t out_words,
+                uint32_t *number, uint32_t *place, uint32_t *length);
+
+#endif

@@ -1,0 +1,64 @@
+/* What the parts of the plain engine share: the registers, the blit's inner calls and the reader of jobs. */
+#ifndef PLAIN_PARTS_H
+#define PLAIN_PARTS_H
+
+#include <stdbool.h>
+#include <stddef.h>
+#include <stdint.h>
+
+enum {
+    POINTERS = 262144,  /* pointers go round here, and no memory is longer */
+    FILE_WORDS = 20,
+    JOB_WORDS = 4096,
+    SETTLED_WORDS = 64  /* no settled blit has more */
+};
+
+/* The register file, in its order. */
+enum {
+    BLTCON0, BLTCON1, BLTAFWM, BLTALWM,
+    BLTCPTH, BLTCPTL, BLTBPTH, BLTBPTL, BLTAPTH, BLTAPTL, BLTDPTH, BLTDPTL,
+    BLTCMOD, BLTBMOD, BLTAMOD, BLTDMOD,
+    BLTCDAT, BLTBDAT, BLTADAT,
+    ZERO_FLAG
+};
+
+/* Bits 11 to 8 of BLTCON0. */
+enum { USE_A = 0x800, USE_B = 0x400, USE_C = 0x200, USE_D = 0x100, USES = 0xF00 };
+
+struct store {
+    uint32_t at;  /* a word number */
+    uint16_t word;
+};
+
+/* The bits a register keeps, by its place in the file. */
+extern const uint16_t plain_kept[FILE_WORDS];
+
+bool plain_memory_lawful(size_t ram_words);
+bool plain_file_lawful(const uint16_t *file, size_t file_words);
+
+uint32_t plain_height(uint16_t size);
+uint32_t plain_width(uint16_t size);
+
+/* The first of 13, 7, 8, 9 and 10 that refuses the blit, or 0. */
+uint32_t plain_blit_refusal(const uint16_t *file, size_t ram_words, uint16_t size);
+
+/* Does a blit that nothing refuses; gives the count of words stored. */
+uint32_t plain_blit_done(uint16_t *ram, uint16_t *file, uint16_t size);
+
+/* What a blit of at most 64 words that uses D alone would store, in its order; file is left as after the blit.
+ * Gives the count of stores. */
+uint32_t plain_blit_stores(uint16_t *file, uint16_t size, struct store *stores);
+
+enum step_kind { REGISTER_WRITE, BLIT_START, STORE, FLAG };
+
+struct step {
+    enum step_kind kind;
+    uint32_t words;  /* of the job */
+    uint32_t target; /* a register's place in the file, or a store's word number */
+    uint16_t value;
+};
+
+/* Reads the step at place, which lies inside the job: 0, or 4, 5 or 6 and no step. */
+uint32_t plain_step(const uint16_t *job, size_t job_words, size_t place, struct step *step);
+
+#endif

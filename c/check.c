@@ -38,8 +38,8 @@ static void compare_ram(struct check *check, const struct jobfile *jobfile, cons
         if (ram[at] == said)
             continue;
         begin_difference(check);
-        printf("  byte %05lX is %04X, the file %s %04X\n", (unsigned long)at * 2, (unsigned)ram[at],
-               leaves->ram_said[at] ? "says" : "leaves it", (unsigned)said);
+        printf("  byte %05lX is %04X, %s %04X\n", (unsigned long)at * 2, (unsigned)ram[at],
+               leaves->ram_said[at] ? "the file says" : "and was to stay", (unsigned)said);
     }
 }
 

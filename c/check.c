@@ -1,0 +1,142 @@
+#include "check.h"
+
+#include <stdio.h>
+#include <stdlib.h>
+#include <string.h>
+
+#include "desk.h"
+#include "jobfile.h"
+
+/* The comparison of one file; its name is printed before the first difference. */
+struct check {
+    const char *name;
+    unsigned long differences;
+};
+
+static void begin_difference(struct check *check)
+{
+    if (check->differences++ == 0)
+        printf("%s: not as it says\n", check->name);
+}
+
+static void compare_number(struct check *check, const char *what, uint32_t left, uint32_t said)
+{
+    if (left == said)
+        return;
+    begin_difference(check);
+    printf("  %s is %lu, the file says %lu\n", what, (unsigned long)left, (unsigned long)said);
+}
+
+/* A word of which the file says nothing must be as it was. */
+static void compare_ram(struct check *check, const struct jobfile *jobfile, const uint16_t *ram)
+{
+    const struct leaves *leaves = &jobfile->leaves;
+
+    for (size_t at = 0; at < jobfile->ram_words; at++) {
+        uint16_t said = leaves->ram_said[at] ? leaves->ram[at] : jobfile->ram[at];
+
+        if (ram[at] == said)
+            continue;
+        begin_difference(check);
+        printf("  byte %05lX is %04X, %s %04X\n", (unsigned long)at * 2, (unsigned)ram[at],
+               leaves->ram_said[at] ? "the file says" : "and was to stay", (unsigned)said);
+    }
+}
+
+/* A register of which the file says nothing isn't compared. */
+static void compare_file(struct check *check, const struct leaves *leaves, const uint16_t *file)
+{
+    for (size_t reg = 0; reg < FILE_WORDS; reg++) {
+        if (!leaves->file_said[reg] || file[reg] == leaves->file[reg])
+            continue;
+        begin_difference(check);
+        printf("  %s is %04X, the file says %04X\n", register_name(reg), (unsigned)file[reg],
+               (unsigned)leaves->file[reg]);
+    }
+}
+
+/* The name of a file that stands beside another. */
+static char *beside(const char *name, const char *other)
+{
+    const char *slash = strrchr(name, '/');
+    size_t folder = slash == NULL || other[0] == '/' ? 0 : (size_t)(slash - name) + 1;
+    char *path = malloc(folder + strlen(other) + 1);
+
+    if (path != NULL) {
+        memcpy(path, name, folder);
+        strcpy(path + folder, other);
+    }
+    return path;
+}
+
+static void compare_folding(struct check *check, const struct jobfile *jobfile, const struct jobfile *other)
+{
+    const struct leaves *leaves = &jobfile->leaves;
+    uint16_t folded[JOB_LIMIT] = {0};
+    uint32_t number, place, length;
+    size_t same = 0;
+
+    desk_fold(leaves->folds_ram, jobfile->job, jobfile->job_words, folded, JOB_LIMIT, &number, &place, &length);
+    compare_number(check, "the folding's number", number, 0);
+    compare_number(check, "the folded job's length", length, (uint32_t)other->job_words);
+    while (same < length && same < other->job_words && folded[same] == other->job[same])
+        same++;
+    if (same < length && same < other->job_words) {
+        begin_difference(check);
+        printf("  word %lu of the folded job is %04X, %s says %04X\n", (unsigned long)same, (unsigned)folded[same],
+               leaves->folds_name, (unsigned)other->job[same]);
+    }
+}
+
+/* Compares the folding with the job of the file it names; false if that file can't be read. */
+static bool check_folding(struct check *check, const struct jobfile *jobfile)
+{
+    char *path = beside(check->name, jobfile->leaves.folds_name);
+    struct jobfile *other = path == NULL ? NULL : jobfile_read(path);
+
+    if (path == NULL)
+        perror(check->name);
+    if (other != NULL)
+        compare_folding(check, jobfile, other);
+    free(path);
+    free(other);
+    return other != NULL;
+}
+
+static void check_run(struct check *check, const struct jobfile *jobfile)
+{
+    static uint16_t ram[RAM_ROOM];
+    const struct leaves *leaves = &jobfile->leaves;
+    uint16_t file[FILE_WORDS];
+    uint32_t number, place, count;
+
+    memcpy(ram, jobfile->ram, sizeof ram);
+    memcpy(file, jobfile->file, sizeof file);
+    desk_run(ram, jobfile->ram_words, file, FILE_WORDS, jobfile->job, jobfile->job_words, &number, &place, &count);
+    compare_number(check, "number", number, leaves->number);
+    compare_number(check, "place", place, leaves->place);
+    if (leaves->count_said)
+        compare_number(check, "count", count, leaves->count);
+    compare_ram(check, jobfile, ram);
+    compare_file(check, leaves, file);
+}
+
+bool check_file(const char *name)
+{
+    struct jobfile *jobfile = jobfile_read(name);
+    struct check check = {name, 0};
+    bool good = jobfile != NULL;
+
+    if (good && !jobfile->leaves.said) {
+        fprintf(stderr, "%s: it says nothing of what it leaves\n", name);
+        good = false;
+    }
+    if (good)
+        check_run(&check, jobfile);
+    if (good && jobfile->leaves.folds_said)
+        good = check_folding(&check, jobfile);
+    free(jobfile);
+    if (good && check.differences == 0)
+        printf("%s: as it says\n", name);
+    return good && check.differences == 0;
+}

@@ -1,0 +1,10 @@
+/* Comparing what a job leaves with what its file says that it leaves. */
+#ifndef CHECK_H
+#define CHECK_H
+
+#include <stdbool.h>
+
+/* Runs the job of a file, prints 'NAME: as it says' or the differences, and answers whether there are none. */
+bool check_file(const char *name);
+
+#endif

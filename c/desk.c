@@ -1,0 +1,159 @@
+/* The desk tool: lists, runs, folds and checks job files. */
+#include "desk.h"
+
+#include <stdio.h>
+#include <stdlib.h>
+#include <string.h>
+
+#include "check.h"
+#include "jobfile.h"
+#include "listing.h"
+
+enum { DONE = 0, ERROR = 1, REFUSED = 2 };
+
+static const char usage[] =
+    "desk list FILE      the job's steps, one a line: word index, first word, name, value, sense. A word that begins\n"
+    "                    no step, a step cut off and a store to an odd address are shown with their number and end\n"
+    "                    the listing\n"
+    "desk run FILE       runs the job: number, place, count, zero flag, and what it changed\n"
+    "desk fold N FILE    folds the job for memory of N words (decimal): number, place, both lengths, and the job\n"
+    "                    and its folding side by side\n"
+    "desk check FILE..   runs each job and compares what it leaves with what its file says\n"
+    "\n"
+    "Exit status: 0 done; 1 an error, told on standard error with file and line, or a check that differs;\n"
+    "2 a run or a folding that was refused. A list of a readable file ends with 0.\n"
+    "\n"
+    "A job file holds words of four hex digits, separated by blanks; ';' begins a comment. Lines of their own:\n"
+    "  ram N                    memory of N words (decimal; 32768 if not said), all zero at the start but for\n"
+    "  at ADDRESS WORD..        these, from a byte address on (hex)\n"
+    "  register NAME VALUE      a register at the start: BLTCON0 and so on, or zero; zero if not said\n"
+    "  leaves at ADDRESS WORD.. memory afterwards; every other word must be as it was\n"
+    "  leaves NAME VALUE        a register afterwards: BLTDPTL 0014, zero 1\n"
+    "  leaves count N           words stored\n"
+    "  leaves number N          the answer, 0 if not said\n"
+    "  leaves place N           the place of a refused step, 0 if not said\n"
+    "  folds N FILE             folded for N words it is the job of this file, named from this one's folder\n";
+
+static void print_answer(uint32_t number, uint32_t place)
+{
+    printf("number %lu: %s\n", (unsigned long)number, number_meaning(number));
+    printf("place %lu\n", (unsigned long)place);
+}
+
+static int list_command(const char *name)
+{
+    struct jobfile *jobfile = jobfile_read(name);
+
+    if (jobfile == NULL)
+        return ERROR;
+    print_listing(jobfile->job, jobfile->job_words);
+    if (jobfile->job_words > JOB_LIMIT)
+        printf("%lu words: run and fold refuse it (3)\n", (unsigned long)jobfile->job_words);
+    free(jobfile);
+    return DONE;
+}
+
+static void print_changed_words(const uint16_t *before, const uint16_t *after, size_t words)
+{
+    unsigned long changed = 0;
+
+    for (size_t at = 0; at < words; at++)
+        changed += before[at] != after[at];
+    printf("words changed: %lu\n", changed);
+    for (size_t at = 0; at < words; at++)
+        if (before[at] != after[at])
+            printf("  byte %05lX  word %6lu  %04X -> %04X\n", (unsigned long)at * 2, (unsigned long)at,
+                   (unsigned)before[at], (unsigned)after[at]);
+}
+
+static void print_changed_registers(const uint16_t before[FILE_WORDS], const uint16_t after[FILE_WORDS])
+{
+    unsigned long changed = 0;
+
+    for (size_t reg = 0; reg < FILE_WORDS; reg++)
+        changed += before[reg] != after[reg];
+    printf("registers changed: %lu\n", changed);
+    for (size_t reg = 0; reg < FILE_WORDS; reg++)
+        if (before[reg] != after[reg])
+            printf("  %-7s  %04X -> %04X\n", register_name(reg), (unsigned)before[reg], (unsigned)after[reg]);
+}
+
+static int run_command(const char *name)
+{
+    static uint16_t ram[RAM_ROOM];
+    struct jobfile *jobfile = jobfile_read(name);
+    uint16_t file[FILE_WORDS];
+    uint32_t number, place, count;
+
+    if (jobfile == NULL)
+        return ERROR;
+    memcpy(ram, jobfile->ram, sizeof ram);
+    memcpy(file, jobfile->file, sizeof file);
+    desk_run(ram, jobfile->ram_words, file, FILE_WORDS, jobfile->job, jobfile->job_words, &number, &place, &count);
+    print_answer(number, place);
+    printf("count %lu\n", (unsigned long)count);
+    printf("zero flag %u\n", (unsigned)file[ZERO_FLAG]);
+    print_changed_words(jobfile->ram, ram, jobfile->ram_words);
+    print_changed_registers(jobfile->file, file);
+    free(jobfile);
+    return number == 0 ? DONE : REFUSED;
+}
+
+static int fold_command(const char *ram_words, const char *name)
+{
+    static uint16_t folded[JOB_LIMIT];
+    struct jobfile *jobfile;
+    uint32_t number, place, length;
+    size_t words;
+
+    if (!decimal(ram_words, SIZE_MAX, &words)) {
+        fprintf(stderr, "desk fold: N is '%s', which isn't a decimal number from 0 to %llu\n", ram_words,
+                (unsigned long long)SIZE_MAX);
+        return ERROR;
+    }
+    jobfile = jobfile_read(name);
+    if (jobfile == NULL)
+        return ERROR;
+    desk_fold(words, jobfile->job, jobfile->job_words, folded, JOB_LIMIT, &number, &place, &length);
+    print_answer(number, place);
+    printf("length %lu, folded %lu\n", (unsigned long)jobfile->job_words, (unsigned long)length);
+    if (number == 0)
+        print_beside(jobfile->job, jobfile->job_words, folded, length);
+    free(jobfile);
+    return number == 0 ? DONE : REFUSED;
+}
+
+static int check_command(char **names)
+{
+    int status = DONE;
+
+    for (; *names != NULL; names++)
+        if (!check_file(*names))
+            status = ERROR;
+    return status;
+}
+
+static int command(int count, char **words)
+{
+    if (count == 3 && strcmp(words[1], "list") == 0)
+        return list_command(words[2]);
+    if (count == 3 && strcmp(words[1], "run") == 0)
+        return run_command(words[2]);
+    if (count == 4 && strcmp(words[1], "fold") == 0)
+        return fold_command(words[2], words[3]);
+    if (count >= 3 && strcmp(words[1], "check") == 0)
+        return check_command(words + 2);
+    fputs(usage, stderr);
+    return ERROR;
+}
+
+int main(int count, char **words)
+{
+    int status = command(count, words);
+
+    if (fflush(stdout) != 0 || ferror(stdout)) {
+        fputs("desk: standard output can't be written\n", stderr);
+        return ERROR;
+    }
+    return status;
+}

@@ -1,12 +1,30 @@
-# make run   the main job: the cookie cut of the manual's Figure 6-4, memory before and after
-# make test  everything from nothing: the proofs, the wrong programs that must be refused, the programs run and compared;
-#            the last line is 'N passed, 0 failed', and the exit status says the same
-.PHONY: run test
+# make run    the main job: the bench card of paper 01 on its own example
+# make test   everything from nothing: the proofs, the wrong programs that must be refused, the programs run and compared,
+#             then the C tests; the last line is 'N passed, 0 failed', and the exit status says the same
+# make desk   the archive for C, target/staticlib/libdesk.a, and the desk tool over it, target/c/desk
+# make bench  the instructions that a word costs, counted: the table of docs/BENCH.md
+# make figure the cookie cut of the manual's Figure 6-4, memory before and after
+.PHONY: run test desk bench figure archive
 
 run:
-	@mkdir -p target
-	@rt check figure >target/run.log 2>&1 || { cat target/run.log; exit 1; }
+	@scripts/proved card
+	@scripts/start target/bin/card <crates/card/stdin
+
+figure:
+	@scripts/proved figure
 	@scripts/start target/bin/figure
 
+archive:
+	@scripts/archive
+
+desk: archive
+	@mkdir -p target/c
+	@scripts/compile target/c/desk c/desk.c c/check.c c/jobfile.c c/listing.c c/step.c target/staticlib/libdesk.a
+	@echo "target/staticlib/libdesk.a (declared in include/desk.h) and target/c/desk are made."
+	@echo "Run the tool by: scripts/start target/c/desk list jobs/copy.job"
+
+bench: archive
+	@bench/run
+
 test:
-	@rt ci
+	@scripts/test

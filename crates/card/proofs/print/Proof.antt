@@ -1,0 +1,27 @@
+-- `card::print` is safe: the bytes that are printed are there.
+use mathlib.Core.Path.{_≡_, sym}
+use Prim.Native.Nat.{ℕ, _≤_}
+use mathlib.Core.List.{List}
+use lib.ListN.{length, take}
+use lib.Seq.{length-take-le}
+use borrow.Author.Needs.{needs}
+use Rattle.card.proofs.print.Statement.{statement}
+use Rattle.card.proofs.print.Tie as tie
+
+prefix-length : (text : List ℕ) (many : ℕ) → many ≤ length text → many ≡ length (take many text)
+prefix-length text many inside = sym (length-take-le many text inside)
+
+slice-aggregate-write-all : tie.Need-slice-aggregate-write-all
+slice-aggregate-write-all c = search prefix-length
+
+write-all-requires : tie.Need-write-all-requires
+write-all-requires c κs = search needs
+
+returns : tie.Need-returns
+returns c = search needs
+
+returns-2 : tie.Need-returns-2
+returns-2 c = search needs
+
+pub print-spec : {M : Type 1} → statement M
+print-spec = tie.close (tie.spec slice-aggregate-write-all write-all-requires returns returns-2)

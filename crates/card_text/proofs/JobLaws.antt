@@ -78,7 +78,7 @@ writes-fill text before job start long lays =
     lays ∙ laid-over (writes text start writeOrder) before (omega (arith, writes-length text start writeOrder, writeOrder-length, long))
 
 -- memory, word by word
-counted-length : (from many : ℕ) → length (counted from many) ≡ many
+pub counted-length : (from many : ℕ) → length (counted from many) ≡ many
 unfolding counted
 counted-length from zero = refl
 counted-length from (suc many) = ap suc (counted-length (from + 1) many)

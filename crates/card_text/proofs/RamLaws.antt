@@ -70,7 +70,7 @@ pub digits-at-end : (text : List ℕ) (at : ℕ) → length text ≤ at → digi
 unfolding digits
 digits-at-end text at past = rw (drop-of-length-le text past)
 
-spelled-ge : (before : ℕ) (digits : List ℕ) → before ≤ spelled before digits
+pub spelled-ge : (before : ℕ) (digits : List ℕ) → before ≤ spelled before digits
 unfolding spelled
 spelled-ge before [] = omega arith
 spelled-ge before (byte ∷ rest) = omega (arith, spelled-ge (before * 10 + (byte - 48)) rest)
@@ -140,7 +140,7 @@ ramEnd-lt text good = by-order (decLt (ramEnd text) (length text))
         let none : byte text (ramEnd text) ≡ 0 = List·getD-eq-default text 0 (omega (arith, past)) in
         absurd (omega (arith, is, none))
 
-ramWords-le : (text : List ℕ) → ramLine text ≡ true → ramWords text ≤ 32768
+pub ramWords-le : (text : List ℕ) → ramLine text ≡ true → ramWords text ≤ 32768
 unfolding ramLine
 ramWords-le text good =
     leb-true _ _

@@ -94,7 +94,7 @@ badFrom-when-more text at key line past other so-far =
     rw (ne-eqb at (length text) other) at here
 
 -- a good card's lines end where the text does
-badFrom-of-none : (text : List ℕ) (at key toCome : ℕ) → badFrom text at key toCome ≡ 0 → at + toCome * 10 ≡ length text
+pub badFrom-of-none : (text : List ℕ) (at key toCome : ℕ) → badFrom text at key toCome ≡ 0 → at + toCome * 10 ≡ length text
 unfolding badFrom
 badFrom-of-none text at key zero none = by-test (eqb at (length text)) refl none
   where

@@ -4,4 +4,6 @@ pub mod Reading
 pub mod Job
 pub mod Printing
 pub mod Card
+pub mod FirstBytesDecide
+pub mod TextFits
 pub mod Ram

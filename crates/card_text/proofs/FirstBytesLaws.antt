@@ -10,11 +10,12 @@ use lib.Dec.{eqb, leb}
 use lib.ListN.{length, getD, take, drop, length-append, length-drop, take-append-drop, List·getD-append}
 use lib.Seq.{length-take-le, take-all, drop-append-le, getD-drop}
 use Rattle.word.specs.Choice.{if_then_else_}
+use Rattle.word.proofs.ChoiceLaws.{and-left, and-right}
 use Rattle.card_text.specs.Text.{newline, byte, decimalDigit}
 use Rattle.card_text.specs.Reading.{digits, spelled, ramWords, ramEnd, ramKey, ramLine, keyAt, wordAt, keyLine, badFrom, badLine}
 use Rattle.card_text.specs.Card.{printed}
 use Rattle.card_text.specs.FirstBytesDecide.{FirstBytesDecide}
-use Rattle.card_text.proofs.TextLaws.{and-left, and-right, decimalDigit-ge}
+use Rattle.card_text.proofs.TextLaws.{decimalDigit-ge}
 use Rattle.card_text.proofs.ReadingLaws.{badFrom-of-none}
 use Rattle.card_text.proofs.RamLaws.{spelled-ge, ramWords-le}
 
@@ -75,16 +76,26 @@ module _ (front more : List ℕ) where
   keyLine-of-front : (at key : ℕ) → at + 10 ≤ length front → keyLine (front ++ more) at key ≡ keyLine front at key
   unfolding keyLine keyAt wordAt
   keyLine-of-front at key inside =
-      rw (byte-of-front at (omega (arith, inside)), byte-of-front (at + 1) (omega (arith, inside)), byte-of-front (at + 2) (omega (arith, inside)),
-      byte-of-front (at + 3) (omega (arith, inside)), byte-of-front (at + 4) (omega (arith, inside)), byte-of-front (at + 5) (omega (arith, inside)),
-      byte-of-front (at + 5 + 1) (omega (arith, inside)), byte-of-front (at + 5 + 2) (omega (arith, inside)), byte-of-front (at + 5 + 3) (omega (arith, inside)),
-      byte-of-front (at + 9) (omega (arith, inside)))
+      rw (
+        byte-of-front at (omega (arith, inside)),
+        byte-of-front (at + 1) (omega (arith, inside)),
+        byte-of-front (at + 2) (omega (arith, inside)),
+        byte-of-front (at + 3) (omega (arith, inside)),
+        byte-of-front (at + 4) (omega (arith, inside)),
+        byte-of-front (at + 5) (omega (arith, inside)),
+        byte-of-front (at + 5 + 1) (omega (arith, inside)),
+        byte-of-front (at + 5 + 2) (omega (arith, inside)),
+        byte-of-front (at + 5 + 3) (omega (arith, inside)),
+        byte-of-front (at + 9) (omega (arith, inside)),
+      )
 
   badFrom-of-front : (at key toCome : ℕ) → at + toCome * 10 < length front → badFrom (front ++ more) at key toCome ≡ badFrom front at key toCome
   unfolding badFrom
   badFrom-of-front at key zero inside =
-      rw (ne-eqb at (length (front ++ more)) (λ same. omega (arith, same, inside, length-append front more)),
-      ne-eqb at (length front) (λ same. omega (arith, same, inside)))
+      rw (
+        ne-eqb at (length (front ++ more)) (λ same. omega (arith, same, inside, length-append front more)),
+        ne-eqb at (length front) (λ same. omega (arith, same, inside)),
+      )
   badFrom-of-front at key (suc toCome) inside =
       rw (keyLine-of-front at key (omega (arith, inside)), badFrom-of-front (at + 10) (key + 1) toCome (omega (arith, inside)))
 
@@ -132,9 +143,15 @@ module _ (front more : List ℕ) (long : length front ≡ 256) where
     same-ramLine : ramLine (front ++ more) ≡ ramLine front
     unfolding ramLine ramKey
     same-ramLine =
-        rw (same-digits, byte-of-front front more 0 (omega (arith, long)), byte-of-front front more 1 (omega (arith, long)),
-        byte-of-front front more 2 (omega (arith, long)), byte-of-front front more 3 (omega (arith, long)), byte-of-front front more 4 (omega (arith, long)),
-        byte-of-front front more (4 + length (digits (drop 4 front))) (omega (arith, long, stops)))
+        rw (
+          same-digits,
+          byte-of-front front more 0 (omega (arith, long)),
+          byte-of-front front more 1 (omega (arith, long)),
+          byte-of-front front more 2 (omega (arith, long)),
+          byte-of-front front more 3 (omega (arith, long)),
+          byte-of-front front more 4 (omega (arith, long)),
+          byte-of-front front more (4 + length (digits (drop 4 front))) (omega (arith, long, stops)),
+        )
 
   -- the first bad line is the same, and there is one
   pub record SameBad : Type 0 where
@@ -161,6 +178,7 @@ module _ (front more : List ℕ) (long : length front ≡ 256) where
       by-line : (good : Bool) → ramLine front ≡ good → length (digits (drop 4 front)) < 252 → SameBad
       by-line true good stops = both-good stops good
       by-line false bad stops = both-bad (same-ramLine stops ∙ bad) bad
+
       by-order : Dec (length (digits (drop 4 front)) < 252) → SameBad
       by-order (yes stops) = by-line (ramLine front) refl stops
       by-order (no fills) =

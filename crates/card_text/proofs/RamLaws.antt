@@ -11,11 +11,11 @@ use lib.Dec.{eqb, leb}
 use lib.ListN.{length, getD, drop, drop-of-length-le, List·getD-eq-default}
 use lib.Seq.{drop-cons}
 use Rattle.word.specs.Choice.{if_then_else_}
+use Rattle.word.proofs.ChoiceLaws.{and-left, and-right, and-none}
 use Rattle.card_text.specs.declared.types.Ram.{Ram}
 use Rattle.card_text.specs.Text.{newline, byte, decimalDigit}
 use Rattle.card_text.specs.Reading.{digits, spelled, ramWords, ramEnd, ramKey, ramLine}
 use Rattle.card_text.specs.Ram.{ramRead, ramEnded}
-use Rattle.card_text.proofs.TextLaws.{and-left, and-right, and-none}
 
 -- the digits ended
 pub ramEnded-when-none : (text : List ℕ) (at words : ℕ) → words ≡ 0 → Ram.Bad ≡ ramEnded text at words
@@ -134,6 +134,7 @@ ramEnd-lt text good = by-order (decLt (ramEnd text) (length text))
   where
     is : byte text (ramEnd text) ≡ newline
     is = eqb-true _ _ (and-right (ramKey text && not (eqb (byte text 4) 48) && leb 1 (ramWords text) && leb (ramWords text) 32768) _ good)
+
     by-order : Dec (ramEnd text < length text) → ramEnd text < length text
     by-order (yes within) = within
     by-order (no past) =

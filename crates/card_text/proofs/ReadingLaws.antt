@@ -12,11 +12,11 @@ use lib.Dec.{eqb, leb}
 use lib.ListN.{length, getD, drop, drop-of-length-le, List·getD-eq-default}
 use lib.Seq.{drop-cons}
 use Rattle.word.specs.Choice.{if_then_else_}
+use Rattle.word.proofs.ChoiceLaws.{and-left, and-right, and-none}
 use Rattle.card_text.specs.declared.types.Ram.{Ram}
 use Rattle.card_text.specs.Text.{newline, equals, byte, decimalDigit, hexDigit}
 use Rattle.card_text.specs.Reading.{digits, spelled, ramWords, ramEnd, ramKey, ramLine, letter, keyAt, wordAt, keyLine, badFrom}
 use Rattle.card_text.specs.Ram.{ramRead, ramEnded}
-use Rattle.card_text.proofs.TextLaws.{and-left, and-right, and-none}
 
 pub ramKey-of-parts : (text : List ℕ) (a b c d : ℕ)
     → a ≡ getD text 0 0 → b ≡ getD text 1 0 → c ≡ getD text 2 0 → d ≡ getD text 3 0

@@ -134,6 +134,7 @@ text-fits text = by-line (eqb (badLine text) 0) refl
     good : ramLine text ≡ true → length (run (counted 0 (ramWords text)) (zeros 20) (cardJob text) .machine .memory) ≤ 32768
     good is =
         omega (arith, ramWords-le text is, run-keeps-memory-length (counted 0 (ramWords text)) (zeros 20) (cardJob text), counted-length 0 (ramWords text))
+
     by-line : (fine : Bool) → eqb (badLine text) 0 ≡ fine
         → length (if fine then printedRun (run (counted 0 (ramWords text)) (zeros 20) (cardJob text)) else printedBad (badLine text)) ≤ 524416
     by-line true is = printedRun-le (run (counted 0 (ramWords text)) (zeros 20) (cardJob text)) (good (badLine-of-none text (eqb-true (badLine text) 0 is)))

@@ -7,19 +7,8 @@ use mathlib.Core.List.{List}
 use borrow.Author.Tests.{leb-true}
 use lib.Dec.{leb}
 use lib.ListN.{getD}
+use Rattle.word.proofs.ChoiceLaws.{and-left, and-right}
 use Rattle.card_text.specs.Text.{decimalDigit, capital, hexDigit, hexValue, hexWord}
-
-pub and-left : (a b : Bool) → (a && b) ≡ true → a ≡ true
-and-left true b both = refl
-and-left false b both = both
-
-pub and-right : (a b : Bool) → (a && b) ≡ true → b ≡ true
-and-right true b both = both
-and-right false b both = let n : _≡_ {A = ℕ} 0 1 = cc in absurd (omega arith)
-
-pub and-none : (a : Bool) → (a && false) ≡ false
-and-none true = refl
-and-none false = refl
 
 module _ (byte : ℕ) (digit : Bool) (is : digit ≡ decimalDigit byte) (holds : digit ≡ true) where
   pub decimalDigit-ge : 48 ≤ byte

@@ -12,7 +12,10 @@ use crate::types::Ram;
 fn ram_key(text: &[u8]) -> bool
     ensures { λ is. ⌜ is ≡ ramKey (now (text .entry)) ⌝ }
 {
-    (byte(text, 0) == b'r') & (byte(text, 1) == b'a') & (byte(text, 2) == b'm') & (byte(text, 3) == b'=')
+    (byte(text, 0) == b'r')
+        & (byte(text, 1) == b'a')
+        & (byte(text, 2) == b'm')
+        & (byte(text, 3) == b'=')
 }
 
 // What the digits before a place give, when none follows.
@@ -64,7 +67,8 @@ pub fn ram_line(text: &[u8]) -> Ram
     ram_ended(text, at, words)
 }
 
-const LETTERS: [u8; 80] = *b"con0con1afwmalwmcpthcptlbpthbptlapthaptldpthdptlsizecmodbmodamoddmodcdatbdatadat";
+const LETTERS: [u8; 80] =
+    *b"con0con1afwmalwmcpthcptlbpthbptlapthaptldpthdptlsizecmodbmodamoddmodcdatbdatadat";
 
 fn letter(key: u32, at: u32) -> u8
     requires { ⌜ (key < 20) × (at < 4) ⌝ }
@@ -87,7 +91,10 @@ fn word_at(text: &[u8], at: usize) -> bool
     requires { ⌜ at + 4 ≤ length (now text) ⌝ }
     ensures { λ is. ⌜ is ≡ wordAt (now (text .entry)) at ⌝ }
 {
-    hex_digit(text[at]) & hex_digit(text[at + 1]) & hex_digit(text[at + 2]) & hex_digit(text[at + 3])
+    hex_digit(text[at])
+        & hex_digit(text[at + 1])
+        & hex_digit(text[at + 2])
+        & hex_digit(text[at + 3])
 }
 
 fn key_line(text: &[u8], at: usize, key: u32) -> bool

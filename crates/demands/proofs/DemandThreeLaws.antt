@@ -26,10 +26,10 @@ use Rattle.knowledge.specs.Knowledge.{nothing, numbers}
 use Rattle.knowledge.proofs.KnowledgeLaws.{nothing-length}
 use Rattle.settled.specs.Words.{settledEnd, settledWords}
 use Rattle.settled.proofs.OnlyDLaws.{OnlyD}
-use Rattle.settled.proofs.SettledLaws.{afterSettled, settledWords-run, blitStep-number, blitStep-file}
+use Rattle.settled.proofs.WordsLaws.{afterSettled, settledWords-run, blitStep-number, blitStep-file}
 use Rattle.settled.proofs.AgreeLaws.{Agree, uses-alike, stepRefusal-alike, settledEnd-alike, settledWords-alike}
-use Rattle.folder.specs.Learn.{written, forgotten, movedD}
-use Rattle.folder.specs.Settled.{settled}
+use Rattle.settled.specs.Learn.{written, forgotten, movedD}
+use Rattle.settled.specs.Settled.{settled}
 use Rattle.folder.specs.Folding.{folding, byStep}
 use Rattle.folder.specs.Folding as folds
 use Rattle.folder.specs.Fold.{folded, learned, rawWords, piece, learnedAfter, foldSteps, foldFrom, fold}

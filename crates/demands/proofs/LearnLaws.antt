@@ -19,7 +19,7 @@ use Rattle.blit.specs.Refusal.{stepRefusal}
 use Rattle.blit.specs.Blit.{putPointer, putPointers, putSource, putSources, putFlag, finished, done, refused, answered, blitStep}
 use Rattle.knowledge.specs.declared.types.Known.{Known}
 use Rattle.knowledge.specs.Known.{number, isKnown}
-use Rattle.folder.specs.Learn.{knownAt, written, mayUse, forgetPointer, forgetSource, forgetUsed, forgotten, movedD}
+use Rattle.settled.specs.Learn.{knownAt, written, mayUse, forgetPointer, forgetSource, forgetUsed, forgotten, movedD}
 use Rattle.demands.proofs.AgreesLaws.{Agrees, agrees-of-flag, agrees-of-source, agrees-of-pointer}
 
 -- the channels that a blit uses are among those it may use

@@ -31,9 +31,9 @@ use Rattle.settled.specs.Words.{storeWords, pointerWords, flagWords, rowStores,
 use Rattle.settled.proofs.OnlyDLaws.{OnlyD}
 use Rattle.settled.proofs.StoreLaws.{steps-of-store, steps-of-end}
 use Rattle.settled.proofs.RunLaws.{afterStores, afterRows}
-use Rattle.settled.proofs.SettledLaws.{afterSettled}
-use Rattle.folder.specs.Settled.{settled}
-use Rattle.folder.specs.Learn.{written, forgotten, movedD}
+use Rattle.settled.proofs.WordsLaws.{afterSettled}
+use Rattle.settled.specs.Settled.{settled}
+use Rattle.settled.specs.Learn.{written, forgotten, movedD}
 use Rattle.folder.specs.Fold.{folded, learned, rawWords, piece, learnedAfter, foldSteps, foldFrom, fold}
 use Rattle.demands.specs.DemandThree.{FolderAccepts}
 use Rattle.demands.specs.SettledAreReplaced.{sizeOf, sizes, unsettledOf, unsettled, SettledAreReplaced}

@@ -20,8 +20,8 @@ use Rattle.knowledge.proofs.KnownLaws.{known-is-number}
 use Rattle.knowledge.proofs.KnowledgeLaws.{numbers-at}
 use Rattle.settled.proofs.OnlyDLaws.{OnlyD}
 use Rattle.settled.proofs.AgreeLaws.{Agree}
-use Rattle.folder.specs.Learn.{knownAt}
-use Rattle.folder.specs.Settled.{has, controlsKnown, onlyDUsed, sourcesKnown, settled}
+use Rattle.settled.specs.Learn.{knownAt}
+use Rattle.settled.specs.Settled.{has, controlsKnown, onlyDUsed, sourcesKnown, settled}
 use Rattle.demands.proofs.AgreesLaws.{Agrees}
 
 pub both-first : (a b : Bool) → (a && b) ≡ true → a ≡ true

@@ -9,7 +9,7 @@ use Rattle.job.specs.declared.types.Read.{Read}
 use Rattle.job.specs.Steps.{Placed, steps}
 use Rattle.knowledge.specs.declared.types.Known.{Known}
 use Rattle.knowledge.specs.Knowledge.{nothing}
-use Rattle.folder.specs.Settled.{settled}
+use Rattle.settled.specs.Settled.{settled}
 use Rattle.folder.specs.Fold.{learnedAfter, fold}
 use Rattle.demands.specs.DemandThree.{FolderAccepts}
 

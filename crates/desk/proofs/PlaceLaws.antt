@@ -41,6 +41,7 @@ runSteps-place-le zero at (first ∷ rest) before =
     later =
         runSteps (stepsFrom (following (front at (first ∷ rest))) (at + 1) rest)
         (after before (effectOn before (front at (first ∷ rest))))
+
     by-test : later .place ≤ at + 1 + length rest → (fine : Bool)
         → (if fine then later else ended (effectOn before (front at (first ∷ rest)) .number) at before) .place
         ≤ at + suc (length rest)
@@ -77,6 +78,7 @@ byStep-place-le words out zero at (first ∷ rest) =
   where
     later : Folding
     later = byStep words out (stepsFrom (following (front at (first ∷ rest))) (at + 1) rest)
+
     by-test : later .place ≤ at + 1 + length rest → (fine : Bool)
         → (if fine then later else refused (readNumber (front at (first ∷ rest))) at out) .place ≤ at + suc (length rest)
     by-test inside true = omega (arith, inside)

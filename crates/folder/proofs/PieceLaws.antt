@@ -28,9 +28,9 @@ use Rattle.job.proofs.StepLaws.{stepAt-moves, stepAt-next}
 use Rattle.settled.specs.Words.{rowStores, blitStores, settledEnd, settledWords}
 use Rattle.knowledge.specs.declared.types.Known.{Known}
 use Rattle.knowledge.specs.Knowledge.{numbers}
-use Rattle.folder.specs.Learn.{written, forgotten, movedD}
+use Rattle.settled.specs.Learn.{written, forgotten, movedD}
 use Rattle.blit.specs.Refusal.{stepRefusal}
-use Rattle.folder.specs.Settled.{controlsKnown, onlyDUsed, sourcesKnown, settled}
+use Rattle.settled.specs.Settled.{controlsKnown, onlyDUsed, sourcesKnown, settled}
 use Rattle.folder.specs.Fold.{folded, learned, rawWords}
 use Rattle.folder.specs.PieceLength.{settledLength, pieceLength}
 

@@ -26,7 +26,7 @@ use Rattle.area.specs.Rows.{finishedWord, oneWord, words, rowStart, oneRow, row
 use Rattle.area.proofs.RowsLaws.{oneRow-counts}
 use Rattle.settled.specs.Words.{storeWords, pointerWords, flagWords, rowStores, blitStores, settledEnd, settledWords}
 use Rattle.word.specs.Laid.{laid}
-use Rattle.folder.proofs.LearnLaws.{none-is-empty}
+use Rattle.settled.proofs.LearnLaws.{none-is-empty}
 use Rattle.folder.proofs.PieceLaws.{rowStores-length, blitStores-length}
 use Rattle.word.proofs.LaidLaws.{laid-of-append}
 

@@ -19,7 +19,7 @@ use Rattle.knowledge.specs.declared.types.Known.{Known}
 use Rattle.knowledge.specs.Knowledge.{nothing, numbers}
 use Rattle.folder.specs.declared.types.Refusal.{Refusal}
 use Rattle.folder.specs.declared.types.Answer.{Answer}
-use Rattle.folder.specs.Settled.{settled}
+use Rattle.settled.specs.Settled.{settled}
 use Rattle.folder.specs.Fold.{folded, learned, rawWords, foldSteps, foldFrom, fold}
 use Rattle.folder.specs.Folding.{Folding, byStep}
 use Rattle.folder.specs.Answer.{left}

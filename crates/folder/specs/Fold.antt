@@ -10,8 +10,8 @@ use Rattle.job.specs.Steps.{Placed, steps}
 use Rattle.settled.specs.Words.{settledEnd, settledWords}
 use Rattle.knowledge.specs.declared.types.Known.{Known}
 use Rattle.knowledge.specs.Knowledge.{nothing, numbers}
-use Rattle.folder.specs.Learn.{written, forgotten, movedD}
-use Rattle.folder.specs.Settled.{settled}
+use Rattle.settled.specs.Learn.{written, forgotten, movedD}
+use Rattle.settled.specs.Settled.{settled}
 
 -- what a step becomes; raw are its own words
 unfoldable pub folded : (n : ℕ) → (known : List Known) → Step → (raw : List ℕ) → List ℕ

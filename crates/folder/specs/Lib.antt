@@ -1,6 +1,4 @@
 -- What a reader must believe of a folding, in the order of paper 01; then what is proved of it, and how the code makes it.
-pub mod Learn
-pub mod Settled
 pub mod Fold
 pub mod Folding
 pub mod Answer

@@ -5,7 +5,7 @@ use Rattle.word.specs.Choice.{if_then_else_}
 use Rattle.word.specs.Size.{height, width}
 use Rattle.job.specs.declared.types.Step.{Step}
 use Rattle.knowledge.specs.declared.types.Known.{Known}
-use Rattle.folder.specs.Settled.{settled}
+use Rattle.settled.specs.Settled.{settled}
 
 -- three words for each store, four for the pointer and one for the flag
 abbrev pub settledLength : (size : ℕ) → ℕ

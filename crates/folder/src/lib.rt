@@ -1,10 +1,8 @@
 // The folder: blits whose outcome the job alone settles become stores, and all else is copied.
 pub mod answer;
-mod learn;
 mod measure;
 mod piece;
 mod put;
-mod settle;
 mod stores;
 pub mod theorems;
 pub mod types;

@@ -3,7 +3,7 @@ ghost use mathlib.Core.Path.{_≡_};
 ghost use Rattle.job.specs.declared.types.Step as steps;
 ghost use Rattle.settled.specs.Words.{settledEnd};
 ghost use Rattle.knowledge.specs.Knowledge.{listed, numbers};
-ghost use Rattle.folder.specs.Learn.{movedD};
+ghost use Rattle.settled.specs.Learn.{movedD};
 ghost use Rattle.folder.specs.Fold.{learned};
 ghost use Rattle.folder.specs.PieceLength.{settledLength, pieceLength};
 use crate::types::Piece;
@@ -25,24 +25,24 @@ fn settled_known(known: Knowledge, size: u16) -> Knowledge
         ≡ movedD (settledEnd (numbers (listed known)) size .flow .pointers .d) (listed known) ⌝ }
 {
     let file = known.numbers();
-    let end = crate::learn::settled_end(&file, size);
+    let end = settled::learn::settled_end(&file, size);
     let pointers = end.pointers;
     let d = pointers.d;
-    crate::learn::moved_d(known, d)
+    settled::learn::moved_d(known, d)
 }
 
 fn size_piece(n: usize, known: Knowledge, size: u16) -> Piece
     ensures { λ piece. ⌜ (piece .length ≡ pieceLength n (listed known) (steps.Step.Size size))
         × (listed (piece .known) ≡ learned n (listed known) (steps.Step.Size size)) ⌝ }
 {
-    if crate::settle::settled(n, known, size) {
+    if settled::settle::settled(n, known, size) {
         let after = settled_known(known, size);
         return Piece {
             length: settled_length(size),
             known: after,
         };
     }
-    let after = crate::learn::forgotten(known);
+    let after = settled::learn::forgotten(known);
     Piece {
         length: 2,
         known: after,
@@ -55,7 +55,7 @@ pub fn step_piece(n: usize, known: Knowledge, step: Step) -> Piece
 {
     match step {
         Step::Register(place, value) => {
-            let after = crate::learn::written(known, place, value);
+            let after = settled::learn::written(known, place, value);
             Piece {
                 length: 2,
                 known: after,

@@ -7,7 +7,7 @@ ghost use Rattle.job.specs.Step.{operands};
 ghost use Rattle.job.specs.Steps.{steps};
 ghost use Rattle.settled.specs.Words.{settledEnd, settledWords};
 ghost use Rattle.knowledge.specs.Knowledge.{listed, numbers};
-ghost use Rattle.folder.specs.Learn.{movedD};
+ghost use Rattle.settled.specs.Learn.{movedD};
 ghost use Rattle.folder.specs.Fold.{folded, learned, rawWords, fold};
 ghost use Rattle.folder.specs.Folding.{byStep};
 ghost use Rattle.word.specs.Laid.{laid};
@@ -27,7 +27,7 @@ fn put_blit(out: &mut [u16], at: u32, known: Knowledge, size: u16) -> Knowledge
     let end = crate::stores::put_settled(out, at, &file, size);
     let pointers = end.pointers;
     let d = pointers.d;
-    crate::learn::moved_d(known, d)
+    settled::learn::moved_d(known, d)
 }
 
 fn put_size(
@@ -45,7 +45,7 @@ fn put_size(
         × (piece .length ≡ pieceLength n (listed known) (job-steps.Step.Size size))
         × (listed (piece .known) ≡ learned n (listed known) (job-steps.Step.Size size)) ⌝ }
 {
-    if crate::settle::settled(n, known, size) {
+    if settled::settle::settled(n, known, size) {
         let after = put_blit(out, at, known, size);
         return Piece {
             length: crate::piece::settled_length(size),
@@ -53,7 +53,7 @@ fn put_size(
         };
     }
     crate::put::put_copied(out, at, job, from, 2);
-    let after = crate::learn::forgotten(known);
+    let after = settled::learn::forgotten(known);
     Piece {
         length: 2,
         known: after,
@@ -79,7 +79,7 @@ fn put_step(
     match step {
         Step::Register(place, value) => {
             crate::put::put_copied(out, at, job, from, 2);
-            let after = crate::learn::written(known, place, value);
+            let after = settled::learn::written(known, place, value);
             Piece {
                 length: 2,
                 known: after,

@@ -11,7 +11,7 @@ use Rattle.knowledge.specs.declared.types.Known.{Known}
 use Rattle.knowledge.specs.declared.types.Known.the-variants.{Unknown}
 use Rattle.knowledge.specs.declared.types.Knowledge.{Knowledge}
 use Rattle.knowledge.specs.Known.{number}
-use Rattle.knowledge.specs.Knowledge.{listed, nothing, numbers}
+use Rattle.knowledge.specs.Knowledge.{controls, halves, modulos, sources, listed, nothing, numbers}
 
 pub listed-length : (knowledge : Knowledge) → length (listed knowledge) ≡ flag
 listed-length knowledge = refl
@@ -59,3 +59,18 @@ unfolding numbers
 numbers-of-with known place told long inside =
     ap (λ (words : List ℕ). words ++ (0 ∷ [])) (map-of-set known place told)
     ∙ sym (set-append-left (map number known) (0 ∷ []) place (number told) (simp length-map (omega arith)))
+
+-- the file of the numbers, part by part
+pub numbers-of-parts : (knowledge : Knowledge) (control c b a d modulo source : List ℕ)
+    → control ≡ map number (controls (knowledge .controls))
+    → c ≡ map number (halves (knowledge .pointers .c)) → b ≡ map number (halves (knowledge .pointers .b))
+    → a ≡ map number (halves (knowledge .pointers .a)) → d ≡ map number (halves (knowledge .pointers .d))
+    → modulo ≡ map number (modulos (knowledge .modulos)) → source ≡ map number (sources (knowledge .sources))
+    → (getD control 0 0 ∷ getD control 1 0 ∷ getD control 2 0 ∷ getD control 3 0
+    ∷ getD c 0 0 ∷ getD c 1 0 ∷ getD b 0 0 ∷ getD b 1 0 ∷ getD a 0 0 ∷ getD a 1 0 ∷ getD d 0 0 ∷ getD d 1 0
+    ∷ getD modulo 0 0 ∷ getD modulo 1 0 ∷ getD modulo 2 0 ∷ getD modulo 3 0
+    ∷ getD source 0 0 ∷ getD source 1 0 ∷ getD source 2 0 ∷ 0 ∷ [])
+    ≡ numbers (listed knowledge)
+unfolding numbers
+numbers-of-parts knowledge control c b a d modulo source is-control is-c is-b is-a is-d is-modulo is-source =
+    rw (is-control, is-c, is-b, is-a, is-d, is-modulo, is-source)

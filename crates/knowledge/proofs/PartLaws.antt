@@ -1,25 +1,17 @@
--- Laws of a list that is held in parts: the register at a place is one of the part in which the place lies.
+-- Laws of a list that is held in parts: a register replaced is one of the part in which its place lies.
 use mathlib.Core.Path.{_≡_, sym, ap, _∙_}
 use Prim.Native.Nat.{ℕ, _+_, _<_, _≤_}
 use native.Mathlib.Nat.{suc-add, zero-add}
 use mathlib.Core.List.{List, [], _∷_, _++_}
-use lib.ListN.{length, getD, set, List·getD-append, List·getD-eq-default}
-use lib.Seq.{getD-append-add, set-append-left, set-out}
+use lib.ListN.{length, set}
+use lib.Seq.{set-append-left, set-out}
 use Rattle.knowledge.specs.declared.types.Known.{Known}
-use Rattle.knowledge.specs.declared.types.Known.the-variants.{Unknown}
 
--- past the end nothing is known, and nothing changes
-pub getD-past-end : (part : List Known) (place : ℕ) → length part ≤ place → Unknown ≡ getD part place Unknown
-getD-past-end part place past = sym (List·getD-eq-default part Unknown past)
-
+-- past the end nothing changes
 pub set-past-end : (part : List Known) (place : ℕ) (known : Known) → length part ≤ place → part ≡ set part place known
 set-past-end part place known past = sym (set-out part place known past)
 
 -- in the last part
-pub getD-in-last : (before part : List Known) (place offset : ℕ) (known : Known)
-    → place ≡ length before + offset → known ≡ getD part offset Unknown → known ≡ getD (before ++ part) place Unknown
-getD-in-last before part place offset known there same = rw there (same ∙ sym (getD-append-add before part offset Unknown))
-
 set-append-add : (before part : List Known) (offset : ℕ) (known : Known)
     → before ++ set part offset known ≡ set (before ++ part) (length before + offset) known
 set-append-add [] part offset known = ap (λ (place : ℕ). set part place known) (sym (zero-add offset))
@@ -33,12 +25,6 @@ set-in-last before part after place offset known there same =
     rw (there, same) (set-append-add before part offset known)
 
 -- in a part with a rest behind it
-pub getD-in-part : (before part rest : List Known) (place offset : ℕ) (known : Known)
-    → place ≡ length before + offset → offset < length part → known ≡ getD part offset Unknown
-    → known ≡ getD (before ++ (part ++ rest)) place Unknown
-getD-in-part before part rest place offset known there inside same =
-    getD-in-last before (part ++ rest) place offset known there (same ∙ sym (List·getD-append part rest Unknown offset inside))
-
 pub set-in-part : (before part after rest : List Known) (place offset : ℕ) (known : Known)
     → place ≡ length before + offset → offset < length part → after ≡ set part offset known
     → before ++ (after ++ rest) ≡ set (before ++ (part ++ rest)) place known

@@ -1,7 +1,6 @@
 // The knowledge of the 19 registers, by their places in the register file.
 ghost use mathlib.Core.Path.{_≡_};
-ghost use lib.ListN.{getD, set};
-ghost use Rattle.knowledge.specs.declared.types.Known.the-variants.{Unknown};
+ghost use lib.ListN.{set};
 ghost use Rattle.knowledge.specs.Knowledge.{listed, nothing, numbers};
 use crate::types::Controls;
 use crate::types::Halves;
@@ -52,22 +51,6 @@ pub fn nothing() -> Knowledge
 }
 
 impl Knowledge {
-    // What is known of the register at a place of the file; of the flag and past the file's end, nothing.
-    pub fn at(self, place: u32) -> Known
-        ensures { λ known. ⌜ known ≡ getD (listed self) place Unknown ⌝ }
-    {
-        if place < 4 {
-            return self.controls.at(place);
-        }
-        if place < 12 {
-            return self.pointers.at(place - 4);
-        }
-        if place < 16 {
-            return self.modulos.at(place - 12);
-        }
-        self.sources.at(place - 16)
-    }
-
     // The knowledge with one register replaced: by its number where a write makes it known, by Unknown where it is
     // forgotten.
     // A place that is no register's changes nothing.
@@ -114,13 +97,35 @@ impl Knowledge {
     pub fn numbers(self) -> [u16; 20]
         ensures { λ file. ⌜ file ≡ numbers (listed self) ⌝ }
     {
-        let mut file: [u16; 20] = [0; 20];
-        let mut left: u32 = 19;
-        while 0 < left {
-            let known = self.at(left - 1);
-            file[(left - 1) as usize] = known.number();
-            left = left - 1;
-        }
-        file
+        let pointers = self.pointers;
+        let control = self.controls.numbers();
+        let c = pointers.c.numbers();
+        let b = pointers.b.numbers();
+        let a = pointers.a.numbers();
+        let d = pointers.d.numbers();
+        let modulo = self.modulos.numbers();
+        let source = self.sources.numbers();
+        [
+            control[0],
+            control[1],
+            control[2],
+            control[3],
+            c[0],
+            c[1],
+            b[0],
+            b[1],
+            a[0],
+            a[1],
+            d[0],
+            d[1],
+            modulo[0],
+            modulo[1],
+            modulo[2],
+            modulo[3],
+            source[0],
+            source[1],
+            source[2],
+            0,
+        ]
     }
 }

@@ -1,8 +1,8 @@
-// The parts of the knowledge: one register read, or replaced, by its place in the part.
-// Past a part's end nothing is known, and nothing changes.
+// The parts of the knowledge: one register replaced, by its place in the part. Past a part's end nothing changes.
 ghost use mathlib.Core.Path.{_≡_};
-ghost use lib.ListN.{getD, set};
-ghost use Rattle.knowledge.specs.declared.types.Known.the-variants.{Unknown};
+ghost use mathlib.Core.List.{map};
+ghost use lib.ListN.{set};
+ghost use Rattle.knowledge.specs.Known.{number};
 ghost use Rattle.knowledge.specs.Knowledge.{controls, halves, pointers, modulos, sources};
 use crate::types::Controls;
 use crate::types::Halves;
@@ -12,16 +12,15 @@ use crate::types::Pointers;
 use crate::types::Sources;
 
 impl Controls {
-    pub fn at(self, place: u32) -> Known
-        ensures { λ known. ⌜ known ≡ getD (controls self) place Unknown ⌝ }
+    // Their numbers, 0 where one isn't known.
+    pub fn numbers(self) -> [u16; 4]
+        ensures { λ words. ⌜ words ≡ map number (controls self) ⌝ }
     {
-        match place {
-            0 => self.con0,
-            1 => self.con1,
-            2 => self.afwm,
-            3 => self.alwm,
-            _ => Known::Unknown,
-        }
+        let con0 = self.con0;
+        let con1 = self.con1;
+        let afwm = self.afwm;
+        let alwm = self.alwm;
+        [con0.number(), con1.number(), afwm.number(), alwm.number()]
     }
 
     pub fn with(self, place: u32, known: Known) -> Controls
@@ -62,14 +61,13 @@ impl Controls {
 }
 
 impl Halves {
-    pub fn at(self, place: u32) -> Known
-        ensures { λ known. ⌜ known ≡ getD (halves self) place Unknown ⌝ }
+    // Their numbers, 0 where one isn't known.
+    pub fn numbers(self) -> [u16; 2]
+        ensures { λ words. ⌜ words ≡ map number (halves self) ⌝ }
     {
-        match place {
-            0 => self.high,
-            1 => self.low,
-            _ => Known::Unknown,
-        }
+        let high = self.high;
+        let low = self.low;
+        [high.number(), low.number()]
     }
 
     pub fn with(self, place: u32, known: Known) -> Halves
@@ -92,18 +90,6 @@ impl Halves {
 }
 
 impl Pointers {
-    pub fn at(self, place: u32) -> Known
-        ensures { λ known. ⌜ known ≡ getD (pointers self) place Unknown ⌝ }
-    {
-        match place / 2 {
-            0 => self.c.at(place % 2),
-            1 => self.b.at(place % 2),
-            2 => self.a.at(place % 2),
-            3 => self.d.at(place % 2),
-            _ => Known::Unknown,
-        }
-    }
-
     pub fn with(self, place: u32, known: Known) -> Pointers
         ensures { λ after. ⌜ pointers after ≡ set (pointers self) place known ⌝ }
     {
@@ -142,16 +128,15 @@ impl Pointers {
 }
 
 impl Modulos {
-    pub fn at(self, place: u32) -> Known
-        ensures { λ known. ⌜ known ≡ getD (modulos self) place Unknown ⌝ }
+    // Their numbers, 0 where one isn't known.
+    pub fn numbers(self) -> [u16; 4]
+        ensures { λ words. ⌜ words ≡ map number (modulos self) ⌝ }
     {
-        match place {
-            0 => self.c,
-            1 => self.b,
-            2 => self.a,
-            3 => self.d,
-            _ => Known::Unknown,
-        }
+        let c = self.c;
+        let b = self.b;
+        let a = self.a;
+        let d = self.d;
+        [c.number(), b.number(), a.number(), d.number()]
     }
 
     pub fn with(self, place: u32, known: Known) -> Modulos
@@ -192,15 +177,14 @@ impl Modulos {
 }
 
 impl Sources {
-    pub fn at(self, place: u32) -> Known
-        ensures { λ known. ⌜ known ≡ getD (sources self) place Unknown ⌝ }
+    // Their numbers, 0 where one isn't known.
+    pub fn numbers(self) -> [u16; 3]
+        ensures { λ words. ⌜ words ≡ map number (sources self) ⌝ }
     {
-        match place {
-            0 => self.c,
-            1 => self.b,
-            2 => self.a,
-            _ => Known::Unknown,
-        }
+        let c = self.c;
+        let b = self.b;
+        let a = self.a;
+        [c.number(), b.number(), a.number()]
     }
 
     pub fn with(self, place: u32, known: Known) -> Sources

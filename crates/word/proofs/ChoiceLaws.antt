@@ -19,15 +19,27 @@ pub if-when-false : {Answer : Type 0} (test : Bool) (answer this other : Answer)
     → test ≡ false → answer ≡ other → answer ≡ (if test then this else other)
 if-when-false test answer this other fails same = rw fails same
 
-and-left : (a b : Bool) → T (a && b) → T a
-and-left true b both = tt
+T-left : (a b : Bool) → T (a && b) → T a
+T-left true b both = tt
+T-left false b both = both
+
+T-right : (a b : Bool) → T (a && b) → T b
+T-right true b both = both
+T-right false b both = absurd both
+
+-- both of two tests hold, or neither does
+pub and-left : (a b : Bool) → (a && b) ≡ true → a ≡ true
+and-left true b both = refl
 and-left false b both = both
 
-and-right : (a b : Bool) → T (a && b) → T b
+pub and-right : (a b : Bool) → (a && b) ≡ true → b ≡ true
 and-right true b both = both
-and-right false b both = absurd both
+and-right false b both = let n : _≡_ {A = ℕ} 0 1 = cc in absurd (omega arith)
 
--- neither of two tests holds
+pub and-none : (a : Bool) → (a && false) ≡ false
+and-none true = refl
+and-none false = refl
+
 pub or-left : (a b : Bool) → (a || b) ≡ false → a ≡ false
 or-left true b neither = neither
 or-left false b neither = refl
@@ -40,11 +52,11 @@ or-right false b neither = neither
 pub every-at : (test : ℕ → Bool) (n : ℕ) → T (every test n) → (k : ℕ) → k < n → T (test k)
 every-at test zero all k inside = absurd (not-suc-le-zero inside)
 every-at test (suc n) all k inside =
-    by-place (λ earlier. every-at test n (and-right (test n) (every test n) all) k earlier) (decLt k n)
+    by-place (λ earlier. every-at test n (T-right (test n) (every test n) all) k earlier) (decLt k n)
   where
     by-place : (k < n → T (test k)) → Dec (k < n) → T (test k)
     by-place below (yes earlier) = below earlier
-    by-place below (no later) = let same : k ≡ n = omega arith in rw same (and-left (test n) (every test n) all)
+    by-place below (no later) = let same : k ≡ n = omega arith in rw same (T-left (test n) (every test n) all)
 
 -- a turn of a loop that tries the numbers from n down
 pub every-turn : (test : ℕ → Bool) (n : ℕ) (whole : Bool)

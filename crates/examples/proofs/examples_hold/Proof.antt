@@ -26,8 +26,8 @@ use Rattle.depends.specs.Depends.{changes, counts}
 use Rattle.knowledge.specs.Known.{number, isKnown}
 use Rattle.knowledge.specs.Knowledge.{numbers}
 use Rattle.settled.specs.Words.{rowStores, blitStores, settledEnd, settledWords}
-use Rattle.folder.specs.Learn.{written, mayUse, forgetPointer, forgetSource, forgetUsed, forgotten, movedD}
-use Rattle.folder.specs.Settled.{controlsKnown, onlyDUsed, sourcesKnown, settled}
+use Rattle.settled.specs.Learn.{written, mayUse, forgetPointer, forgetSource, forgetUsed, forgotten, movedD}
+use Rattle.settled.specs.Settled.{controlsKnown, onlyDUsed, sourcesKnown, settled}
 use Rattle.folder.specs.Fold.{folded, learned, piece, learnedAfter, foldSteps, foldFrom, fold}
 use Rattle.examples.specs.Examples.{examples}
 use Rattle.examples.proofs.examples_hold.Statement.{statement}

@@ -1,107 +1,118 @@
--- `Knowledge::numbers` meets its contract: from the end down, the file's words are those of the definition.
-use mathlib.Core.Path.{_≡_, refl, sym, ap, _∙_}
-use Prim.Native.Nat.{ℕ, zero, suc, _-_, _<_, _≤_}
-use native.Mathlib.Numerals.{sub-one}
-use native.Mathlib.Omega.{arith}
-use mathlib.Core.List.{List, _∷_}
-use lib.ListN.{length, getD, set, drop, length-set}
-use lib.Seq.{drop-cons, drop-set-lt, getD-set-same}
-use Rattle.file.specs.File.{flag, fileLength}
-use Rattle.knowledge.specs.declared.types.Known.{Known}
-use Rattle.knowledge.specs.declared.types.Known.the-variants.{Unknown}
-use Rattle.knowledge.specs.declared.types.Knowledge.{Knowledge}
-use Rattle.knowledge.specs.Known.{number}
-use Rattle.knowledge.specs.Knowledge.{listed, numbers}
-use Rattle.knowledge.proofs.KnowledgeLaws.{listed-length, numbers-length, numbers-at}
+-- `Knowledge::numbers` meets its contract: the numbers part by part, then the flag's place.
+use Rattle.knowledge.proofs.KnowledgeLaws.{numbers-of-parts}
 use borrow.Author.Needs.{needs}
 use Rattle.knowledge.proofs.types.Knowledge.numbers.Statement.{statement}
 use Rattle.knowledge.proofs.types.Knowledge.numbers.Tie as tie
 
--- two lists that are the same after a place are the same from it on, once the word there is set
-drop-turn : (file whole : List ℕ) (left word : ℕ) → 0 < left → left ≤ length file → left ≤ length whole
-    → word ≡ getD whole (left - 1) 0 → drop left file ≡ drop left whole
-    → drop (left - 1) (set file (left - 1) word) ≡ drop (left - 1) whole
-drop-turn file whole zero word more inside within same rest = absurd (omega arith)
-drop-turn file whole (suc left) word more inside within same rest =
-    let here : word ≡ getD whole left 0 = rw sub-one at same in
-    rw sub-one
-    (drop-cons (set file left word) left 0 (rw length-set inside)
-    ∙ ap (λ (x : ℕ). x ∷ drop (suc left) (set file left word)) (getD-set-same file left word 0 inside ∙ here)
-    ∙ ap (λ (l : List ℕ). getD whole left 0 ∷ l) (drop-set-lt (suc left) file left word (omega arith) ∙ rest)
-    ∙ sym (drop-cons whole left 0 within))
+numbers-requires : tie.Need-numbers-requires
+numbers-requires c κs = search needs
 
-numbers-turn : (self : Knowledge) (file : List ℕ) (left word : ℕ) (known : Known)
-    → 0 < left → left ≤ flag → length file ≡ fileLength
-    → known ≡ getD (listed self) (left - 1) Unknown → word ≡ number known
-    → drop left file ≡ drop left (numbers (listed self))
-    → drop (left - 1) (set file (left - 1) word) ≡ drop (left - 1) (numbers (listed self))
-numbers-turn self file left word known more inside long told same rest =
-    let whole : length (numbers (listed self)) ≡ fileLength = numbers-length (listed self) (listed-length self) in
-    drop-turn file (numbers (listed self)) left word more (omega arith) (omega arith)
-    (same ∙ ap number told ∙ sym (numbers-at (listed self) (left - 1) (listed-length self) (omega arith))) rest
+numbers-requires-2 : tie.Need-numbers-requires-2
+numbers-requires-2 c κs = search needs
 
-numbers-done : (file whole : List ℕ) (left : ℕ) → left ≤ 0 → drop left file ≡ drop left whole → file ≡ whole
-numbers-done file whole zero done same = same
-numbers-done file whole (suc left) done same = absurd (omega arith)
+numbers-requires-3 : tie.Need-numbers-requires-3
+numbers-requires-3 c κs = search needs
 
-abbrev Inv-loop : tie.InvT-loop
-Inv-loop self file₀ left₀ file left = (drop left file ≡ drop left (numbers (listed self))) × (left ≤ flag) × (length file ≡ fileLength)
+numbers-requires-4 : tie.Need-numbers-requires-4
+numbers-requires-4 c κs = search needs
 
-abbrev μ-loop : tie.MeasureT-loop
-μ-loop self file₀ left₀ file left = left
+numbers-requires-5 : tie.Need-numbers-requires-5
+numbers-requires-5 c κs = search needs
 
-loop-holds : tie.Need-loop-holds Inv-loop μ-loop
-unfolding numbers
-loop-holds c = (refl, search needs, search needs)
+numbers-requires-6 : tie.Need-numbers-requires-6
+numbers-requires-6 c κs = search needs
 
-sub-at : tie.Need-sub-at Inv-loop μ-loop
-sub-at c = search needs
+numbers-requires-7 : tie.Need-numbers-requires-7
+numbers-requires-7 c κs = search needs
 
-at-requires : tie.Need-at-requires Inv-loop μ-loop
-at-requires c κs = search needs
+array-read-t15 : tie.Need-array-read-t15
+array-read-t15 c = search needs
 
-number-requires : tie.Need-number-requires Inv-loop μ-loop
-number-requires c κs = search needs
+array-read-t18 : tie.Need-array-read-t18
+array-read-t18 c = search needs
 
-sub-file : tie.Need-sub-file Inv-loop μ-loop
-sub-file c = search needs
+array-read-t21 : tie.Need-array-read-t21
+array-read-t21 c = search needs
 
-cast-file : tie.Need-cast-file Inv-loop μ-loop
-cast-file c = search needs
+array-read-t24 : tie.Need-array-read-t24
+array-read-t24 c = search needs
 
-mul-file : tie.Need-mul-file Inv-loop μ-loop
-mul-file c = search needs
+array-read-t27 : tie.Need-array-read-t27
+array-read-t27 c = search needs
 
-array-write-file : tie.Need-array-write-file Inv-loop μ-loop
-array-write-file c = search needs
+array-read-t30 : tie.Need-array-read-t30
+array-read-t30 c = search needs
 
-sub-left : tie.Need-sub-left Inv-loop μ-loop
-sub-left c = search needs
+array-read-t33 : tie.Need-array-read-t33
+array-read-t33 c = search needs
 
-loop-less : tie.Need-loop-less Inv-loop μ-loop
-loop-less c = search needs
+array-read-t36 : tie.Need-array-read-t36
+array-read-t36 c = search needs
 
-loop-again : tie.Need-loop-again Inv-loop μ-loop
-loop-again c = (search numbers-turn, search needs, search needs)
+array-read-t39 : tie.Need-array-read-t39
+array-read-t39 c = search needs
 
-returns : tie.Need-returns Inv-loop μ-loop
-returns c = search numbers-done
+array-read-t42 : tie.Need-array-read-t42
+array-read-t42 c = search needs
+
+array-read-t45 : tie.Need-array-read-t45
+array-read-t45 c = search needs
+
+array-read-t48 : tie.Need-array-read-t48
+array-read-t48 c = search needs
+
+array-read-t51 : tie.Need-array-read-t51
+array-read-t51 c = search needs
+
+array-read-t54 : tie.Need-array-read-t54
+array-read-t54 c = search needs
+
+array-read-t57 : tie.Need-array-read-t57
+array-read-t57 c = search needs
+
+array-read-t60 : tie.Need-array-read-t60
+array-read-t60 c = search needs
+
+array-read-t63 : tie.Need-array-read-t63
+array-read-t63 c = search needs
+
+array-read-t66 : tie.Need-array-read-t66
+array-read-t66 c = search needs
+
+array-read-t69 : tie.Need-array-read-t69
+array-read-t69 c = search needs
+
+returns : tie.Need-returns
+returns c = search numbers-of-parts
 
 pub numbers-spec : {M : Type 1} → statement M
 numbers-spec =
     tie.close
     (tie.spec
-    Inv-loop
-    μ-loop
-    loop-holds
-    sub-at
-    at-requires
-    number-requires
-    sub-file
-    cast-file
-    mul-file
-    array-write-file
-    sub-left
-    loop-less
-    loop-again
+    numbers-requires
+    numbers-requires-2
+    numbers-requires-3
+    numbers-requires-4
+    numbers-requires-5
+    numbers-requires-6
+    numbers-requires-7
+    array-read-t15
+    array-read-t18
+    array-read-t21
+    array-read-t24
+    array-read-t27
+    array-read-t30
+    array-read-t33
+    array-read-t36
+    array-read-t39
+    array-read-t42
+    array-read-t45
+    array-read-t48
+    array-read-t51
+    array-read-t54
+    array-read-t57
+    array-read-t60
+    array-read-t63
+    array-read-t66
+    array-read-t69
     returns)

@@ -1,0 +1,17 @@
+-- `settled::learn::written` meets its contract: the kept bits.
+use Rattle.settled.proofs.LearnLaws.{written-of-parts}
+use borrow.Author.Needs.{needs}
+use Rattle.settled.proofs.learn.written.Statement.{statement}
+use Rattle.settled.proofs.learn.written.Tie as tie
+
+kept-requires : tie.Need-kept-requires
+kept-requires c κs = search needs
+
+with-requires : tie.Need-with-requires
+with-requires c κs = search needs
+
+returns : tie.Need-returns
+returns c = search written-of-parts
+
+pub written-spec : {M : Type 1} → statement M
+written-spec = tie.close (tie.spec kept-requires with-requires returns)

@@ -1,0 +1,21 @@
+-- `settled::settle::small` meets its contract: the product of height and width, which fits.
+use Rattle.blit.proofs.RefusalLaws.{words-fit}
+use Rattle.settled.proofs.SettledLaws.{small-of-parts}
+use borrow.Author.Needs.{needs}
+use Rattle.settled.proofs.settle.small.Statement.{statement}
+use Rattle.settled.proofs.settle.small.Tie as tie
+
+height-requires : tie.Need-height-requires
+height-requires c κs = search needs
+
+width-requires : tie.Need-width-requires
+width-requires c κs = search needs
+
+mul-result : tie.Need-mul-result
+mul-result c = search words-fit
+
+returns : tie.Need-returns
+returns c = search small-of-parts
+
+pub small-spec : {M : Type 1} → statement M
+small-spec = tie.close (tie.spec height-requires width-requires mul-result returns)

@@ -7,7 +7,8 @@ use native.Mathlib.Omega.{arith}
 use lib.ListN.{length, set, length-set}
 use Rattle.word.specs.Choice.{if_then_else_}
 use Rattle.area.specs.declared.types.Flow.{Flow}
-use Rattle.area.specs.Flow.{State, state, withStored}
+use Rattle.area.specs.Flow.{State, state}
+use Rattle.area.specs.With.{withStored}
 use Rattle.area.specs.Store.{store}
 
 pub store-when-used : (used : Bool) (word : ℕ) (memory after : List ℕ) (flow : Flow)

@@ -9,7 +9,7 @@ use Rattle.word.specs.declared.types.Pointer.{Pointer}
 use Rattle.word.specs.Choice.{if_then_else_}
 use Rattle.area.specs.declared.types.Uses.{Uses}
 use Rattle.area.specs.declared.types.Flow.{Flow}
-use Rattle.area.specs.Flow.{withSources}
+use Rattle.area.specs.With.{withSources}
 
 unfoldable pub fetched : (used : Bool) → (memory : List ℕ) → Pointer → (source : ℕ) → ℕ
 fetched used memory pointer source = if used then getD memory (pointer .word) 0 else source

@@ -10,7 +10,7 @@ use Rattle.word.specs.Fill.{filled}
 use Rattle.area.specs.declared.types.Setup.{Setup}
 use Rattle.area.specs.declared.types.Flow.{Flow}
 use Rattle.area.specs.declared.types.Finished.{Finished}
-use Rattle.area.specs.Flow.{withEarlier, withCarry, withAllzero}
+use Rattle.area.specs.With.{withEarlier, withCarry, withAllzero}
 
 -- A as masked
 unfoldable pub maskedA : Setup → (first last : Bool) → Flow → ℕ

@@ -1,14 +1,13 @@
 -- Paper 01, "The area blit": what changes as a blit goes on, how it starts, and memory beside it.
 use Prim.Native.Nat.{ℕ, _+_}
-use mathlib.Core.Bool.{Bool, true}
+use mathlib.Core.Bool.{true}
 use mathlib.Core.List.{List}
 use lib.ListN.{getD}
 use Rattle.word.specs.declared.types.Pointer.{Pointer}
 use Rattle.word.specs.Pointer.{pointer}
-use Rattle.file.specs.File.{pointerA, pointerB, pointerC, pointerD, sourceA, sourceB, sourceC}
+use Rattle.file.specs.Places.{pointerA, pointerB, pointerC, pointerD, sourceA, sourceB, sourceC}
 use Rattle.area.specs.declared.types.Pointers.{Pointers}
 use Rattle.area.specs.declared.types.Sources.{Sources}
-use Rattle.area.specs.declared.types.Earlier.{Earlier}
 use Rattle.area.specs.declared.types.Flow.{Flow}
 
 -- the pointer whose high half stands at a place of the file
@@ -47,70 +46,3 @@ pub record State : Type 0 where
 
 abbrev pub state : (memory : List ℕ) → Flow → State
 state memory flow = record { memory = memory; flow = flow }
-
--- a flow with one part changed
-abbrev pub withPointers : Pointers → Flow → Flow
-withPointers new flow =
-    record {
-      pointers = new;
-      sources = flow .sources;
-      earlier = flow .earlier;
-      carry = flow .carry;
-      allzero = flow .allzero;
-      stored = flow .stored;
-    }
-
-abbrev pub withSources : Sources → Flow → Flow
-withSources new flow =
-    record {
-      pointers = flow .pointers;
-      sources = new;
-      earlier = flow .earlier;
-      carry = flow .carry;
-      allzero = flow .allzero;
-      stored = flow .stored;
-    }
-
-abbrev pub withEarlier : Earlier → Flow → Flow
-withEarlier new flow =
-    record {
-      pointers = flow .pointers;
-      sources = flow .sources;
-      earlier = new;
-      carry = flow .carry;
-      allzero = flow .allzero;
-      stored = flow .stored;
-    }
-
-abbrev pub withCarry : ℕ → Flow → Flow
-withCarry new flow =
-    record {
-      pointers = flow .pointers;
-      sources = flow .sources;
-      earlier = flow .earlier;
-      carry = new;
-      allzero = flow .allzero;
-      stored = flow .stored;
-    }
-
-abbrev pub withAllzero : Bool → Flow → Flow
-withAllzero new flow =
-    record {
-      pointers = flow .pointers;
-      sources = flow .sources;
-      earlier = flow .earlier;
-      carry = flow .carry;
-      allzero = new;
-      stored = flow .stored;
-    }
-
-abbrev pub withStored : ℕ → Flow → Flow
-withStored new flow =
-    record {
-      pointers = flow .pointers;
-      sources = flow .sources;
-      earlier = flow .earlier;
-      carry = flow .carry;
-      allzero = flow .allzero;
-      stored = new;
-    }

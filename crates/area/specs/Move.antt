@@ -8,7 +8,7 @@ use Rattle.word.specs.Pointer.{moved, passed}
 use Rattle.area.specs.declared.types.Uses.{Uses}
 use Rattle.area.specs.declared.types.Modulos.{Modulos}
 use Rattle.area.specs.declared.types.Flow.{Flow}
-use Rattle.area.specs.Flow.{withPointers}
+use Rattle.area.specs.With.{withPointers}
 
 -- "After a word each used channel's pointer moves one up, or one down if descending."
 unfoldable pub stepped : Direction → (used : Bool) → Pointer → Pointer

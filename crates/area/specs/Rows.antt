@@ -3,7 +3,8 @@ use Prim.Native.Nat.{ℕ, _+_}
 use lib.Dec.{eqb}
 use Rattle.word.specs.Repeat.{repeated}
 use Rattle.area.specs.declared.types.Setup.{Setup}
-use Rattle.area.specs.Flow.{State, state, withCarry}
+use Rattle.area.specs.Flow.{State, state}
+use Rattle.area.specs.With.{withCarry}
 use Rattle.area.specs.Fetch.{fetch}
 use Rattle.area.specs.Finish.{finish}
 use Rattle.area.specs.Store.{store}

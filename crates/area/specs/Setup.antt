@@ -10,7 +10,7 @@ use Rattle.word.specs.declared.types.Fill.the-variants.{Off, Inclusive, Exclusi
 use Rattle.word.specs.Choice.{if_then_else_}
 use Rattle.word.specs.Word.{bit, isSet}
 use Rattle.word.specs.Pointer.{half}
-use Rattle.file.specs.File.{control0, control1, firstMask, lastMask, moduloA, moduloB, moduloC, moduloD}
+use Rattle.file.specs.Places.{control0, control1, firstMask, lastMask, moduloA, moduloB, moduloC, moduloD}
 use Rattle.area.specs.declared.types.Uses.{Uses}
 use Rattle.area.specs.declared.types.Modulos.{Modulos}
 use Rattle.area.specs.declared.types.Masks.{Masks}

@@ -3,7 +3,8 @@ use Prim.Native.Nat.{ℕ, _+_}
 use mathlib.Core.Bool.{Bool}
 use lib.ListN.{set}
 use Rattle.word.specs.Choice.{if_then_else_}
-use Rattle.area.specs.Flow.{State, state, withStored}
+use Rattle.area.specs.Flow.{State, state}
+use Rattle.area.specs.With.{withStored}
 
 unfoldable pub store : (used : Bool) → (word : ℕ) → State → State
 store used word now =

@@ -1,7 +1,8 @@
 // Words row by row.
 ghost use mathlib.Core.Path.{_≡_};
 ghost use Prim.Native.Nat.{_+_, _*_, _<_, _≤_};
-ghost use Rattle.area.specs.Flow.{state, withCarry};
+ghost use Rattle.area.specs.Flow.{state};
+ghost use Rattle.area.specs.With.{withCarry};
 ghost use Rattle.area.specs.Rows.{oneWord, words, rowStart, rows};
 use crate::types::Flow;
 use crate::types::Setup;

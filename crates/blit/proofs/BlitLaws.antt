@@ -11,7 +11,7 @@ use Rattle.word.specs.Choice.{if_then_else_}
 use Rattle.word.specs.Pointer.{high, low}
 use Rattle.word.specs.Size.{height, width}
 use Rattle.word.proofs.SizeLaws.{height-le, width-le}
-use Rattle.file.specs.File.{flag}
+use Rattle.file.specs.Places.{flag}
 use Rattle.area.specs.declared.types.Setup.{Setup}
 use Rattle.area.specs.declared.types.Flow.{Flow}
 use Rattle.blit.specs.declared.types.Refusal.{Refusal}
@@ -25,7 +25,8 @@ use Rattle.area.specs.Flow.{State, state, start}
 use Rattle.area.specs.Rows.{rows}
 use Rattle.area.proofs.RowsLaws.{rows-count, rows-keep-length}
 use Rattle.blit.specs.Refusal.{stepRefusal, refusal, refusalNumber, verdictNumber}
-use Rattle.blit.specs.Blit.{Outcome, putPointer, putPointers, putSource, putSources, putFlag, finished, done, refused, answered, blitStep, blit, left}
+use Rattle.blit.specs.WriteBack.{putPointer, putPointers, putSource, putSources, putFlag}
+use Rattle.blit.specs.Blit.{Outcome, finished, done, refused, answered, blitStep, blit, left}
 
 pub putPointer-when-used : (used : Bool) (place up down : ℕ) (pointer : Pointer) (file one two : List ℕ)
     → used ≡ true → up ≡ high pointer → one ≡ set file place up → down ≡ low pointer → two ≡ set one (place + 1) down

@@ -20,7 +20,7 @@ use Rattle.word.specs.Pointer.{pointerEnd, moved, passed}
 use Rattle.word.specs.Size.{height, width}
 use Rattle.word.proofs.ChoiceLaws.{or-left, or-right}
 use Rattle.word.proofs.SizeLaws.{width-le}
-use Rattle.file.specs.File.{pointerD}
+use Rattle.file.specs.Places.{pointerD}
 use Rattle.area.specs.declared.types.Setup.{Setup}
 use Rattle.area.specs.Setup.{con0, con1, uses, shifts, direction, fill, masks, setup}
 use Rattle.area.specs.Flow.{State, state, pointers, start}
@@ -32,7 +32,8 @@ use Rattle.blit.specs.Touch.{rowTouches, afterRow, touches, among, leave
 use Rattle.blit.specs.Refusal.{refusal, leavesMemory}
 use Rattle.blit.specs.Blit.{finished, done, answered, blit}
 use Rattle.blit.specs.CopyOfOneRow.{plain, Copies, spot, CopyOfOneRow}
-use Rattle.blit.proofs.TouchLaws.{moves-are-one, moved-lt, leaves-of-append}
+use Rattle.word.proofs.PointerLaws.{moves-are-one, moved-lt}
+use Rattle.blit.proofs.TouchLaws.{leaves-of-append}
 use Rattle.blit.proofs.RefusalLaws.{refusal-of-none, leavesMemory-of-d, pointerAt-lt}
 use Rattle.blit.proofs.OnlyDChanges.{words-change-no-other}
 

@@ -17,7 +17,8 @@ use Rattle.word.specs.Pointer.{pointerEnd, pointer}
 use Rattle.word.specs.Size.{height, width}
 use Rattle.word.proofs.ChoiceLaws.{or-right}
 use Rattle.word.proofs.SizeLaws.{height-le, width-le, width-positive}
-use Rattle.file.specs.File.{accepted, pointerA, pointerB, pointerC, pointerD}
+use Rattle.file.specs.File.{accepted}
+use Rattle.file.specs.Places.{pointerA, pointerB, pointerC, pointerD}
 use Rattle.area.specs.declared.types.Setup.{Setup}
 use Rattle.area.specs.declared.types.Pointers.{Pointers}
 use Rattle.area.specs.Setup.{con1, line, setup}

@@ -1,7 +1,6 @@
--- Laws of the words that a channel touches: a row's moves are one move, and a row tells for the rest.
+-- Laws of the words that a channel touches: a row tells for the rest.
 use mathlib.Core.Path.{_≡_, refl, sym, ap, _∙_}
-use Prim.Native.Nat.{ℕ, zero, suc, _+_, _-_, _%_, _<_, _≤_}
-use native.Mathlib.Nat.{mod-eq-of-lt}
+use Prim.Native.Nat.{ℕ, zero, suc, _-_, _<_, _≤_}
 use native.Mathlib.Numerals.{sub-one}
 use native.Mathlib.Omega.{arith}
 use mathlib.Core.Bool.{Bool, true, false, _||_, and-false, or-assoc}
@@ -9,52 +8,11 @@ use mathlib.Core.List.{List, [], _∷_, _++_}
 use borrow.Author.Tests.{lt-leb}
 use lib.Dec.{leb}
 use Rattle.word.specs.declared.types.Direction.{Direction}
-use Rattle.word.specs.declared.types.Direction.the-variants.{Ascending, Descending}
 use Rattle.word.specs.declared.types.Pointer.{Pointer}
 use Rattle.word.specs.Repeat.{repeated}
 use Rattle.word.specs.Pointer.{pointerEnd, moved, passed}
+use Rattle.word.proofs.PointerLaws.{moves-are-one, passed-lt, moved-lt}
 use Rattle.blit.specs.Touch.{rowTouches, afterRow, touches, leaves, channelLeaves}
-
--- one word and so many more, upward and downward
-up-and-on : (word left : ℕ) → (word + suc left) % pointerEnd ≡ ((word + 1) % pointerEnd + left) % pointerEnd
-up-and-on word left = omega arith
-
-down-and-on : (word left : ℕ) → word < pointerEnd → suc left < pointerEnd
-    → (word + (pointerEnd - suc left)) % pointerEnd ≡ ((word + (pointerEnd - 1)) % pointerEnd + (pointerEnd - left)) % pointerEnd
-down-and-on word left small few = omega arith
-
--- width moves of one word are one move of width words
-pub moves-are-one : (direction : Direction) (width : ℕ) (pointer : Pointer) → pointer .word < pointerEnd → width < pointerEnd
-    → passed direction width pointer ≡ repeated (λ _. moved direction) width pointer
-unfolding repeated passed moved
-moves-are-one Ascending zero pointer small few = ap (λ (word : ℕ). record { word = word }) (omega arith)
-moves-are-one Ascending (suc width) pointer small few =
-    let whole : suc width % pointerEnd ≡ suc width = mod-eq-of-lt few in
-    let rest : width % pointerEnd ≡ width = mod-eq-of-lt (omega arith) in
-    ap (λ (word : ℕ). record { word = word })
-    (ap (λ (by : ℕ). (pointer .word + by) % pointerEnd) whole
-    ∙ up-and-on (pointer .word) width
-    ∙ ap (λ (by : ℕ). ((pointer .word + 1) % pointerEnd + by) % pointerEnd) (sym rest))
-    ∙ moves-are-one Ascending width (record { word = (pointer .word + 1) % pointerEnd }) (omega arith) (omega arith)
-moves-are-one Descending zero pointer small few = ap (λ (word : ℕ). record { word = word }) (omega arith)
-moves-are-one Descending (suc width) pointer small few =
-    let whole : suc width % pointerEnd ≡ suc width = mod-eq-of-lt few in
-    let rest : width % pointerEnd ≡ width = mod-eq-of-lt (omega arith) in
-    ap (λ (word : ℕ). record { word = word })
-    (ap (λ (by : ℕ). (pointer .word + (pointerEnd - by)) % pointerEnd) whole
-    ∙ down-and-on (pointer .word) width small few
-    ∙ ap (λ (by : ℕ). ((pointer .word + (pointerEnd - 1)) % pointerEnd + (pointerEnd - by)) % pointerEnd) (sym rest))
-    ∙ moves-are-one Descending width (record { word = (pointer .word + (pointerEnd - 1)) % pointerEnd }) (omega arith) (omega arith)
-
-pub passed-lt : (direction : Direction) (words : ℕ) (pointer : Pointer) → passed direction words pointer .word < pointerEnd
-unfolding passed
-passed-lt Ascending words pointer = omega arith
-passed-lt Descending words pointer = omega arith
-
-pub moved-lt : (direction : Direction) (pointer : Pointer) → moved direction pointer .word < pointerEnd
-unfolding moved
-moved-lt Ascending pointer = omega arith
-moved-lt Descending pointer = omega arith
 
 pub afterRow-of-moves : (direction : Direction) (width modulo : ℕ) (pointer end next : Pointer) → pointer .word < pointerEnd → width ≤ 64
     → end ≡ passed direction width pointer → next ≡ passed direction modulo end

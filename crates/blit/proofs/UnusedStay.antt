@@ -11,7 +11,7 @@ use Rattle.word.specs.declared.types.Pointer.{Pointer}
 use Rattle.word.specs.Choice.{if_then_else_}
 use Rattle.word.specs.Pointer.{high, low}
 use Rattle.word.proofs.ChoiceLaws.{or-left, or-right}
-use Rattle.file.specs.File.{pointerA, pointerB, pointerC, pointerD, sourceA, sourceB, sourceC, flag}
+use Rattle.file.specs.Places.{pointerA, pointerB, pointerC, pointerD, sourceA, sourceB, sourceC, flag}
 use Rattle.area.specs.declared.types.Uses.{Uses}
 use Rattle.area.specs.declared.types.Pointers.{Pointers}
 use Rattle.area.specs.declared.types.Sources.{Sources}
@@ -19,7 +19,8 @@ use Rattle.area.specs.Setup.{setup}
 use Rattle.area.specs.Flow.{State}
 use Rattle.blit.specs.Touch.{among}
 use Rattle.blit.specs.Refusal.{refusal}
-use Rattle.blit.specs.Blit.{putPointer, putPointers, putSource, putSources, putFlag, finished, done, refused, answered, blit}
+use Rattle.blit.specs.WriteBack.{putPointer, putPointers, putSource, putSources, putFlag}
+use Rattle.blit.specs.Blit.{finished, done, refused, answered, blit}
 use Rattle.blit.specs.UnusedStay.{pointerPlaces, sourcePlaces, changeable, UnusedStay}
 use Rattle.blit.proofs.OnlyDChanges.{among-of-append}
 

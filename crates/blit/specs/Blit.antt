@@ -1,22 +1,16 @@
 -- Paper 01, "Jobs": "The blit called alone, with memory, register file and size, gives [its number] .. and the count".
-use Prim.Native.Nat.{ℕ, _+_}
-use mathlib.Core.Bool.{Bool}
+use Prim.Native.Nat.{ℕ}
 use mathlib.Core.List.{List}
 use lib.Dec.{eqb}
-use lib.ListN.{length, set}
-use Rattle.word.specs.declared.types.Pointer.{Pointer}
+use lib.ListN.{length}
 use Rattle.word.specs.Choice.{if_then_else_}
-use Rattle.word.specs.Pointer.{high, low}
 use Rattle.word.specs.Size.{height, width}
-use Rattle.file.specs.File.{pointerA, pointerB, pointerC, pointerD, sourceA, sourceB, sourceC, flag}
-use Rattle.area.specs.declared.types.Uses.{Uses}
-use Rattle.area.specs.declared.types.Pointers.{Pointers}
-use Rattle.area.specs.declared.types.Sources.{Sources}
 use Rattle.blit.specs.declared.types.Answer.{Answer}
 use Rattle.blit.specs.declared.types.Answer.the-variants.{Done, Refused}
 use Rattle.area.specs.Setup.{setup}
 use Rattle.area.specs.Flow.{State, state, start}
 use Rattle.area.specs.Rows.{rows}
+use Rattle.blit.specs.WriteBack.{putPointers, putSources, putFlag}
 use Rattle.blit.specs.Refusal.{stepRefusal, refusal, refusalNumber}
 
 -- what a blit gives and leaves
@@ -25,32 +19,6 @@ pub record Outcome : Type 0 where
   pub stored : ℕ
   pub memory : List ℕ
   pub file : List ℕ
-
--- "Unused pointers stay"; a used one is written to its two registers
-unfoldable pub putPointer : (used : Bool) → (place : ℕ) → Pointer → (file : List ℕ) → List ℕ
-putPointer used place pointer file =
-    if used then set (set file place (high pointer)) (place + 1) (low pointer) else file
-
-unfoldable pub putPointers : Uses → Pointers → (file : List ℕ) → List ℕ
-putPointers uses pointers file =
-    putPointer (uses .d) pointerD (pointers .d)
-    (putPointer (uses .c) pointerC (pointers .c)
-    (putPointer (uses .b) pointerB (pointers .b)
-    (putPointer (uses .a) pointerA (pointers .a) file)))
-
--- "The data register of each used source holds the last word it fetched"
-unfoldable pub putSource : (used : Bool) → (place word : ℕ) → (file : List ℕ) → List ℕ
-putSource used place word file = if used then set file place word else file
-
-unfoldable pub putSources : Uses → Sources → (file : List ℕ) → List ℕ
-putSources uses sources file =
-    putSource (uses .c) sourceC (sources .c)
-    (putSource (uses .b) sourceB (sources .b)
-    (putSource (uses .a) sourceA (sources .a) file))
-
--- "The zero flag becomes 1 exactly when every final word was zero"
-unfoldable pub putFlag : (allzero : Bool) → (file : List ℕ) → List ℕ
-putFlag allzero file = set file flag (if allzero then 1 else 0)
 
 -- the blit, all rows done
 unfoldable pub finished : (memory file : List ℕ) → (size : ℕ) → State

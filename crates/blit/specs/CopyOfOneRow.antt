@@ -10,7 +10,7 @@ use Rattle.word.specs.declared.types.Pointer.{Pointer}
 use Rattle.word.specs.Repeat.{repeated}
 use Rattle.word.specs.Pointer.{moved}
 use Rattle.word.specs.Size.{height, width}
-use Rattle.file.specs.File.{firstMask, lastMask}
+use Rattle.file.specs.Places.{firstMask, lastMask}
 use Rattle.area.specs.Setup.{con0, con1}
 use Rattle.area.specs.Flow.{start}
 use Rattle.blit.specs.Refusal.{refusal}

@@ -1,6 +1,7 @@
 // The area blit: set-up and flow, one word, rows, refusals, and the blit itself.
 pub mod answer;
 mod done;
+pub mod memory;
 mod refuse;
 mod registers;
 pub mod theorems;

@@ -1,17 +1,11 @@
 // The refusals of a blit, in the order of the paper.
 ghost use mathlib.Core.Path.{_≡_};
 ghost use Prim.Native.Nat.{_<_};
-ghost use Rattle.blit.specs.Refusal.{memorySize, noWords, bothFills, fillUpward, leavesMemory, stepRefusal, refusal, verdictNumber};
+ghost use Rattle.blit.specs.Refusal.{noWords, bothFills, fillUpward, leavesMemory, stepRefusal, refusal, verdictNumber};
 use crate::types::Refusal;
 use crate::types::Verdict;
 use area::types::Pointers;
 use area::types::Setup;
-
-fn memory_size(n: usize) -> bool
-    ensures { λ bad. ⌜ bad ≡ memorySize n ⌝ }
-{
-    (n == 0) | (262144 < n)
-}
 
 fn no_words(size: u16) -> bool
     ensures { λ none. ⌜ none ≡ noWords size ⌝ }
@@ -87,7 +81,7 @@ pub fn step_refusal(n: usize, file: &[u16], size: u16) -> Verdict
 pub fn refusal(n: usize, file: &[u16], size: u16) -> Verdict
     ensures { λ verdict. ⌜ verdictNumber verdict ≡ refusal n (now (file .entry)) size ⌝ }
 {
-    if memory_size(n) {
+    if crate::memory::memory_size(n) {
         return Verdict::Refused(Refusal::MemorySize);
     }
     if !file::accepted(file) {

@@ -1,7 +1,7 @@
 // What a blit that is done writes back to the register file.
 ghost use mathlib.Core.Path.{_≡_};
 ghost use Prim.Native.Nat.{_<_};
-ghost use Rattle.blit.specs.Blit.{putPointer, putPointers, putSource, putSources, putFlag};
+ghost use Rattle.blit.specs.WriteBack.{putPointer, putPointers, putSource, putSources, putFlag};
 use area::types::Pointers;
 use area::types::Sources;
 use area::types::Uses;

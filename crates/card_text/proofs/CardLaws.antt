@@ -11,7 +11,8 @@ use Rattle.runner.specs.declared.types.Answer.{Answer}
 use Rattle.runner.specs.Run.{End, ended, machine, run}
 use Rattle.runner.specs.Answer.{answerNumber, answerPlace, answerStored, left}
 use Rattle.card_text.specs.declared.types.Ram.{Ram}
-use Rattle.card_text.specs.Reading.{ramWords, ramEnd, ramLine, badFrom, badLine}
+use Rattle.card_text.specs.RamLine.{ramWords, ramEnd, ramLine}
+use Rattle.card_text.specs.Reading.{badFrom, badLine}
 use Rattle.card_text.specs.Ram.{ramRead}
 use Rattle.card_text.specs.Job.{counted, zeros, writeOrder, writes, cardRun}
 use Rattle.card_text.specs.Printing.{printedRun, printedBad}

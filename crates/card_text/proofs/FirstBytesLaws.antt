@@ -12,7 +12,8 @@ use lib.Seq.{length-take-le, take-all, drop-append-le, getD-drop}
 use Rattle.word.specs.Choice.{if_then_else_}
 use Rattle.word.proofs.ChoiceLaws.{and-left, and-right}
 use Rattle.card_text.specs.Text.{newline, byte, decimalDigit}
-use Rattle.card_text.specs.Reading.{digits, spelled, ramWords, ramEnd, ramKey, ramLine, keyAt, wordAt, keyLine, badFrom, badLine}
+use Rattle.card_text.specs.RamLine.{digits, spelled, ramWords, ramEnd, ramKey, ramLine}
+use Rattle.card_text.specs.Reading.{keyAt, wordAt, keyLine, badFrom, badLine}
 use Rattle.card_text.specs.Card.{printed}
 use Rattle.card_text.specs.FirstBytesDecide.{FirstBytesDecide}
 use Rattle.card_text.proofs.TextLaws.{decimalDigit-ge}

@@ -7,7 +7,7 @@ use mathlib.Core.List.{List, [], _∷_, _++_}
 use borrow.Author.Tests.{le-leb, lt-leb, eq-eqb, ne-eqb}
 use lib.ListN.{length, getD, drop, drop-of-length-le}
 use lib.Seq.{drop-cons}
-use Rattle.file.specs.File.{pointerD, flag}
+use Rattle.file.specs.Places.{pointerD, flag}
 use Rattle.runner.specs.Run.{End, ended, machine}
 use Rattle.card_text.specs.Text.{newline, equals, colon, glyph, hex4, hex5, leading, decimal}
 use Rattle.card_text.specs.Printing.{answerIs, storedIs, zeroIs, dptIs, wordIs, lineIs, numberLine, dptLine, wordLine, changedWord, changed, printedRun, printedBad}

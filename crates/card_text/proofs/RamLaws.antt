@@ -14,7 +14,7 @@ use Rattle.word.specs.Choice.{if_then_else_}
 use Rattle.word.proofs.ChoiceLaws.{and-left, and-right, and-none}
 use Rattle.card_text.specs.declared.types.Ram.{Ram}
 use Rattle.card_text.specs.Text.{newline, byte, decimalDigit}
-use Rattle.card_text.specs.Reading.{digits, spelled, ramWords, ramEnd, ramKey, ramLine}
+use Rattle.card_text.specs.RamLine.{digits, spelled, ramWords, ramEnd, ramKey, ramLine}
 use Rattle.card_text.specs.Ram.{ramRead, ramEnded}
 
 -- the digits ended

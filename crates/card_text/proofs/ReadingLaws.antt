@@ -15,7 +15,9 @@ use Rattle.word.specs.Choice.{if_then_else_}
 use Rattle.word.proofs.ChoiceLaws.{and-left, and-right, and-none}
 use Rattle.card_text.specs.declared.types.Ram.{Ram}
 use Rattle.card_text.specs.Text.{newline, equals, byte, decimalDigit, hexDigit}
-use Rattle.card_text.specs.Reading.{digits, spelled, ramWords, ramEnd, ramKey, ramLine, letter, keyAt, wordAt, keyLine, badFrom}
+use Rattle.card_text.specs.RamLine.{digits, spelled, ramWords, ramEnd, ramKey, ramLine}
+use Rattle.card_text.specs.Keys.{letter}
+use Rattle.card_text.specs.Reading.{keyAt, wordAt, keyLine, badFrom}
 use Rattle.card_text.specs.Ram.{ramRead, ramEnded}
 
 pub ramKey-of-parts : (text : List ℕ) (a b c d : ℕ)

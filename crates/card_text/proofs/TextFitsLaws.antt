@@ -9,13 +9,15 @@ use borrow.Author.Tests.{eqb-true}
 use lib.Dec.{eqb, leb}
 use lib.ListN.{length, getD, length-append}
 use Rattle.word.specs.Choice.{if_then_else_}
-use Rattle.file.specs.File.{pointerD, flag}
+use Rattle.file.specs.Places.{pointerD, flag}
 use Rattle.job.specs.Steps.{stepsFrom}
 use Rattle.runner.specs.Run.{End, Machine, machine, startRefusal, run}
 use Rattle.runner.proofs.LengthLaws.{runSteps-keeps-memory-length}
 use Rattle.runner.proofs.StartLaws.{run-when-started, run-when-unstarted}
 use Rattle.card_text.specs.Text.{newline, colon, glyph, hex4, hex5, leading, decimal}
-use Rattle.card_text.specs.Reading.{ramWords, ramEnd, ramLine, keyCount, badFrom, badLine}
+use Rattle.card_text.specs.RamLine.{ramWords, ramEnd, ramLine}
+use Rattle.card_text.specs.Keys.{keyCount}
+use Rattle.card_text.specs.Reading.{badFrom, badLine}
 use Rattle.card_text.specs.Job.{counted, zeros, cardJob, cardRun}
 use Rattle.card_text.specs.Printing.{answerIs, storedIs, zeroIs, dptIs, wordIs, lineIs, numberLine, dptLine, wordLine, changedWord, changed, printedRun, printedBad}
 use Rattle.card_text.specs.Card.{printed}

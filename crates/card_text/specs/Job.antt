@@ -4,7 +4,8 @@ use mathlib.Core.List.{List, [], _∷_}
 use lib.ListN.{getD}
 use Rattle.runner.specs.Run.{End, run}
 use Rattle.card_text.specs.Text.{hexWord}
-use Rattle.card_text.specs.Reading.{ramWords, ramEnd, lineLength}
+use Rattle.card_text.specs.RamLine.{ramWords, ramEnd}
+use Rattle.card_text.specs.Keys.{lineLength}
 
 -- so many words that count up from a number
 unfoldable pub counted : (from many : ℕ) → List ℕ

@@ -4,7 +4,7 @@ use mathlib.Core.List.{List, [], _∷_, _++_}
 use lib.Dec.{eqb}
 use lib.ListN.{getD}
 use Rattle.word.specs.Choice.{if_then_else_}
-use Rattle.file.specs.File.{pointerD, flag}
+use Rattle.file.specs.Places.{pointerD, flag}
 use Rattle.runner.specs.Run.{End}
 use Rattle.card_text.specs.Text.{newline, equals, colon, hex4, hex5, decimal}
 

@@ -6,7 +6,7 @@ use lib.Dec.{eqb, leb}
 use Rattle.word.specs.Choice.{if_then_else_}
 use Rattle.card_text.specs.declared.types.Ram.{Ram}
 use Rattle.card_text.specs.Text.{newline, byte}
-use Rattle.card_text.specs.Reading.{ramWords, ramEnd, ramLine}
+use Rattle.card_text.specs.RamLine.{ramWords, ramEnd, ramLine}
 
 -- the number, and the place of the second line
 unfoldable pub ramRead : (text : List ℕ) → Ram

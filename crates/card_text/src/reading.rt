@@ -2,7 +2,9 @@
 ghost use mathlib.Core.Path.{_≡_};
 ghost use Prim.Native.Nat.{_*_, _+_, _-_, _<_, _≤_};
 ghost use lib.ListN.{length};
-ghost use Rattle.card_text.specs.Reading.{ramKey, letter, keyAt, wordAt, keyLine, badFrom};
+ghost use Rattle.card_text.specs.RamLine.{ramKey};
+ghost use Rattle.card_text.specs.Keys.{letter};
+ghost use Rattle.card_text.specs.Reading.{keyAt, wordAt, keyLine, badFrom};
 ghost use Rattle.card_text.specs.Ram.{ramRead, ramEnded};
 use crate::text::byte;
 use crate::text::decimal_digit;

@@ -12,8 +12,8 @@ use lib.Seq.{getD-set-other, getD-set-same, set-out}
 use Rattle.word.specs.declared.types.Pointer.{Pointer}
 use Rattle.word.specs.Choice.{if_then_else_}
 use Rattle.word.specs.Pointer.{high, low}
-use Rattle.file.specs.File.{flag, pointerD}
-use Rattle.blit.specs.Blit.{putPointer, putSource}
+use Rattle.file.specs.Places.{flag, pointerD}
+use Rattle.blit.specs.WriteBack.{putPointer, putSource}
 use Rattle.knowledge.specs.declared.types.Known.{Known}
 use Rattle.settled.specs.Learn.{forgetPointer, forgetSource}
 

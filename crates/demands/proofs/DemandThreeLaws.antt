@@ -10,7 +10,8 @@ use lib.ListN.{length, getD, set, replicate, length-set}
 use Rattle.word.specs.declared.types.Pointer.{Pointer}
 use Rattle.word.specs.Choice.{if_then_else_, given}
 use Rattle.word.specs.Pointer.{high, low}
-use Rattle.file.specs.File.{accepted, pointerD, flag, fileLength}
+use Rattle.file.specs.File.{accepted}
+use Rattle.file.specs.Places.{pointerD, flag, fileLength}
 use Rattle.area.specs.Setup.{setup}
 use Rattle.blit.specs.Refusal.{memorySize, stepRefusal}
 use Rattle.blit.specs.Blit.{refused, blitStep}

@@ -9,14 +9,16 @@ use lib.ListN.{length, getD, set, length-set}
 use Rattle.word.specs.declared.types.Pointer.{Pointer}
 use Rattle.word.specs.Choice.{if_then_else_}
 use Rattle.word.specs.Pointer.{high, low}
-use Rattle.file.specs.File.{kept, control0, pointerA, pointerB, pointerC, pointerD, sourceA, sourceB, sourceC, flag}
+use Rattle.file.specs.File.{kept}
+use Rattle.file.specs.Places.{control0, pointerA, pointerB, pointerC, pointerD, sourceA, sourceB, sourceC, flag}
 use Rattle.area.specs.declared.types.Uses.{Uses}
 use Rattle.area.specs.declared.types.Pointers.{Pointers}
 use Rattle.area.specs.declared.types.Sources.{Sources}
 use Rattle.area.specs.Setup.{con0, uses, setup}
 use Rattle.area.specs.Flow.{State, start}
 use Rattle.blit.specs.Refusal.{stepRefusal}
-use Rattle.blit.specs.Blit.{putPointer, putPointers, putSource, putSources, putFlag, finished, done, refused, answered, blitStep}
+use Rattle.blit.specs.WriteBack.{putPointer, putPointers, putSource, putSources, putFlag}
+use Rattle.blit.specs.Blit.{finished, done, refused, answered, blitStep}
 use Rattle.knowledge.specs.declared.types.Known.{Known}
 use Rattle.knowledge.specs.Known.{number, isKnown}
 use Rattle.settled.specs.Learn.{knownAt, written, mayUse, forgetPointer, forgetSource, forgetUsed, forgotten, movedD}

@@ -11,14 +11,15 @@ use Rattle.word.specs.Choice.{if_then_else_}
 use Rattle.word.specs.Repeat.{repeated}
 use Rattle.word.specs.Pointer.{pointerEnd, moved, passed}
 use Rattle.word.specs.Size.{height, width}
-use Rattle.file.specs.File.{pointerD}
+use Rattle.file.specs.Places.{pointerD}
 use Rattle.area.specs.declared.types.Setup.{Setup}
 use Rattle.area.specs.declared.types.Flow.{Flow}
 use Rattle.area.specs.Setup.{setup}
-use Rattle.area.specs.Flow.{State, state, withCarry, pointers, start}
+use Rattle.area.specs.Flow.{State, state, pointers, start}
+use Rattle.area.specs.With.{withCarry}
 use Rattle.area.specs.Rows.{finishedWord, oneWord, rowStart, oneRow}
 use Rattle.area.proofs.ChannelLaws.{oneWord-moves-d, oneRow-moves-d}
-use Rattle.blit.proofs.TouchLaws.{moved-lt, passed-lt}
+use Rattle.word.proofs.PointerLaws.{moved-lt, passed-lt}
 use Rattle.blit.proofs.RefusalLaws.{pointerAt-lt}
 use Rattle.job.specs.declared.types.Step.{Step}
 use Rattle.job.specs.declared.types.Read.{Read}

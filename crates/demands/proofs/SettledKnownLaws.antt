@@ -8,7 +8,7 @@ use borrow.Author.Tests.{eqb-true, not-true}
 use lib.Dec.{eqb, leb, lit<}
 use lib.ListN.{length, getD}
 use Rattle.word.specs.Size.{height, width}
-use Rattle.file.specs.File.{control0, control1, firstMask, lastMask, pointerD, moduloD, sourceA, sourceB, sourceC}
+use Rattle.file.specs.Places.{control0, control1, firstMask, lastMask, pointerD, moduloD, sourceA, sourceB, sourceC}
 use Rattle.area.specs.declared.types.Uses.{Uses}
 use Rattle.area.specs.Setup.{con0, uses, function, setup}
 use Rattle.blit.specs.Refusal.{stepRefusal}

@@ -13,7 +13,8 @@ use lib.Bits.{bitAnd, and-zero-r}
 use lib.ListN.{length, getD, List·getD-eq-default}
 use Rattle.word.specs.Choice.{if_then_else_, every}
 use Rattle.word.proofs.ChoiceLaws.{every-turn, every-when-fails}
-use Rattle.file.specs.File.{Register, registers, placeIn, place, keptBits, kept, accepted, fileLength}
+use Rattle.file.specs.File.{Register, registers, placeIn, place, keptBits, kept, accepted}
+use Rattle.file.specs.Places.{fileLength}
 
 -- the offset of each register, by place
 abbrev pub offsets : List Register → List ℕ

@@ -6,6 +6,7 @@ use lib.Dec.{eqb, ltb}
 use lib.Bits.{bitAnd}
 use lib.ListN.{length, getD}
 use Rattle.word.specs.Choice.{if_then_else_, every}
+use Rattle.file.specs.Places.{flag, fileLength}
 
 pub record Register : Type 0 where
   pub offset : ℕ
@@ -46,58 +47,6 @@ registers =
 -- the zero flag stands last, has no offset, and is "0 or 1"
 abbrev pub flagKept : ℕ
 flagKept = 0x0001
-
-abbrev pub fileLength : ℕ
-fileLength = 20
-
--- the places of the file by name; of a pointer, the place of its high half, which its low half follows
-abbrev pub control0 : ℕ
-control0 = 0
-
-abbrev pub control1 : ℕ
-control1 = 1
-
-abbrev pub firstMask : ℕ
-firstMask = 2
-
-abbrev pub lastMask : ℕ
-lastMask = 3
-
-abbrev pub pointerC : ℕ
-pointerC = 4
-
-abbrev pub pointerB : ℕ
-pointerB = 6
-
-abbrev pub pointerA : ℕ
-pointerA = 8
-
-abbrev pub pointerD : ℕ
-pointerD = 10
-
-abbrev pub moduloC : ℕ
-moduloC = 12
-
-abbrev pub moduloB : ℕ
-moduloB = 13
-
-abbrev pub moduloA : ℕ
-moduloA = 14
-
-abbrev pub moduloD : ℕ
-moduloD = 15
-
-abbrev pub sourceC : ℕ
-sourceC = 16
-
-abbrev pub sourceB : ℕ
-sourceB = 17
-
-abbrev pub sourceA : ℕ
-sourceA = 18
-
-abbrev pub flag : ℕ
-flag = 19
 
 -- the place of the first register with an offset; the list's length where none has it
 unfoldable pub placeIn : List Register → (offset : ℕ) → ℕ

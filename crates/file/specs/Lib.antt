@@ -1,2 +1,3 @@
 -- What a reader must believe of the register file.
+pub mod Places
 pub mod File

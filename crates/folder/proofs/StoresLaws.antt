@@ -18,7 +18,8 @@ use Rattle.area.specs.declared.types.Setup.{Setup}
 use Rattle.area.specs.declared.types.Flow.{Flow}
 use Rattle.area.specs.declared.types.Finished.{Finished}
 use Rattle.area.specs.Setup.{setup}
-use Rattle.area.specs.Flow.{State, state, start, withCarry}
+use Rattle.area.specs.Flow.{State, state, start}
+use Rattle.area.specs.With.{withCarry}
 use Rattle.area.specs.Fetch.{fetch}
 use Rattle.area.specs.Finish.{finish}
 use Rattle.area.specs.Move.{rowEnd}

@@ -3,7 +3,8 @@ use mathlib.Core.Path.{_≡_}
 use Prim.Native.Nat.{ℕ, _-_, _<_, _≤_}
 use native.Mathlib.Omega.{arith}
 use borrow.Author.Tests.{lt-ltb, le-ltb, le-leb, lt-leb, eq-eqb, ne-eqb}
-use Rattle.file.specs.File.{isRegister, place, flag}
+use Rattle.file.specs.File.{isRegister, place}
+use Rattle.file.specs.Places.{flag}
 use Rattle.job.specs.declared.types.Kind.{Kind}
 use Rattle.job.specs.Kind.{kind}
 

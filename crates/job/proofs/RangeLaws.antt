@@ -9,7 +9,8 @@ use lib.Dec.{eqb, leb}
 use lib.ListN.{drop}
 use Rattle.word.specs.Choice.{if_then_else_}
 use Rattle.word.specs.Pointer.{pointer, pointerEnd}
-use Rattle.file.specs.File.{isRegister, place, flag}
+use Rattle.file.specs.File.{isRegister, place}
+use Rattle.file.specs.Places.{flag}
 use Rattle.job.specs.declared.types.Kind.{Kind}
 use Rattle.job.specs.declared.types.Step.{Step}
 use Rattle.job.specs.declared.types.Read.{Read}

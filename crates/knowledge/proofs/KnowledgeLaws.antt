@@ -6,7 +6,7 @@ use native.Mathlib.Omega.{arith}
 use mathlib.Core.List.{List, [], _∷_, _++_, map}
 use lib.ListN.{length, getD, set, length-append, length-map, List·getD-append}
 use lib.Seq.{getD-set-same, getD-set-other, set-append-left}
-use Rattle.file.specs.File.{flag, fileLength}
+use Rattle.file.specs.Places.{flag, fileLength}
 use Rattle.knowledge.specs.declared.types.Known.{Known}
 use Rattle.knowledge.specs.declared.types.Known.the-variants.{Unknown}
 use Rattle.knowledge.specs.declared.types.Knowledge.{Knowledge}

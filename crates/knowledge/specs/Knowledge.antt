@@ -3,7 +3,7 @@
 use Prim.Native.Nat.{ℕ}
 use mathlib.Core.List.{List, [], _∷_, _++_, map}
 use lib.ListN.{replicate}
-use Rattle.file.specs.File.{flag}
+use Rattle.file.specs.Places.{flag}
 use Rattle.knowledge.specs.declared.types.Known.{Known}
 use Rattle.knowledge.specs.declared.types.Known.the-variants.{Unknown}
 use Rattle.knowledge.specs.declared.types.Controls.{Controls}

@@ -8,7 +8,8 @@ use borrow.Author.Tests.{le-leb, lt-leb}
 use lib.Dec.{eqb, leb}
 use lib.ListN.{length, set}
 use Rattle.word.specs.Choice.{if_then_else_}
-use Rattle.file.specs.File.{kept, flag}
+use Rattle.file.specs.File.{kept}
+use Rattle.file.specs.Places.{flag}
 use Rattle.blit.specs.Refusal as blits
 use Rattle.blit.specs.Blit.{Outcome, finished, done, refused, answered, blitStep}
 use Rattle.blit.specs.Refusal.{stepRefusal}

@@ -6,7 +6,8 @@ use mathlib.Core.List.{List, [], _∷_}
 use lib.Dec.{eqb, leb}
 use lib.ListN.{length, set, length-set}
 use Rattle.word.specs.Choice.{if_then_else_}
-use Rattle.file.specs.File.{kept, flag}
+use Rattle.file.specs.File.{kept}
+use Rattle.file.specs.Places.{flag}
 use Rattle.blit.specs.Blit.{Outcome, refused}
 use Rattle.blit.proofs.BlitLaws.{blitStep-keeps-memory-length, blitStep-keeps-file-length}
 use Rattle.job.specs.declared.types.Step.{Step}

@@ -5,7 +5,8 @@ use mathlib.Core.List.{List}
 use lib.Dec.{leb}
 use lib.ListN.{length, set}
 use Rattle.word.specs.Choice.{if_then_else_}
-use Rattle.file.specs.File.{kept, flag}
+use Rattle.file.specs.File.{kept}
+use Rattle.file.specs.Places.{flag}
 use Rattle.blit.specs.Blit.{Outcome, refused, blitStep}
 use Rattle.job.specs.declared.types.Step.{Step}
 use Rattle.job.specs.declared.types.Read.{Read}

@@ -9,7 +9,7 @@ use Rattle.word.specs.declared.types.Pointer.{Pointer}
 use Rattle.word.specs.Choice.{if_then_else_, given}
 use Rattle.word.specs.Pointer.{pointer, half}
 use Rattle.word.specs.Size.{height, width}
-use Rattle.file.specs.File.{firstMask, lastMask, pointerD, moduloD, sourceA, sourceB, sourceC}
+use Rattle.file.specs.Places.{firstMask, lastMask, pointerD, moduloD, sourceA, sourceB, sourceC}
 use Rattle.area.specs.declared.types.Uses.{Uses}
 use Rattle.area.specs.declared.types.Masks.{Masks}
 use Rattle.area.specs.declared.types.Setup.{Setup}

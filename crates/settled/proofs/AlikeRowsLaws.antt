@@ -12,7 +12,8 @@ use Rattle.area.specs.declared.types.Uses.{Uses}
 use Rattle.area.specs.declared.types.Setup.{Setup}
 use Rattle.area.specs.declared.types.Flow.{Flow}
 use Rattle.area.specs.declared.types.Finished.{Finished}
-use Rattle.area.specs.Flow.{State, state, withCarry, withStored}
+use Rattle.area.specs.Flow.{State, state}
+use Rattle.area.specs.With.{withCarry, withStored}
 use Rattle.area.specs.Finish.{finish}
 use Rattle.area.specs.Store.{store}
 use Rattle.area.specs.Move.{stepped, moveOn, turned, rowEnd}

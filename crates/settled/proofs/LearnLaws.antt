@@ -8,7 +8,8 @@ use lib.ListN.{length, getD, set}
 use Rattle.word.specs.declared.types.Pointer.{Pointer}
 use Rattle.word.specs.Pointer.{high, low}
 use Rattle.word.specs.Size.{height, width}
-use Rattle.file.specs.File.{kept, control0, pointerA, pointerB, pointerC, pointerD, sourceA, sourceB, sourceC}
+use Rattle.file.specs.File.{kept}
+use Rattle.file.specs.Places.{control0, pointerA, pointerB, pointerC, pointerD, sourceA, sourceB, sourceC}
 use Rattle.area.specs.declared.types.Uses.{Uses}
 use Rattle.area.specs.declared.types.Setup.{Setup}
 use Rattle.area.specs.declared.types.Flow.{Flow}

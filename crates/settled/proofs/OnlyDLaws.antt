@@ -15,7 +15,8 @@ use Rattle.area.specs.declared.types.Setup.{Setup}
 use Rattle.area.specs.declared.types.Sources.{Sources}
 use Rattle.area.specs.declared.types.Flow.{Flow}
 use Rattle.area.specs.declared.types.Finished.{Finished}
-use Rattle.area.specs.Flow.{State, state, withSources, withCarry}
+use Rattle.area.specs.Flow.{State, state}
+use Rattle.area.specs.With.{withSources, withCarry}
 use Rattle.area.specs.Fetch.{fetched, fetch}
 use Rattle.area.specs.Finish.{finish}
 use Rattle.area.specs.Store.{store}

@@ -16,12 +16,14 @@ use Rattle.word.proofs.ChoiceLaws.{or-left, or-right}
 use Rattle.area.specs.declared.types.Setup.{Setup}
 use Rattle.area.specs.declared.types.Flow.{Flow}
 use Rattle.area.specs.declared.types.Finished.{Finished}
-use Rattle.area.specs.Flow.{State, state, withCarry}
+use Rattle.area.specs.Flow.{State, state}
+use Rattle.area.specs.With.{withCarry}
 use Rattle.area.specs.Rows.{finishedWord, oneWord, words, rowStart, oneRow, rows}
 use Rattle.area.proofs.RowsLaws.{oneWord-keeps-length, oneRow-keeps-length}
 use Rattle.area.proofs.ChannelLaws.{oneWord-stores, oneWord-moves-d, oneRow-moves-d}
 use Rattle.blit.specs.Touch.{rowTouches, afterRow, touches, leaves}
-use Rattle.blit.proofs.TouchLaws.{moved-lt, passed-lt, leaves-of-append}
+use Rattle.word.proofs.PointerLaws.{moved-lt, passed-lt}
+use Rattle.blit.proofs.TouchLaws.{leaves-of-append}
 use Rattle.runner.specs.Run.{Machine, machine, End, runFrom}
 use Rattle.settled.specs.Words.{storeWords, rowStores, blitStores}
 use Rattle.settled.proofs.StoreLaws.{run-of-store}

@@ -9,7 +9,7 @@ use lib.Dec.{eqb, leb}
 use lib.ListN.{getD}
 use Rattle.word.specs.Size.{height, width}
 use Rattle.word.proofs.ChoiceLaws.{and-none}
-use Rattle.file.specs.File.{control0, control1, firstMask, lastMask, pointerD, moduloD, sourceA, sourceB, sourceC}
+use Rattle.file.specs.Places.{control0, control1, firstMask, lastMask, pointerD, moduloD, sourceA, sourceB, sourceC}
 use Rattle.area.specs.declared.types.Uses.{Uses}
 use Rattle.area.specs.Setup.{con0, uses, function}
 use Rattle.blit.specs.declared.types.Refusal.{Refusal}

@@ -12,7 +12,8 @@ use lib.ListN.{length, set}
 use Rattle.word.specs.declared.types.Pointer.{Pointer}
 use Rattle.word.specs.Choice.{if_then_else_}
 use Rattle.word.specs.Pointer.{pointerEnd, pointer, high, low}
-use Rattle.file.specs.File.{registers, placeIn, place, isRegister, keptBits, kept, pointerD, flag}
+use Rattle.file.specs.File.{registers, placeIn, place, isRegister, keptBits, kept}
+use Rattle.file.specs.Places.{pointerD, flag}
 use Rattle.blit.specs.Blit.{refused}
 use Rattle.job.specs.declared.types.Kind.{Kind}
 use Rattle.job.specs.declared.types.Step.{Step}

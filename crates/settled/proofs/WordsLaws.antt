@@ -10,7 +10,7 @@ use Rattle.word.specs.declared.types.Pointer.{Pointer}
 use Rattle.word.specs.Choice.{if_then_else_}
 use Rattle.word.specs.Pointer.{high, low}
 use Rattle.word.specs.Size.{height, width}
-use Rattle.file.specs.File.{pointerA, pointerB, pointerC, pointerD, sourceA, sourceB, sourceC, flag}
+use Rattle.file.specs.Places.{pointerA, pointerB, pointerC, pointerD, sourceA, sourceB, sourceC, flag}
 use Rattle.area.specs.declared.types.Uses.{Uses}
 use Rattle.area.specs.declared.types.Pointers.{Pointers}
 use Rattle.area.specs.declared.types.Sources.{Sources}
@@ -19,7 +19,8 @@ use Rattle.area.specs.Setup.{setup}
 use Rattle.area.specs.Flow.{State, state, pointers, start}
 use Rattle.area.specs.Rows.{rows}
 use Rattle.blit.specs.Refusal.{stepRefusal}
-use Rattle.blit.specs.Blit.{Outcome, putPointer, putPointers, putSource, putSources, putFlag, finished, done, answered, blitStep}
+use Rattle.blit.specs.WriteBack.{putPointer, putPointers, putSource, putSources, putFlag}
+use Rattle.blit.specs.Blit.{Outcome, finished, done, answered, blitStep}
 use Rattle.blit.proofs.RefusalLaws.{stepRefusal-of-none, leavesMemory-of-d, pointerAt-lt}
 use Rattle.runner.specs.Run.{Machine, machine, after, End, ended, runFrom}
 use Rattle.settled.specs.Words.{pointerWords, flagWords, blitStores, settledEnd, settledWords}

@@ -4,7 +4,7 @@ use mathlib.Core.Bool.{Bool, not, _&&_, _||_}
 use mathlib.Core.List.{List}
 use lib.Dec.{eqb, leb}
 use Rattle.word.specs.Size.{height, width}
-use Rattle.file.specs.File.{control0, control1, firstMask, lastMask, pointerD, moduloD, sourceA, sourceB, sourceC}
+use Rattle.file.specs.Places.{control0, control1, firstMask, lastMask, pointerD, moduloD, sourceA, sourceB, sourceC}
 use Rattle.area.specs.Setup.{con0, uses, function}
 use Rattle.blit.specs.Refusal.{stepRefusal}
 use Rattle.depends.specs.Depends.{counts}

@@ -1,10 +1,12 @@
--- Laws of pointers.
-use mathlib.Core.Path.{_≡_, refl}
-use Prim.Native.Nat.{ℕ, _+_, _-_, _%_, _<_}
+-- Laws of pointers: their moves, and that moves of one word are one move of so many.
+use mathlib.Core.Path.{_≡_, refl, sym, ap, _∙_}
+use Prim.Native.Nat.{ℕ, zero, suc, _+_, _-_, _%_, _<_}
+use native.Mathlib.Nat.{mod-eq-of-lt}
 use native.Mathlib.Omega.{arith}
 use Rattle.word.specs.declared.types.Direction.{Direction}
 use Rattle.word.specs.declared.types.Direction.the-variants.{Ascending, Descending}
 use Rattle.word.specs.declared.types.Pointer.{Pointer}
+use Rattle.word.specs.Repeat.{repeated}
 use Rattle.word.specs.Pointer.{pointerEnd, pointer, up, down, half, plus, minus, moved, passed}
 
 -- a word number may be bounded before it is moved
@@ -30,3 +32,44 @@ pub passed-when-descending : (direction : Direction) (words : ℕ) (from next : 
     → direction ≡ Descending → next ≡ minus words from → next ≡ passed direction words from
 unfolding passed
 passed-when-descending direction words from next way same = rw way same
+
+-- one word and so many more, upward and downward
+up-and-on : (word left : ℕ) → (word + suc left) % pointerEnd ≡ ((word + 1) % pointerEnd + left) % pointerEnd
+up-and-on word left = omega arith
+
+down-and-on : (word left : ℕ) → word < pointerEnd → suc left < pointerEnd
+    → (word + (pointerEnd - suc left)) % pointerEnd ≡ ((word + (pointerEnd - 1)) % pointerEnd + (pointerEnd - left)) % pointerEnd
+down-and-on word left small few = omega arith
+
+-- width moves of one word are one move of width words
+pub moves-are-one : (direction : Direction) (width : ℕ) (pointer : Pointer) → pointer .word < pointerEnd → width < pointerEnd
+    → passed direction width pointer ≡ repeated (λ _. moved direction) width pointer
+unfolding repeated passed moved
+moves-are-one Ascending zero pointer small few = ap (λ (word : ℕ). record { word = word }) (omega arith)
+moves-are-one Ascending (suc width) pointer small few =
+    let whole : suc width % pointerEnd ≡ suc width = mod-eq-of-lt few in
+    let rest : width % pointerEnd ≡ width = mod-eq-of-lt (omega arith) in
+    ap (λ (word : ℕ). record { word = word })
+    (ap (λ (by : ℕ). (pointer .word + by) % pointerEnd) whole
+    ∙ up-and-on (pointer .word) width
+    ∙ ap (λ (by : ℕ). ((pointer .word + 1) % pointerEnd + by) % pointerEnd) (sym rest))
+    ∙ moves-are-one Ascending width (record { word = (pointer .word + 1) % pointerEnd }) (omega arith) (omega arith)
+moves-are-one Descending zero pointer small few = ap (λ (word : ℕ). record { word = word }) (omega arith)
+moves-are-one Descending (suc width) pointer small few =
+    let whole : suc width % pointerEnd ≡ suc width = mod-eq-of-lt few in
+    let rest : width % pointerEnd ≡ width = mod-eq-of-lt (omega arith) in
+    ap (λ (word : ℕ). record { word = word })
+    (ap (λ (by : ℕ). (pointer .word + (pointerEnd - by)) % pointerEnd) whole
+    ∙ down-and-on (pointer .word) width small few
+    ∙ ap (λ (by : ℕ). ((pointer .word + (pointerEnd - 1)) % pointerEnd + (pointerEnd - by)) % pointerEnd) (sym rest))
+    ∙ moves-are-one Descending width (record { word = (pointer .word + (pointerEnd - 1)) % pointerEnd }) (omega arith) (omega arith)
+
+pub passed-lt : (direction : Direction) (words : ℕ) (pointer : Pointer) → passed direction words pointer .word < pointerEnd
+unfolding passed
+passed-lt Ascending words pointer = omega arith
+passed-lt Descending words pointer = omega arith
+
+pub moved-lt : (direction : Direction) (pointer : Pointer) → moved direction pointer .word < pointerEnd
+unfolding moved
+moved-lt Ascending pointer = omega arith
+moved-lt Descending pointer = omega arith

@@ -3,7 +3,7 @@ use Prim.Native.Nat.{_≤_}
 use mathlib.Core.Path.{_≡_}
 use lib.ListN.{length}
 use Rattle.word.specs.Choice.{every}
-use Rattle.file.specs.File.{fileLength}
+use Rattle.file.specs.Places.{fileLength}
 use Rattle.file.proofs.FileLaws.{keptAt, accepted-of-length, accepted-turn, accepted-of-bit, accepted-of-kept}
 use borrow.Author.Needs.{needs}
 use Rattle.file.proofs.accepted.Statement.{statement}

@@ -1,5 +1,5 @@
 -- `blit::registers::put_pointers` meets its contract: channel after channel.
-use Rattle.blit.specs.Blit.{putPointers}
+use Rattle.blit.specs.WriteBack.{putPointers}
 use borrow.Author.Needs.{needs}
 use Rattle.blit.proofs.registers.put_pointers.Statement.{statement}
 use Rattle.blit.proofs.registers.put_pointers.Tie as tie

@@ -1,5 +1,5 @@
 -- `blit::registers::put_sources` meets its contract: source after source.
-use Rattle.blit.specs.Blit.{putSources}
+use Rattle.blit.specs.WriteBack.{putSources}
 use borrow.Author.Needs.{needs}
 use Rattle.blit.proofs.registers.put_sources.Statement.{statement}
 use Rattle.blit.proofs.registers.put_sources.Tie as tie

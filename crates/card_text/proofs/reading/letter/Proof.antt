@@ -1,6 +1,6 @@
 -- `card_text::reading::letter` meets its contract: the table is the list of letters.
 use mathlib.Core.Path.{refl}
-use Rattle.card_text.specs.Reading.{letters}
+use Rattle.card_text.specs.Keys.{letters}
 use borrow.Author.Needs.{needs}
 use Rattle.card_text.proofs.reading.letter.Statement.{statement}
 use Rattle.card_text.proofs.reading.letter.Tie as tie

@@ -2,7 +2,7 @@
 use mathlib.Core.Path.{_≡_}
 use Prim.Native.Nat.{_+_, _-_, _≤_}
 use lib.ListN.{length, drop}
-use Rattle.card_text.specs.Reading.{digits, spelled, ramWords, ramEnd}
+use Rattle.card_text.specs.RamLine.{digits, spelled, ramWords, ramEnd}
 use Rattle.card_text.proofs.RamLaws.{digits-when-other, spelled-turn, digits-turn, digits-at-end, ramRead-when-keyless, ramRead-when-zero, ramRead-when-large, ramRead-when-ended}
 use Rattle.card_text.proofs.TextLaws.{decimalDigit-ge, decimalDigit-le}
 use borrow.Author.Tests.{not-true, not-false}

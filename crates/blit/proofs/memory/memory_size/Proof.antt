@@ -1,7 +1,7 @@
--- `blit::refuse::memory_size` meets its contract.
+-- `blit::memory::memory_size` meets its contract.
 use Rattle.blit.proofs.RefusalLaws.{memorySize-is-beyond}
-use Rattle.blit.proofs.refuse.memory_size.Statement.{statement}
-use Rattle.blit.proofs.refuse.memory_size.Tie as tie
+use Rattle.blit.proofs.memory.memory_size.Statement.{statement}
+use Rattle.blit.proofs.memory.memory_size.Tie as tie
 
 returns : tie.Need-returns
 returns c = search memorySize-is-beyond

@@ -6,5 +6,3 @@ pub mod JobLaws
 pub mod WritingLaws
 pub mod PrintingLaws
 pub mod CardLaws
-pub mod FirstBytesLaws
-pub mod TextFitsLaws

@@ -6,6 +6,4 @@ pub mod Reading
 pub mod Job
 pub mod Printing
 pub mod Card
-pub mod FirstBytesDecide
-pub mod TextFits
 pub mod Ram

@@ -3,7 +3,6 @@ mod printing;
 mod reading;
 mod start;
 mod text;
-pub mod theorems;
 pub mod types;
 
 ghost use mathlib.Core.Path.{_≡_};

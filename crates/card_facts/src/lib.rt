@@ -1,6 +1,6 @@
 // What is proved of the card's definition; each function has its theorem as its contract, and does nothing.
-ghost use Rattle.card_text.specs.FirstBytesDecide.{FirstBytesDecide};
-ghost use Rattle.card_text.specs.TextFits.{TextFits};
+ghost use Rattle.card_facts.specs.FirstBytesDecide.{FirstBytesDecide};
+ghost use Rattle.card_facts.specs.TextFits.{TextFits};
 
 pub fn first_bytes_decide()
     ensures { λ _. ⌜ FirstBytesDecide ⌝ }

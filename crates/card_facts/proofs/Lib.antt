@@ -1,0 +1,3 @@
+-- The laws behind the card's theorems.
+pub mod FirstBytesLaws
+pub mod TextFitsLaws

@@ -12,7 +12,7 @@ fn room() -> [u8; 524416]
     [0; 524416]
 }
 
-// Prints the first bytes of a text, as many as were written.
+// Prints the first bytes of a text, as many as were written. They are all there (`TextFits`).
 fn print(text: &[u8], written: usize) {
     if written <= text.len() {
         io::write_all(STDOUT_FILENO, &text[..written]);

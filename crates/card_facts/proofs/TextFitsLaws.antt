@@ -9,7 +9,7 @@ use borrow.Author.Tests.{eqb-true}
 use lib.Dec.{eqb, leb}
 use lib.ListN.{length, getD, length-append}
 use Rattle.word.specs.Choice.{if_then_else_}
-use Rattle.file.specs.Places.{pointerD, flag}
+use Rattle.file.specs.Places.{fileLength, pointerD, flag}
 use Rattle.job.specs.Steps.{stepsFrom}
 use Rattle.runner.specs.Run.{End, Machine, machine, startRefusal, run}
 use Rattle.runner.proofs.LengthLaws.{runSteps-keeps-memory-length}
@@ -133,11 +133,11 @@ pub text-fits : TextFits
 unfolding printed cardRun
 text-fits text = by-line (eqb (badLine text) 0) refl
   where
-    good : ramLine text ≡ true → length (run (counted 0 (ramWords text)) (zeros 20) (cardJob text) .machine .memory) ≤ 32768
+    good : ramLine text ≡ true → length (run (counted 0 (ramWords text)) (zeros fileLength) (cardJob text) .machine .memory) ≤ 32768
     good is =
-        omega (arith, ramWords-le text is, run-keeps-memory-length (counted 0 (ramWords text)) (zeros 20) (cardJob text), counted-length 0 (ramWords text))
+        omega (arith, ramWords-le text is, run-keeps-memory-length (counted 0 (ramWords text)) (zeros fileLength) (cardJob text), counted-length 0 (ramWords text))
 
     by-line : (fine : Bool) → eqb (badLine text) 0 ≡ fine
-        → length (if fine then printedRun (run (counted 0 (ramWords text)) (zeros 20) (cardJob text)) else printedBad (badLine text)) ≤ 524416
-    by-line true is = printedRun-le (run (counted 0 (ramWords text)) (zeros 20) (cardJob text)) (good (badLine-of-none text (eqb-true (badLine text) 0 is)))
+        → length (if fine then printedRun (run (counted 0 (ramWords text)) (zeros fileLength) (cardJob text)) else printedBad (badLine text)) ≤ 524416
+    by-line true is = printedRun-le (run (counted 0 (ramWords text)) (zeros fileLength) (cardJob text)) (good (badLine-of-none text (eqb-true (badLine text) 0 is)))
     by-line false is = printedBad-le (badLine text)

@@ -7,6 +7,7 @@ use mathlib.Core.List.{List}
 use borrow.Author.Tests.{eq-eqb, ne-eqb}
 use lib.ListN.{length, take}
 use lib.Seq.{length-take-le}
+use Rattle.file.specs.Places.{fileLength}
 use Rattle.runner.specs.declared.types.Answer.{Answer}
 use Rattle.runner.specs.Run.{End, ended, machine, run}
 use Rattle.runner.specs.Answer.{answerNumber, answerPlace, answerStored, left}
@@ -28,13 +29,13 @@ unfolding printedRun
 printedRun-anywhere number place stored memory file = refl
 
 pub printedRun-of-answer : (many number stored : ℕ) (answer : Answer) (start memory file job ram end : List ℕ) (before after : Written)
-    → ram ≡ counted 0 many → start ≡ zeros 20 → left answer memory file ≡ run ram start job
+    → ram ≡ counted 0 many → start ≡ zeros fileLength → left answer memory file ≡ run ram start job
     → number ≡ answerNumber answer → stored ≡ answerStored answer
     → after ≡ writing (printedRun (ended number 0 (machine memory file stored))) before
-    → after ≡ writing (printedRun (run (counted 0 many) (zeros 20) job)) before
+    → after ≡ writing (printedRun (run (counted 0 many) (zeros fileLength) job)) before
 printedRun-of-answer many number stored answer start memory file job ram end before after counts none gives is-number is-stored prints =
     let same : ended number (answerPlace answer) (machine memory file stored) ≡ run ram start job = rw (is-number, is-stored) gives in
-    let asked : run ram start job ≡ run (counted 0 many) (zeros 20) job = rw (counts, none) in
+    let asked : run ram start job ≡ run (counted 0 many) (zeros fileLength) job = rw (counts, none) in
     prints
     ∙ ap (λ (text : List ℕ). writing text before)
     (printedRun-anywhere number (answerPlace answer) stored memory file ∙ ap printedRun (same ∙ asked))
@@ -67,7 +68,7 @@ module _ (text : List ℕ) (before after : Written) where
     printed-when-bad some prints = rw (← line-of-lines, ne-eqb line 0 some) prints
 
     pub printed-when-good : line ≡ 0
-        → after ≡ writing (printedRun (run (counted 0 words) (zeros 20) (writes text start writeOrder))) before
+        → after ≡ writing (printedRun (run (counted 0 words) (zeros fileLength) (writes text start writeOrder))) before
         → after ≡ writing (printed text) before
     unfolding printed cardRun
     printed-when-good none prints =
@@ -84,8 +85,8 @@ prefix-le room many small long = omega (arith, small, prefix-length room many sm
 -- the run of a good card, its job and memory made
 pub printedRun-of-job : (text room before-job job out : List ℕ) (start words : ℕ) (before after : Written)
     → words ≤ 32768 → 32768 ≡ length room → length before-job ≡ 40 → job ≡ laid (writes text start writeOrder) 0 before-job
-    → after ≡ writing (printedRun (run (counted 0 (length (take words room))) (zeros 20) job)) before
-    → after ≡ writing (printedRun (run (counted 0 words) (zeros 20) (writes text start writeOrder))) before
+    → after ≡ writing (printedRun (run (counted 0 (length (take words room))) (zeros fileLength) job)) before
+    → after ≡ writing (printedRun (run (counted 0 words) (zeros fileLength) (writes text start writeOrder))) before
 printedRun-of-job text room before-job job out start words before after small long forty lays prints =
     let many : length (take words room) ≡ words = sym (prefix-length room words small long) in
     let same : job ≡ writes text start writeOrder = writes-fill text before-job job start forty lays in

@@ -2,6 +2,7 @@
 use Prim.Native.Nat.{ℕ, zero, suc, _+_, _*_}
 use mathlib.Core.List.{List, [], _∷_}
 use lib.ListN.{getD}
+use Rattle.file.specs.Places.{fileLength}
 use Rattle.runner.specs.Run.{End, run}
 use Rattle.card_text.specs.Text.{hexWord}
 use Rattle.card_text.specs.RamLine.{ramWords, ramEnd}
@@ -49,4 +50,4 @@ cardJob text = writes text (ramEnd text + 1) writeOrder
 
 -- the run that a good card asks for
 unfoldable pub cardRun : (text : List ℕ) → End
-cardRun text = run (counted 0 (ramWords text)) (zeros 20) (cardJob text)
+cardRun text = run (counted 0 (ramWords text)) (zeros fileLength) (cardJob text)

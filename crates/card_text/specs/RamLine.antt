@@ -23,6 +23,7 @@ ramWords text = spelled 0 (digits (drop 4 text))
 abbrev pub ramEnd : (text : List ℕ) → ℕ
 ramEnd text = 4 + length (digits (drop 4 text))
 
+-- the line begins with `ram=`
 unfoldable pub ramKey : (text : List ℕ) → Bool
 ramKey text =
     eqb (byte text 0) 114
@@ -30,6 +31,7 @@ ramKey text =
     && eqb (byte text 2) 109
     && eqb (byte text 3) equals
 
+-- its key, no 0 first, a number from 1 to 32768, and the newline
 unfoldable pub ramLine : (text : List ℕ) → Bool
 ramLine text =
     ramKey text

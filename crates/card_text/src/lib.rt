@@ -8,6 +8,7 @@ pub mod types;
 ghost use mathlib.Core.Path.{_≡_};
 ghost use Prim.Native.Nat.{_+_, _≤_};
 ghost use lib.ListN.{length};
+ghost use Rattle.file.specs.Places.{fileLength};
 ghost use Rattle.runner.specs.Run.{run};
 ghost use Rattle.card_text.specs.Job.{counted, zeros, writeOrder, writes};
 ghost use Rattle.card_text.specs.Printing.{printedRun};
@@ -19,7 +20,7 @@ fn run_on(ram: &mut [u16], job: &[u16], out: &mut [u8]) -> usize
     requires { ⌜ length (now ram) ≤ 32768 ⌝ }
     ensures { λ length. ⌜
         written length (now (out .exit))
-        ≡ writing (printedRun (run (counted 0 (lib.ListN.length (now (ram .entry)))) (zeros 20) (now (job .entry)))) (written 0 (now (out .entry))) ⌝ }
+        ≡ writing (printedRun (run (counted 0 (lib.ListN.length (now (ram .entry)))) (zeros fileLength) (now (job .entry)))) (written 0 (now (out .entry))) ⌝ }
 {
     crate::start::count(ram);
     let mut file = [0u16; 20];
@@ -41,7 +42,7 @@ fn good(text: &[u8], start: usize, words: u32, out: &mut [u8]) -> usize
     requires { ⌜ (start + 200 ≤ length (now text)) × (words ≤ 32768) ⌝ }
     ensures { λ length. ⌜
         written length (now (out .exit))
-        ≡ writing (printedRun (run (counted 0 words) (zeros 20) (writes (now (text .entry)) start writeOrder))) (written 0 (now (out .entry))) ⌝ }
+        ≡ writing (printedRun (run (counted 0 words) (zeros fileLength) (writes (now (text .entry)) start writeOrder))) (written 0 (now (out .entry))) ⌝ }
 {
     let mut job = [0u16; 40];
     crate::start::job(text, start, &mut job);

@@ -132,8 +132,6 @@ static bool leaves(struct channel channel, uint32_t height, uint32_t width, size
 
 static uint32_t refusal(const struct blit *blit, uint16_t con1, size_t ram_words)
 {
-    if (blit->height == 0 || blit->width == 0)
-        return 13;
     if (con1 & 1)
         return 7;
     if (blit->exclusive && blit->inclusive)

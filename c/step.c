@@ -37,7 +37,6 @@ static const char *const meanings[] = {
     "a blit or store at a word that memory doesn't have",
     "a folded job of more than 4,096 words",
     "a bad card",
-    "a blit of no words",
 };
 
 const char *number_meaning(uint32_t number)

@@ -14,7 +14,6 @@
  *      4  a word that begins no step
  *      5  a step cut off by the job's end
  *      6  a store to an odd byte address
- *     13  a blit of no words (no size gives it)
  *      7  a line: bit 0 of BLTCON1
  *      8  both fills
  *      9  a fill without descending
@@ -34,12 +33,12 @@ extern "C" {
 #endif
 
 /* Does one area blit of the given BLTSIZE. *number is 0 when it is done, and *stored the count of words stored;
- * otherwise it is 1, 2, 13, 7, 8, 9 or 10 (the first that holds, in this order), *stored is 0, and ram and file are
+ * otherwise it is 1, 2, 7, 8, 9 or 10 (the first that holds, in this order), *stored is 0, and ram and file are
  * unchanged. */
 void desk_blit(uint16_t *ram, size_t ram_words, uint16_t *file, size_t file_words, uint16_t size,
                uint32_t *number, uint32_t *stored);
 
-/* Runs a job. *number is 0 when it is done, and *place is 0; otherwise it is 1 to 10 or 13, *place the word index of the
+/* Runs a job. *number is 0 when it is done, and *place is 0; otherwise it is 1 to 10, *place the word index of the
  * refused step (0 for 1 to 3), and ram, file and *stored are as after the last step that was done. *stored counts the
  * words stored by blits and store steps together. */
 void desk_run(uint16_t *ram, size_t ram_words, uint16_t *file, size_t file_words,

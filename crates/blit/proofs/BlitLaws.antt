@@ -15,7 +15,7 @@ use Rattle.file.specs.Places.{flag}
 use Rattle.area.specs.declared.types.Setup.{Setup}
 use Rattle.area.specs.declared.types.Flow.{Flow}
 use Rattle.blit.specs.declared.types.Refusal.{Refusal}
-use Rattle.blit.specs.declared.types.Refusal.the-variants.{MemorySize, RegisterFile, NoWords, Line, BothFills, FillUpward, LeavesMemory}
+use Rattle.blit.specs.declared.types.Refusal.the-variants.{MemorySize, RegisterFile, Line, BothFills, FillUpward, LeavesMemory}
 use Rattle.blit.specs.declared.types.Verdict.{Verdict}
 use Rattle.blit.specs.declared.types.Verdict.the-variants as verdicts
 use Rattle.blit.specs.declared.types.Answer.{Answer}
@@ -81,7 +81,6 @@ answered-when-done memory file after changed size stored verdict lawful does = r
 pub refusal-is-some : (why : Refusal) → eqb (refusalNumber why) 0 ≡ false
 refusal-is-some MemorySize = refl
 refusal-is-some RegisterFile = refl
-refusal-is-some NoWords = refl
 refusal-is-some Line = refl
 refusal-is-some BothFills = refl
 refusal-is-some FillUpward = refl

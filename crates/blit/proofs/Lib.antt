@@ -6,5 +6,4 @@ pub mod BlitLaws
 pub mod OnlyDChanges
 pub mod OneAnswer
 pub mod UnusedStay
-pub mod ThirteenIsNeverGiven
 pub mod CopyOfOneRow

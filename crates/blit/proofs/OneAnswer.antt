@@ -6,7 +6,7 @@ use borrow.Author.Tests.{eqb-false}
 use lib.Dec.{eqb}
 use Rattle.word.specs.Choice.{if_then_else_}
 use Rattle.blit.specs.declared.types.Refusal.{Refusal}
-use Rattle.blit.specs.declared.types.Refusal.the-variants.{MemorySize, RegisterFile, NoWords, Line, BothFills, FillUpward, LeavesMemory}
+use Rattle.blit.specs.declared.types.Refusal.the-variants.{MemorySize, RegisterFile, Line, BothFills, FillUpward, LeavesMemory}
 use Rattle.blit.specs.declared.types.Answer.{Answer}
 use Rattle.blit.specs.declared.types.Answer.the-variants.{Done, Refused}
 use Rattle.blit.specs.Refusal.{refusalNumber}
@@ -19,7 +19,6 @@ refusalOf : ℕ → Refusal
 refusalOf number =
     if eqb number 1 then MemorySize else
     if eqb number 2 then RegisterFile else
-    if eqb number 13 then NoWords else
     if eqb number 7 then Line else
     if eqb number 8 then BothFills else
     if eqb number 9 then FillUpward else
@@ -29,7 +28,6 @@ refusalNumber-tells : (why : Refusal) → refusalOf (refusalNumber why) ≡ why
 unfolding refusalOf
 refusalNumber-tells MemorySize = refl
 refusalNumber-tells RegisterFile = refl
-refusalNumber-tells NoWords = refl
 refusalNumber-tells Line = refl
 refusalNumber-tells BothFills = refl
 refusalNumber-tells FillUpward = refl

@@ -1,22 +1,18 @@
 -- Laws of the refusals.
 use mathlib.Core.Path.{_≡_, refl, sym, ap, _∙_}
-use Prim.Native.Nat.{ℕ, zero, suc, _+_, _*_, _/_, _%_, _<_, _≤_}
+use Prim.Native.Nat.{ℕ, _/_, _%_, _<_, _≤_}
 use mathlib.Core.Bool.{Bool, true, false, not, _&&_, _||_}
-use mathlib.Core.List.{List, [], _∷_}
-use native.Mathlib.Nat.{mul-le-mul, lt-of-le-of-lt}
+use mathlib.Core.List.{List}
 use native.Mathlib.Omega.{arith}
-use mir.Val.{Fits}
-use mir.Syntax.{w32}
 use native.Mathlib.Decide.{decLt}
 use borrow.Author.Tests.{lt-ltb, le-ltb, le-leb, lt-leb, eq-eqb, ne-eqb}
-use lib.Dec.{eqb, leb, ltb, lit<}
-use lib.ListN.{getD}
+use lib.Dec.{eqb, leb, ltb}
 use Rattle.word.specs.declared.types.Pointer.{Pointer}
-use Rattle.word.specs.Choice.{if_then_else_, Rule, _when_, given}
+use Rattle.word.specs.Choice.{if_then_else_, given}
 use Rattle.word.specs.Pointer.{pointerEnd, pointer}
 use Rattle.word.specs.Size.{height, width}
 use Rattle.word.proofs.ChoiceLaws.{or-right}
-use Rattle.word.proofs.SizeLaws.{height-le, width-le, width-positive}
+use Rattle.word.proofs.SizeLaws.{width-le, width-positive}
 use Rattle.file.specs.File.{accepted}
 use Rattle.file.specs.Places.{pointerA, pointerB, pointerC, pointerD}
 use Rattle.area.specs.declared.types.Setup.{Setup}
@@ -24,7 +20,7 @@ use Rattle.area.specs.declared.types.Pointers.{Pointers}
 use Rattle.area.specs.Setup.{con1, line, setup}
 use Rattle.area.specs.Flow.{pointerAt, pointers}
 use Rattle.blit.specs.Touch.{touches, leaves, channelLeaves}
-use Rattle.blit.specs.Refusal.{memorySize, noWords, bothFills, fillUpward, leavesMemory, stepRefusal, refusal}
+use Rattle.blit.specs.Refusal.{memorySize, bothFills, fillUpward, leavesMemory, stepRefusal, refusal}
 
 -- the far end tested the other way round
 pub memorySize-is-beyond : (n : ℕ) → (eqb n 0 || ltb pointerEnd n) ≡ memorySize n
@@ -38,11 +34,6 @@ memorySize-is-beyond n = ap (λ (far : Bool). eqb n 0 || far) (by-order (decLt p
 pub pointerAt-lt : (file : List ℕ) (place : ℕ) → pointerAt file place .word < pointerEnd
 unfolding pointerAt pointer
 pointerAt-lt file place = omega arith
-
-pub words-fit : (size rows words : ℕ) → rows ≡ height size → words ≡ width size → Fits w32 (rows * words)
-words-fit size rows words tall wide =
-    let most : height size * width size ≤ 1024 * 64 = mul-le-mul (height-le size) (width-le size) in
-    rw (tall, wide) (record { fits = omega arith })
 
 pub width-is-some : (size words : ℕ) → words ≡ width size → 1 ≤ words
 width-is-some size words wide = rw wide (width-positive size)
@@ -90,38 +81,32 @@ module _ (n : ℕ) (set : Setup) (at : Pointers) (size wide tall : ℕ) (width-i
       leavesMemory-by-d d c-stays of-d = rw (← width-is, ← height-is, ← of-a, ← of-b, ← of-c, a-stays, b-stays, c-stays) of-d
 
 -- the rules of a blit, one after the other
-module _ (n size : ℕ) (file : List ℕ) (none : Bool) (of-none : none ≡ noWords size) where
-  pub refused-by-size : none ≡ true → 13 ≡ stepRefusal n file size
+module _ (n size : ℕ) (file : List ℕ) (control : ℕ) (reads : control ≡ con1 file) where
+  pub refused-by-line : control / 1 % 2 ≡ 1 → 7 ≡ stepRefusal n file size
   unfolding stepRefusal given
-  refused-by-size holds = rw (← of-none, holds)
+  refused-by-line holds = rw (← reads, eq-eqb (control / 1 % 2) 1 holds)
 
-  module _ (some : none ≡ false) (control : ℕ) (reads : control ≡ con1 file) where
-    pub refused-by-line : control / 1 % 2 ≡ 1 → 7 ≡ stepRefusal n file size
+  module _ (area : control / 1 % 2 ≡ 1 → ⊥) (both : Bool) (of-both : both ≡ bothFills control) where
+    pub refused-by-both-fills : both ≡ true → 8 ≡ stepRefusal n file size
     unfolding stepRefusal given
-    refused-by-line holds = rw (← of-none, some, ← reads, eq-eqb (control / 1 % 2) 1 holds)
+    refused-by-both-fills holds = rw (← reads, ne-eqb (control / 1 % 2) 1 area, ← of-both, holds)
 
-    module _ (area : control / 1 % 2 ≡ 1 → ⊥) (both : Bool) (of-both : both ≡ bothFills control) where
-      pub refused-by-both-fills : both ≡ true → 8 ≡ stepRefusal n file size
+    module _ (one : both ≡ false) (upward : Bool) (of-upward : upward ≡ fillUpward control) where
+      pub refused-by-fill-upward : upward ≡ true → 9 ≡ stepRefusal n file size
       unfolding stepRefusal given
-      refused-by-both-fills holds = rw (← of-none, some, ← reads, ne-eqb (control / 1 % 2) 1 area, ← of-both, holds)
+      refused-by-fill-upward holds = rw (← reads, ne-eqb (control / 1 % 2) 1 area, ← of-both, one, ← of-upward, holds)
 
-      module _ (one : both ≡ false) (upward : Bool) (of-upward : upward ≡ fillUpward control) where
-        pub refused-by-fill-upward : upward ≡ true → 9 ≡ stepRefusal n file size
+      module _ (downward : upward ≡ false) (set : Setup) (at : Pointers) (outside : Bool)
+          (of-set : set ≡ setup file) (of-at : at ≡ pointers file) (of-outside : outside ≡ leavesMemory n set at size) where
+        pub refused-by-leaving : outside ≡ true → 10 ≡ stepRefusal n file size
         unfolding stepRefusal given
-        refused-by-fill-upward holds =
-            rw (← of-none, some, ← reads, ne-eqb (control / 1 % 2) 1 area, ← of-both, one, ← of-upward, holds)
+        refused-by-leaving holds =
+            rw (← reads, ne-eqb (control / 1 % 2) 1 area, ← of-both, one, ← of-upward, downward, ← of-set, ← of-at, ← of-outside, holds)
 
-        module _ (downward : upward ≡ false) (set : Setup) (at : Pointers) (outside : Bool)
-            (of-set : set ≡ setup file) (of-at : at ≡ pointers file) (of-outside : outside ≡ leavesMemory n set at size) where
-          pub refused-by-leaving : outside ≡ true → 10 ≡ stepRefusal n file size
-          unfolding stepRefusal given
-          refused-by-leaving holds =
-              rw (← of-none, some, ← reads, ne-eqb (control / 1 % 2) 1 area, ← of-both, one, ← of-upward, downward, ← of-set, ← of-at, ← of-outside, holds)
-
-          pub lawful : outside ≡ false → 0 ≡ stepRefusal n file size
-          unfolding stepRefusal given
-          lawful holds =
-              rw (← of-none, some, ← reads, ne-eqb (control / 1 % 2) 1 area, ← of-both, one, ← of-upward, downward, ← of-set, ← of-at, ← of-outside, holds)
+        pub lawful : outside ≡ false → 0 ≡ stepRefusal n file size
+        unfolding stepRefusal given
+        lawful holds =
+            rw (← reads, ne-eqb (control / 1 % 2) 1 area, ← of-both, one, ← of-upward, downward, ← of-set, ← of-at, ← of-outside, holds)
 
 -- memory and file, then the rules of the blit
 module _ (n size : ℕ) (file : List ℕ) (bad : Bool) (of-bad : bad ≡ memorySize n) where
@@ -139,11 +124,10 @@ module _ (n size : ℕ) (file : List ℕ) (bad : Bool) (of-bad : bad ≡ memoryS
     refused-by-blit number holds rest = rw (← of-bad, taken, ← of-fine, holds) rest
 
 -- the numbers by their tests alone
-abbrev pub numbered : (memory file none line both upward leaving : Bool) → ℕ
-numbered memory file none line both upward leaving =
+abbrev pub numbered : (memory file line both upward leaving : Bool) → ℕ
+numbered memory file line both upward leaving =
     if memory then 1 else
     if file then 2 else
-    if none then 13 else
     if line then 7 else
     if both then 8 else
     if upward then 9 else
@@ -152,32 +136,31 @@ numbered memory file none line both upward leaving =
 
 pub refusal-is-numbered : (n : ℕ) (file : List ℕ) (size : ℕ)
     → refusal n file size
-    ≡ numbered (memorySize n) (not (accepted file)) (noWords size) (line (con1 file)) (bothFills (con1 file)) (fillUpward (con1 file))
+    ≡ numbered (memorySize n) (not (accepted file)) (line (con1 file)) (bothFills (con1 file)) (fillUpward (con1 file))
     (leavesMemory n (setup file) (pointers file) size)
 unfolding refusal given
 refusal-is-numbered n file size = refl
 
-numbered-of-none : (memory file none line both upward leaving : Bool) → numbered memory file none line both upward leaving ≡ 0 → leaving ≡ false
-numbered-of-none true file none line both upward leaving lawful = absurd (omega arith)
-numbered-of-none false true none line both upward leaving lawful = absurd (omega arith)
-numbered-of-none false false true line both upward leaving lawful = absurd (omega arith)
-numbered-of-none false false false true both upward leaving lawful = absurd (omega arith)
-numbered-of-none false false false false true upward leaving lawful = absurd (omega arith)
-numbered-of-none false false false false false true leaving lawful = absurd (omega arith)
-numbered-of-none false false false false false false true lawful = absurd (omega arith)
-numbered-of-none false false false false false false false lawful = refl
+numbered-of-none : (memory file line both upward leaving : Bool) → numbered memory file line both upward leaving ≡ 0 → leaving ≡ false
+numbered-of-none true file line both upward leaving lawful = absurd (omega arith)
+numbered-of-none false true line both upward leaving lawful = absurd (omega arith)
+numbered-of-none false false true both upward leaving lawful = absurd (omega arith)
+numbered-of-none false false false true upward leaving lawful = absurd (omega arith)
+numbered-of-none false false false false true leaving lawful = absurd (omega arith)
+numbered-of-none false false false false false true lawful = absurd (omega arith)
+numbered-of-none false false false false false false lawful = refl
 
 -- a blit that nothing refuses doesn't leave memory
 pub refusal-of-none : (n : ℕ) (file : List ℕ) (size : ℕ) → refusal n file size ≡ 0 → leavesMemory n (setup file) (pointers file) size ≡ false
 refusal-of-none n file size lawful =
-    numbered-of-none (memorySize n) (not (accepted file)) (noWords size) (line (con1 file)) (bothFills (con1 file)) (fillUpward (con1 file))
+    numbered-of-none (memorySize n) (not (accepted file)) (line (con1 file)) (bothFills (con1 file)) (fillUpward (con1 file))
     (leavesMemory n (setup file) (pointers file) size) (sym (refusal-is-numbered n file size) ∙ lawful)
 
 -- the same of a job's blit
 pub stepRefusal-of-none : (n : ℕ) (file : List ℕ) (size : ℕ) → stepRefusal n file size ≡ 0 → leavesMemory n (setup file) (pointers file) size ≡ false
 unfolding stepRefusal given
 stepRefusal-of-none n file size lawful =
-    numbered-of-none false false (noWords size) (line (con1 file)) (bothFills (con1 file)) (fillUpward (con1 file))
+    numbered-of-none false false (line (con1 file)) (bothFills (con1 file)) (fillUpward (con1 file))
     (leavesMemory n (setup file) (pointers file) size) lawful
 
 used-stays : (used rest : Bool) → used ≡ true → (used && rest) ≡ false → rest ≡ false

@@ -6,5 +6,4 @@ pub mod Blit
 pub mod OnlyDChanges
 pub mod UnusedStay
 pub mod CopyOfOneRow
-pub mod ThirteenIsNeverGiven
 pub mod OneAnswer

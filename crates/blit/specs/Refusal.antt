@@ -1,6 +1,6 @@
--- Paper 01, "Numbers given back", the rows of a blit, which "gives 1, 2, 13, 7, 8, 9, 10 in that order".
+-- Paper 01, "Numbers given back", as paper 02 leaves it: the rows of a blit, given in the order 1, 2, 7, 8, 9, 10.
 -- Blit, runner and folder go by this one definition, a function of N, file and size.
-use Prim.Native.Nat.{ℕ, _*_}
+use Prim.Native.Nat.{ℕ}
 use mathlib.Core.Bool.{Bool, not, _&&_, _||_}
 use mathlib.Core.List.{List, [], _∷_}
 use lib.Dec.{eqb, leb}
@@ -11,7 +11,7 @@ use Rattle.file.specs.File.{accepted}
 use Rattle.area.specs.declared.types.Setup.{Setup}
 use Rattle.area.specs.declared.types.Pointers.{Pointers}
 use Rattle.blit.specs.declared.types.Refusal.{Refusal}
-use Rattle.blit.specs.declared.types.Refusal.the-variants.{MemorySize, RegisterFile, NoWords, Line, BothFills, FillUpward, LeavesMemory}
+use Rattle.blit.specs.declared.types.Refusal.the-variants.{MemorySize, RegisterFile, Line, BothFills, FillUpward, LeavesMemory}
 use Rattle.blit.specs.declared.types.Verdict.{Verdict}
 use Rattle.blit.specs.declared.types.Verdict.the-variants.{Lawful, Refused}
 use Rattle.area.specs.Setup.{con1, line, exclusiveFill, inclusiveFill, descending, setup}
@@ -21,10 +21,6 @@ use Rattle.blit.specs.Touch.{channelLeaves}
 -- "N outside 1 to 262,144"
 unfoldable pub memorySize : (n : ℕ) → Bool
 memorySize n = eqb n 0 || not (leb n pointerEnd)
-
--- "size decodes to no words"
-unfoldable pub noWords : (size : ℕ) → Bool
-noWords size = eqb (height size * width size) 0
 
 -- "both fill bits set"
 unfoldable pub bothFills : (con1 : ℕ) → Bool
@@ -42,11 +38,10 @@ leavesMemory n set at size =
     || channelLeaves n (set .direction) (set .uses .c) (width size) (set .modulos .c) (height size) (at .c)
     || channelLeaves n (set .direction) (set .uses .d) (width size) (set .modulos .d) (height size) (at .d)
 
--- the rules of a job's blit, for which memory and file have been taken: "13, 7, 8, 9, 10"
+-- the rules of a job's blit, for which memory and file have been taken: 7, 8, 9, 10
 abbrev pub blitRules : (n : ℕ) → (file : List ℕ) → (size : ℕ) → List Rule
 blitRules n file size =
-    13 when noWords size
-    ∷ 7 when line (con1 file)
+    7 when line (con1 file)
     ∷ 8 when bothFills (con1 file)
     ∷ 9 when fillUpward (con1 file)
     ∷ 10 when leavesMemory n (setup file) (pointers file) size
@@ -69,7 +64,6 @@ refusal n file size = given (refusals n file size)
 abbrev pub refusalNumber : Refusal → ℕ
 refusalNumber MemorySize = 1
 refusalNumber RegisterFile = 2
-refusalNumber NoWords = 13
 refusalNumber Line = 7
 refusalNumber BothFills = 8
 refusalNumber FillUpward = 9

@@ -11,7 +11,6 @@ fn refusal_number(why: Refusal) -> u32
     match why {
         Refusal::MemorySize => 1,
         Refusal::RegisterFile => 2,
-        Refusal::NoWords => 13,
         Refusal::Line => 7,
         Refusal::BothFills => 8,
         Refusal::FillUpward => 9,

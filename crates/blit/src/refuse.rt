@@ -1,19 +1,11 @@
 // The refusals of a blit, in the order of the paper.
 ghost use mathlib.Core.Path.{_≡_};
 ghost use Prim.Native.Nat.{_<_};
-ghost use Rattle.blit.specs.Refusal.{noWords, bothFills, fillUpward, leavesMemory, stepRefusal, refusal, verdictNumber};
+ghost use Rattle.blit.specs.Refusal.{bothFills, fillUpward, leavesMemory, stepRefusal, refusal, verdictNumber};
 use crate::types::Refusal;
 use crate::types::Verdict;
 use area::types::Pointers;
 use area::types::Setup;
-
-fn no_words(size: u16) -> bool
-    ensures { λ none. ⌜ none ≡ noWords size ⌝ }
-{
-    let height = word::size::height(size);
-    let width = word::size::width(size);
-    height * width == 0
-}
 
 fn both_fills(con1: u16) -> bool
     ensures { λ both. ⌜ both ≡ bothFills con1 ⌝ }
@@ -57,9 +49,6 @@ fn leaves_memory(n: usize, setup: Setup, pointers: Pointers, size: u16) -> bool
 pub fn step_refusal(n: usize, file: &[u16], size: u16) -> Verdict
     ensures { λ verdict. ⌜ verdictNumber verdict ≡ stepRefusal n (now (file .entry)) size ⌝ }
 {
-    if no_words(size) {
-        return Verdict::Refused(Refusal::NoWords);
-    }
     let con1 = word::memory::read(file, 1);
     if con1 / 1 % 2 == 1 {
         return Verdict::Refused(Refusal::Line);

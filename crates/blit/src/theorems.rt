@@ -2,7 +2,6 @@
 ghost use Rattle.blit.specs.OnlyDChanges.{OnlyDChanges, WithoutDNothingChanges};
 ghost use Rattle.blit.specs.UnusedStay.{UnusedStay};
 ghost use Rattle.blit.specs.CopyOfOneRow.{CopyOfOneRow};
-ghost use Rattle.blit.specs.ThirteenIsNeverGiven.{ThirteenIsNeverGiven};
 ghost use Rattle.blit.specs.OneAnswer.{OneAnswer};
 
 pub fn only_d_changes()
@@ -19,10 +18,6 @@ pub fn unused_stay()
 
 pub fn copy_of_one_row()
     ensures { λ _. ⌜ CopyOfOneRow ⌝ }
-{}
-
-pub fn thirteen_is_never_given()
-    ensures { λ _. ⌜ ThirteenIsNeverGiven ⌝ }
 {}
 
 pub fn one_answer()

@@ -4,7 +4,6 @@
 pub enum Refusal {
     MemorySize,
     RegisterFile,
-    NoWords,
     Line,
     BothFills,
     FillUpward,

@@ -1,7 +1,7 @@
 -- Laws of what a step becomes: how many words, and what is known after it.
 use mathlib.Core.Path.{_≡_, refl, sym, ap, _∙_}
 use Prim.Native.Nat.{ℕ, zero, suc, _+_, _*_, _<_, _≤_}
-use native.Mathlib.Nat.{suc-mul, mul-le-mul}
+use native.Mathlib.Nat.{suc-mul}
 use native.Mathlib.Omega.{arith}
 use mathlib.Core.Bool.{Bool, true, false, _&&_}
 use mathlib.Core.List.{List, [], _∷_, _++_}
@@ -15,7 +15,7 @@ use native.Mathlib.Decide.{decLt}
 use Rattle.word.specs.declared.types.Pointer.{Pointer}
 use Rattle.word.specs.Choice.{if_then_else_}
 use Rattle.word.specs.Size.{height, width}
-use Rattle.word.proofs.SizeLaws.{height-le, width-le}
+use Rattle.word.proofs.SizeLaws.{words-le}
 use Rattle.area.specs.declared.types.Setup.{Setup}
 use Rattle.area.specs.declared.types.Flow.{Flow}
 use Rattle.area.specs.Setup.{con0, function, setup}
@@ -59,15 +59,11 @@ settledWords-length file size =
 -- room for them
 pub settledLength-fits : (size rows words : ℕ) → rows ≡ height size → words ≡ width size
     → Fits w32 (3 * (rows * words))
-settledLength-fits size rows words tall wide =
-    let most : height size * width size ≤ 1024 * 64 = mul-le-mul (height-le size) (width-le size) in
-    rw (tall, wide) (record { fits = omega arith })
+settledLength-fits size rows words tall wide = rw (tall, wide) (record { fits = omega (arith, words-le size) })
 
 pub settledLength-fits-all : (size rows words : ℕ) → rows ≡ height size → words ≡ width size
     → Fits w32 (3 * (rows * words) + 5)
-settledLength-fits-all size rows words tall wide =
-    let most : height size * width size ≤ 1024 * 64 = mul-le-mul (height-le size) (width-le size) in
-    rw (tall, wide) (record { fits = omega arith })
+settledLength-fits-all size rows words tall wide = rw (tall, wide) (record { fits = omega (arith, words-le size) })
 
 pub settledLength-of-parts : (size rows words : ℕ) → rows ≡ height size → words ≡ width size → 3 * (rows * words) + 5 ≡ settledLength size
 settledLength-of-parts size rows words tall wide = rw (tall, wide)

@@ -1,7 +1,6 @@
 -- Laws of a settled blit's stores laid into a run, word by word and row by row.
 use mathlib.Core.Path.{_≡_, refl, sym, ap, _∙_}
 use Prim.Native.Nat.{ℕ, zero, suc, _+_, _*_, _-_, _<_, _≤_}
-use native.Mathlib.Nat.{mul-le-mul}
 use native.Mathlib.Numerals.{sub-one}
 use native.Mathlib.Omega.{arith}
 use mathlib.Core.Bool.{Bool, true, false}
@@ -12,7 +11,7 @@ use lib.Dec.{eqb}
 use lib.ListN.{length}
 use Rattle.word.specs.declared.types.Pointer.{Pointer}
 use Rattle.word.specs.Size.{height, width}
-use Rattle.word.proofs.SizeLaws.{height-le, width-le}
+use Rattle.word.proofs.SizeLaws.{height-le, words-le}
 use Rattle.word.proofs.RepeatLaws.{repeated-turn}
 use Rattle.area.specs.declared.types.Setup.{Setup}
 use Rattle.area.specs.declared.types.Flow.{Flow}
@@ -165,11 +164,8 @@ module _ (size rows words at : ℕ) (tall : rows ≡ height size) (near : at < 1
   stores-room = let most = height-le size in omega arith
 
   module _ (wide : words ≡ width size) where
-    few-words : height size * width size ≤ 1024 * 64
-    few-words = mul-le-mul (height-le size) (width-le size)
-
     pub end-room : at + 3 * (rows * words) < 4294966000
-    end-room = let most = few-words in rw (tall, wide) (omega arith)
+    end-room = rw (tall, wide) (omega (arith, words-le size))
 
     pub end-fits : Fits w32 (at + 3 * (rows * words))
     end-fits = let room = end-room in record { fits = omega arith }

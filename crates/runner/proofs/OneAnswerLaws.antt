@@ -20,7 +20,6 @@ numbered number =
     if eqb number 4 then Refusal.NoStep else
     if eqb number 5 then Refusal.CutOff else
     if eqb number 6 then Refusal.OddStore else
-    if eqb number 13 then Refusal.NoWords else
     if eqb number 7 then Refusal.Line else
     if eqb number 8 then Refusal.BothFills else
     if eqb number 9 then Refusal.FillUpward else
@@ -34,7 +33,6 @@ numbered-of-number Refusal.JobLength = refl
 numbered-of-number Refusal.NoStep = refl
 numbered-of-number Refusal.CutOff = refl
 numbered-of-number Refusal.OddStore = refl
-numbered-of-number Refusal.NoWords = refl
 numbered-of-number Refusal.Line = refl
 numbered-of-number Refusal.BothFills = refl
 numbered-of-number Refusal.FillUpward = refl

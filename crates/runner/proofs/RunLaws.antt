@@ -36,7 +36,6 @@ refusalNumber-positive Refusal.JobLength same = omega arith
 refusalNumber-positive Refusal.NoStep same = omega arith
 refusalNumber-positive Refusal.CutOff same = omega arith
 refusalNumber-positive Refusal.OddStore same = omega arith
-refusalNumber-positive Refusal.NoWords same = omega arith
 refusalNumber-positive Refusal.Line same = omega arith
 refusalNumber-positive Refusal.BothFills same = omega arith
 refusalNumber-positive Refusal.FillUpward same = omega arith

@@ -64,4 +64,4 @@ given-lt (rule ∷ rest) late refusal = by-test (rule .applies) refusal (given-l
 pub stepRules-lt : (before : Machine) (read : Read) → (given (stepRules before read) ≡ 0 → ⊥) → 3 < given (stepRules before read)
 stepRules-lt before read =
     given-lt (stepRules before read)
-    (omega arith, (omega arith, (omega arith, (omega arith, (omega arith, (omega arith, (omega arith, (omega arith, tt))))))))
+    (omega arith, (omega arith, (omega arith, (omega arith, (omega arith, (omega arith, (omega arith, tt)))))))

@@ -14,7 +14,6 @@ refusalNumber Refusal.JobLength = 3
 refusalNumber Refusal.NoStep = 4
 refusalNumber Refusal.CutOff = 5
 refusalNumber Refusal.OddStore = 6
-refusalNumber Refusal.NoWords = 13
 refusalNumber Refusal.Line = 7
 refusalNumber Refusal.BothFills = 8
 refusalNumber Refusal.FillUpward = 9

@@ -1,4 +1,4 @@
--- Paper 01, "Numbers given back": the rows that a step can be refused by, "step by step 4, 5, 6, 13, 7, 8, 9, 10".
+-- Paper 01, "Numbers given back", as paper 02 leaves it: the rows that a step can be refused by, step by step 4, 5, 6, 7, 8, 9, 10.
 use Prim.Native.Nat.{ℕ}
 use mathlib.Core.Bool.{Bool, true, false}
 use mathlib.Core.List.{List, [], _∷_}
@@ -7,7 +7,7 @@ use lib.ListN.{length}
 use Rattle.word.specs.Choice.{Rule, _when_}
 use Rattle.area.specs.Setup.{con1, line, setup}
 use Rattle.area.specs.Flow.{pointers}
-use Rattle.blit.specs.Refusal.{noWords, bothFills, fillUpward, leavesMemory}
+use Rattle.blit.specs.Refusal.{bothFills, fillUpward, leavesMemory}
 use Rattle.job.specs.declared.types.Step.{Step}
 use Rattle.job.specs.declared.types.Read.{Read}
 use Rattle.runner.specs.Run.{Machine}
@@ -65,7 +65,6 @@ stepRules before read =
     4 when beginsNoStep read
     ∷ 5 when cutOff read
     ∷ 6 when oddStore read
-    ∷ 13 when blitWith noWords read
     ∷ 7 when blitWith (λ _. line (con1 (before .file))) read
     ∷ 8 when blitWith (λ _. bothFills (con1 (before .file))) read
     ∷ 9 when blitWith (λ _. fillUpward (con1 (before .file))) read

@@ -14,7 +14,6 @@ fn refusal_number(why: Refusal) -> u32
         Refusal::NoStep => 4,
         Refusal::CutOff => 5,
         Refusal::OddStore => 6,
-        Refusal::NoWords => 13,
         Refusal::Line => 7,
         Refusal::BothFills => 8,
         Refusal::FillUpward => 9,

@@ -15,7 +15,6 @@ fn blit_refusal(why: blit::types::Refusal) -> Refusal
     match why {
         blit::types::Refusal::MemorySize => Refusal::MemorySize,
         blit::types::Refusal::RegisterFile => Refusal::RegisterFile,
-        blit::types::Refusal::NoWords => Refusal::NoWords,
         blit::types::Refusal::Line => Refusal::Line,
         blit::types::Refusal::BothFills => Refusal::BothFills,
         blit::types::Refusal::FillUpward => Refusal::FillUpward,

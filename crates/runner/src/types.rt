@@ -8,7 +8,6 @@ pub enum Refusal {
     NoStep,
     CutOff,
     OddStore,
-    NoWords,
     Line,
     BothFills,
     FillUpward,

@@ -1,5 +1,5 @@
 // Runs jobs through the runner and prints what they give and leave: paper 01's "Run and compared" cases,
-// each number but 13, which no size gives, and a job of several blits with stores and flags between.
+// each number of the table that a run can give, and a job of several blits with stores and flags between.
 // What it must print is written out beside it, from the paper.
 use runner::types::Answer;
 

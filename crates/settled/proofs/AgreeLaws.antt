@@ -18,7 +18,7 @@ use Rattle.area.specs.Setup.{con0, con1, uses, function, shifts, carryIn, line,
 use Rattle.area.specs.Flow.{State, state, pointerAt, pointers, sources, start}
 use Rattle.area.specs.Rows.{rows}
 use Rattle.blit.specs.Touch.{touches, leaves, channelLeaves}
-use Rattle.blit.specs.Refusal.{noWords, bothFills, fillUpward, leavesMemory, stepRefusal}
+use Rattle.blit.specs.Refusal.{bothFills, fillUpward, leavesMemory, stepRefusal}
 use Rattle.blit.proofs.RefusalLaws.{numbered}
 use Rattle.depends.specs.Depends.{counts}
 use Rattle.settled.specs.Words.{pointerWords, flagWords, blitStores, settledEnd, settledWords}
@@ -104,7 +104,7 @@ module _ (this other : List ℕ) (agree : Agree this other) where
   pub stepRefusal-alike : (n size : ℕ) → OnlyD (setup this .uses) → stepRefusal n this size ≡ stepRefusal n other size
   unfolding stepRefusal given
   stepRefusal-alike n size only =
-      ap₂ (λ (control : ℕ) (leaving : Bool). numbered false false (noWords size) (line control) (bothFills control) (fillUpward control) leaving)
+      ap₂ (λ (control : ℕ) (leaving : Bool). numbered false false (line control) (bothFills control) (fillUpward control) leaving)
       (agree .control1)
       (leavesMemory-of-only-d n (setup this) (pointers this) size only
       ∙ touches-alike n (width size) (height size) (setup this .direction) (setup other .direction) (setup this .modulos .d) (setup other .modulos .d) (pointers this .d) (pointers other .d)

@@ -1,10 +1,9 @@
 -- Laws of a settled blit: each condition from its parts.
 use mathlib.Core.Path.{_≡_, refl, sym, ap, _∙_}
 use Prim.Native.Nat.{ℕ, _+_, _*_, _%_}
-use native.Mathlib.Omega.{arith}
 use mathlib.Core.Bool.{Bool, true, false, not, _&&_, _||_}
 use mathlib.Core.List.{List}
-use borrow.Author.Tests.{eq-eqb, ne-eqb}
+use borrow.Author.Tests.{eq-eqb}
 use lib.Dec.{eqb, leb}
 use lib.ListN.{getD}
 use Rattle.word.specs.Size.{height, width}
@@ -14,7 +13,8 @@ use Rattle.area.specs.declared.types.Uses.{Uses}
 use Rattle.area.specs.Setup.{con0, uses, function}
 use Rattle.blit.specs.declared.types.Refusal.{Refusal}
 use Rattle.blit.specs.declared.types.Verdict.{Verdict}
-use Rattle.blit.specs.Refusal.{stepRefusal, refusalNumber, verdictNumber}
+use Rattle.blit.specs.Refusal.{stepRefusal, verdictNumber}
+use Rattle.blit.proofs.BlitLaws.{refusal-is-some}
 use Rattle.depends.specs.declared.types.Depends.{Depends}
 use Rattle.depends.specs.Depends.{counts, depends}
 use Rattle.knowledge.specs.declared.types.Known.{Known}
@@ -41,22 +41,13 @@ sourcesKnown-of-parts function known on a first last b c same is-a is-first is-l
     rw (is-a, is-first, is-last, is-b, is-c)
     (ap (λ (d : Depends). (not (d .a) || has known sourceA && has known firstMask && has known lastMask) && (not (d .b) || has known sourceB) && (not (d .c) || has known sourceC)) same)
 
-refusalNumber-positive : (why : Refusal) → refusalNumber why ≡ 0 → ⊥
-refusalNumber-positive Refusal.MemorySize same = omega arith
-refusalNumber-positive Refusal.RegisterFile same = omega arith
-refusalNumber-positive Refusal.NoWords same = omega arith
-refusalNumber-positive Refusal.Line same = omega arith
-refusalNumber-positive Refusal.BothFills same = omega arith
-refusalNumber-positive Refusal.FillUpward same = omega arith
-refusalNumber-positive Refusal.LeavesMemory same = omega arith
-
 module _ (verdict : Verdict) (number : ℕ) (gives : verdictNumber verdict ≡ number) where
   pub lawful-when-lawful : verdict ≡ Verdict.Lawful → true ≡ eqb number 0
   lawful-when-lawful same = sym (eq-eqb number 0 (sym gives ∙ ap verdictNumber same))
 
   pub lawful-when-refused : (why : Refusal) → verdict ≡ Verdict.Refused why → false ≡ eqb number 0
   lawful-when-refused why same =
-      sym (ne-eqb number 0 (λ none. refusalNumber-positive why (sym (ap verdictNumber same) ∙ gives ∙ none)))
+      sym (refusal-is-some why) ∙ ap (λ (given : ℕ). eqb given 0) (sym (ap verdictNumber same) ∙ gives)
 
 pub small-of-parts : (size rows words : ℕ) → rows ≡ height size → words ≡ width size
     → leb (rows * words) 64 ≡ leb (height size * width size) 64

@@ -1,10 +1,11 @@
 -- Laws of a blit's size.
-use mathlib.Core.Path.{_≡_, refl, ap}
+use mathlib.Core.Path.{_≡_}
 use Prim.Native.Nat.{ℕ, zero, suc, _*_, _/_, _%_, _<_, _≤_}
-use mathlib.Core.Bool.{Bool, true, false}
 use native.Mathlib.Nat.{mul-le-mul}
 use native.Mathlib.Omega.{arith}
-use borrow.Author.Tests.{eq-eqb, ne-eqb, eqb-false}
+use mir.Val.{Fits}
+use mir.Syntax.{w32}
+use borrow.Author.Tests.{eq-eqb, ne-eqb}
 use lib.Dec.{eqb}
 use Rattle.word.specs.Choice.{if_then_else_}
 use Rattle.word.specs.Size.{height, width}
@@ -51,3 +52,9 @@ width-le size = field-bounds (size % 64) 64 (omega arith) .1
 
 pub every-size-has-a-word : EverySizeHasAWord
 every-size-has-a-word size = mul-le-mul (height-positive size) (width-positive size)
+
+pub words-le : (size : ℕ) → height size * width size ≤ 1024 * 64
+words-le size = mul-le-mul (height-le size) (width-le size)
+
+pub words-fit : (size rows words : ℕ) → rows ≡ height size → words ≡ width size → Fits w32 (rows * words)
+words-fit size rows words tall wide = rw (tall, wide) (record { fits = omega (arith, words-le size) })

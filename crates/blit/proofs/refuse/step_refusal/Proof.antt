@@ -1,32 +1,26 @@
 -- `blit::refuse::step_refusal` meets its contract: each test is a rule of the list, in the list's order.
-use Rattle.blit.proofs.RefusalLaws.{pointers-lt-a, pointers-lt-b, pointers-lt-c, pointers-lt-d, refused-by-size, refused-by-line, refused-by-both-fills, refused-by-fill-upward, refused-by-leaving, lawful}
+use Rattle.blit.proofs.RefusalLaws.{pointers-lt-a, pointers-lt-b, pointers-lt-c, pointers-lt-d, refused-by-line, refused-by-both-fills, refused-by-fill-upward, refused-by-leaving, lawful}
 use borrow.Author.Needs.{needs}
 use Rattle.blit.proofs.refuse.step_refusal.Statement.{statement}
 use Rattle.blit.proofs.refuse.step_refusal.Tie as tie
 
-no-words-requires : tie.Need-no-words-requires
-no-words-requires c κs = search needs
-
-returns : tie.Need-returns
-returns c = search refused-by-size
-
 read-requires : tie.Need-read-requires
 read-requires c κs = search needs
 
-returns-2 : tie.Need-returns-2
-returns-2 c = search refused-by-line
+returns : tie.Need-returns
+returns c = search refused-by-line
 
 both-fills-requires : tie.Need-both-fills-requires
 both-fills-requires c κs = search needs
 
-returns-3 : tie.Need-returns-3
-returns-3 c = search refused-by-both-fills
+returns-2 : tie.Need-returns-2
+returns-2 c = search refused-by-both-fills
 
 fill-upward-requires : tie.Need-fill-upward-requires
 fill-upward-requires c κs = search needs
 
-returns-4 : tie.Need-returns-4
-returns-4 c = search refused-by-fill-upward
+returns-3 : tie.Need-returns-3
+returns-3 c = search refused-by-fill-upward
 
 setup-requires : tie.Need-setup-requires
 setup-requires c κs = search needs
@@ -37,26 +31,24 @@ pointers-requires c κs = search needs
 leaves-memory-requires : tie.Need-leaves-memory-requires
 leaves-memory-requires c κs = search (needs, pointers-lt-a, pointers-lt-b, pointers-lt-c, pointers-lt-d)
 
-returns-5 : tie.Need-returns-5
-returns-5 c = search refused-by-leaving
+returns-4 : tie.Need-returns-4
+returns-4 c = search refused-by-leaving
 
-returns-6 : tie.Need-returns-6
-returns-6 c = search lawful
+returns-5 : tie.Need-returns-5
+returns-5 c = search lawful
 
 pub step-refusal-spec : {M : Type 1} → statement M
 step-refusal-spec =
     tie.close
     (tie.spec
-    no-words-requires
-    returns
     read-requires
-    returns-2
+    returns
     both-fills-requires
-    returns-3
+    returns-2
     fill-upward-requires
-    returns-4
+    returns-3
     setup-requires
     pointers-requires
     leaves-memory-requires
-    returns-5
-    returns-6)
+    returns-4
+    returns-5)

@@ -1,5 +1,5 @@
 -- `folder::piece::settled_length` meets its contract: the numbers fit.
-use Rattle.blit.proofs.RefusalLaws.{words-fit}
+use Rattle.word.proofs.SizeLaws.{words-fit}
 use Rattle.folder.proofs.PieceLaws.{settledLength-fits, settledLength-fits-all, settledLength-of-parts}
 use borrow.Author.Needs.{needs}
 use Rattle.folder.proofs.piece.settled_length.Statement.{statement}

@@ -1,5 +1,6 @@
 -- `folder::stores::put_settled` meets its contract: the stores, then what follows them.
-use Rattle.blit.proofs.RefusalLaws.{width-is-few, words-fit}
+use Rattle.word.proofs.SizeLaws.{words-fit}
+use Rattle.blit.proofs.RefusalLaws.{width-is-few}
 use Rattle.blit.proofs.BlitLaws.{setup-shifts-a, setup-shifts-b, start-room}
 use Rattle.folder.proofs.PieceLaws.{settledLength-fits}
 use Rattle.folder.proofs.StoresLaws.{settledEnd-of-rows, settledWords-of-parts, stores-room, end-room, end-fits}

@@ -1,5 +1,5 @@
 -- `settled::settle::small` meets its contract: the product of height and width, which fits.
-use Rattle.blit.proofs.RefusalLaws.{words-fit}
+use Rattle.word.proofs.SizeLaws.{words-fit}
 use Rattle.settled.proofs.SettledLaws.{small-of-parts}
 use borrow.Author.Needs.{needs}
 use Rattle.settled.proofs.settle.small.Statement.{statement}

@@ -1,4 +1,5 @@
--- Paper 01, "Numbers given back", as paper 02 leaves it: the rows that a step can be refused by, step by step 4, 5, 6, 7, 8, 9, 10.
+-- Paper 01, "Numbers given back", as paper 02 leaves it: the rows that a step can be refused by,
+-- in the order 4, 5, 6, 7, 8, 9, 10.
 use Prim.Native.Nat.{ℕ}
 use mathlib.Core.Bool.{Bool, true, false}
 use mathlib.Core.List.{List, [], _∷_}

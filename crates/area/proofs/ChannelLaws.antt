@@ -1,13 +1,10 @@
 -- Laws of single channels through a word, a row and all rows: where a used pointer goes, and what memory D changes.
-use mathlib.Core.Path.{_≡_, refl, sym, ap, _∙_}
-use Prim.Native.Nat.{ℕ, zero, suc, _+_}
+use mathlib.Core.Path.{_≡_, refl, ap, _∙_}
+use Prim.Native.Nat.{ℕ, zero, suc}
 use mathlib.Core.Bool.{Bool, true, false}
-use mathlib.Core.List.{List}
-use lib.Dec.{eqb}
 use lib.ListN.{set}
 use Rattle.word.specs.declared.types.Direction.{Direction}
 use Rattle.word.specs.declared.types.Pointer.{Pointer}
-use Rattle.word.specs.Choice.{if_then_else_}
 use Rattle.word.specs.Repeat.{repeated}
 use Rattle.word.specs.Pointer.{moved, passed}
 use Rattle.word.proofs.RepeatLaws.{repeated-keeps}

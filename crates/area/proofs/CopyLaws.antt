@@ -1,5 +1,5 @@
 -- Laws of a copying set-up: use A and D, function F0, shift 0, no fill, both masks all ones.
-use mathlib.Core.Path.{_≡_, refl, sym, ap, _∙_}
+use mathlib.Core.Path.{_≡_, refl, _∙_}
 use Prim.Native.Nat.{ℕ, _+_, _<_}
 use mathlib.Core.Bool.{Bool, true, false}
 use mathlib.Core.List.{List}
@@ -9,8 +9,6 @@ use Rattle.word.specs.declared.types.Direction.{Direction}
 use Rattle.word.specs.declared.types.Pointer.{Pointer}
 use Rattle.word.specs.declared.types.Fill.{Fill}
 use Rattle.word.specs.declared.types.Fill.the-variants.{Off}
-use Rattle.word.specs.declared.types.Filled.{Filled}
-use Rattle.word.specs.Choice.{if_then_else_}
 use Rattle.word.specs.Mask.{masked}
 use Rattle.word.specs.Shift.{shifted}
 use Rattle.word.specs.Logic.{logic}
@@ -19,7 +17,6 @@ use Rattle.word.proofs.MaskLaws.{masked-by-ones}
 use Rattle.word.proofs.ShiftLaws.{shifted-by-zero}
 use Rattle.word.proofs.LogicLaws.{logic-of-f0}
 use Rattle.area.specs.declared.types.Setup.{Setup}
-use Rattle.area.specs.declared.types.Flow.{Flow}
 use Rattle.area.specs.Flow.{State, state}
 use Rattle.area.specs.Fetch.{fetched, fetch}
 use Rattle.area.specs.Finish.{maskedA, result, final, finish}

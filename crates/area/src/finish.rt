@@ -1,7 +1,7 @@
 // A word finished from its sources: masked, shifted, joined by the logic function, filled.
 ghost use mathlib.Core.Path.{_≡_};
 ghost use Prim.Native.Nat.{_<_};
-ghost use Rattle.area.specs.Finish.{maskedA, result, final, finish};
+ghost use Rattle.area.specs.Finish.{maskedA, result, finish};
 use crate::types::Earlier;
 use crate::types::Finished;
 use crate::types::Flow;

@@ -1,5 +1,5 @@
 -- Laws of the blit: what it writes back, and how it is put together from its parts.
-use mathlib.Core.Path.{_≡_, refl, sym, ap, _∙_}
+use mathlib.Core.Path.{_≡_, refl}
 use Prim.Native.Nat.{ℕ, _+_, _*_, _<_, _≤_}
 use mathlib.Core.Bool.{Bool, true, false}
 use mathlib.Core.List.{List}
@@ -26,7 +26,7 @@ use Rattle.area.specs.Rows.{rows}
 use Rattle.area.proofs.RowsLaws.{rows-count, rows-keep-length}
 use Rattle.blit.specs.Refusal.{stepRefusal, refusal, refusalNumber, verdictNumber}
 use Rattle.blit.specs.WriteBack.{putPointer, putPointers, putSource, putSources, putFlag}
-use Rattle.blit.specs.Blit.{Outcome, finished, done, refused, answered, blitStep, blit, left}
+use Rattle.blit.specs.Blit.{finished, done, refused, answered, blitStep, blit, left}
 
 pub putPointer-when-used : (used : Bool) (place up down : ℕ) (pointer : Pointer) (file one two : List ℕ)
     → used ≡ true → up ≡ high pointer → one ≡ set file place up → down ≡ low pointer → two ≡ set one (place + 1) down

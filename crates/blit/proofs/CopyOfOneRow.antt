@@ -1,20 +1,19 @@
 -- A copy of one row: each word is the one at A's pointer, and no store of the row comes to a word of A that is still to be fetched.
 use mathlib.Core.Path.{_≡_, refl, sym, ap, _∙_}
-use Prim.Native.Nat.{ℕ, zero, suc, _+_, _-_, _%_, _<_, _≤_}
+use Prim.Native.Nat.{ℕ, zero, suc, _<_, _≤_}
 use native.Mathlib.Nat.{zero-lt-suc, not-suc-le-zero}
 use native.Mathlib.Decide.{decLt}
 use native.Mathlib.Omega.{arith}
-use mathlib.Core.Bool.{Bool, true, false, _&&_, _||_}
-use mathlib.Core.List.{List, [], _∷_, _++_, append-nil}
+use mathlib.Core.Bool.{Bool, true, false}
+use mathlib.Core.List.{List, []}
 use borrow.Author.Tests.{ne-eqb, eqb-true, eqb-false, leb-false}
 use lib.Dec.{eqb, leb}
-use lib.ListN.{length, getD, set, length-set, List·getD-eq-default}
+use lib.ListN.{length, getD, set, length-set}
 use lib.Seq.{getD-set-other, getD-set-same, set-out}
 use Rattle.word.specs.declared.types.Direction.{Direction}
 use Rattle.word.specs.declared.types.Direction.the-variants.{Ascending, Descending}
 use Rattle.word.specs.declared.types.Pointer.{Pointer}
 use Rattle.word.specs.declared.types.Fill.the-variants.{Off}
-use Rattle.word.specs.Choice.{if_then_else_}
 use Rattle.word.specs.Repeat.{repeated}
 use Rattle.word.specs.Pointer.{pointerEnd, moved, passed}
 use Rattle.word.specs.Size.{height, width}
@@ -22,13 +21,13 @@ use Rattle.word.proofs.ChoiceLaws.{or-left, or-right}
 use Rattle.word.proofs.SizeLaws.{width-le}
 use Rattle.file.specs.Places.{pointerD}
 use Rattle.area.specs.declared.types.Setup.{Setup}
-use Rattle.area.specs.Setup.{con0, con1, uses, shifts, direction, fill, masks, setup}
+use Rattle.area.specs.Setup.{con1, uses, shifts, direction, fill, masks, setup}
 use Rattle.area.specs.Flow.{State, state, pointers, start}
 use Rattle.area.specs.Rows.{oneWord, words, rowStart, oneRow, rows}
 use Rattle.area.proofs.ChannelLaws.{oneWord-stores, oneWord-moves-a, oneWord-moves-d}
 use Rattle.area.proofs.CopyLaws.{Copying, finishedWord-copies, oneWord-hands-on}
 use Rattle.area.specs.declared.types.Pointers.{Pointers}
-use Rattle.blit.specs.Touch.{rowTouches, afterRow, touches, among, leaves, channelLeaves}
+use Rattle.blit.specs.Touch.{rowTouches, touches, among, leaves}
 use Rattle.blit.specs.Refusal.{refusal, leavesMemory}
 use Rattle.blit.specs.Blit.{finished, done, answered, blit}
 use Rattle.blit.specs.CopyOfOneRow.{plain, Copies, spot, CopyOfOneRow}

@@ -1,7 +1,6 @@
 -- Two answers that meet the promise are equal: the numbers tell the refusals apart, and no refusal has the number 0.
 use mathlib.Core.Path.{_≡_, refl, sym, ap, _∙_}
 use Prim.Native.Nat.{ℕ}
-use mathlib.Core.List.{List}
 use borrow.Author.Tests.{eqb-false}
 use lib.Dec.{eqb}
 use Rattle.word.specs.Choice.{if_then_else_}
@@ -10,9 +9,9 @@ use Rattle.blit.specs.declared.types.Refusal.the-variants.{MemorySize, R
 use Rattle.blit.specs.declared.types.Answer.{Answer}
 use Rattle.blit.specs.declared.types.Answer.the-variants.{Done, Refused}
 use Rattle.blit.specs.Refusal.{refusalNumber}
-use Rattle.blit.specs.Blit.{Outcome, answerNumber, answerStored, blit, left}
+use Rattle.blit.specs.Blit.{Outcome, answerNumber, answerStored, left}
 use Rattle.blit.proofs.BlitLaws.{refusal-is-some}
-use Rattle.blit.specs.OneAnswer.{Same, OneAnswer}
+use Rattle.blit.specs.OneAnswer.{OneAnswer}
 
 -- the refusal with a number
 refusalOf : ℕ → Refusal

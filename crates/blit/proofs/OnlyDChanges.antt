@@ -5,13 +5,12 @@ use mathlib.Core.Bool.{Bool, true, false, _||_, or-assoc}
 use mathlib.Core.List.{List, [], _∷_, _++_}
 use borrow.Author.Tests.{eqb-false}
 use lib.Dec.{eqb}
-use lib.ListN.{length, getD, set}
+use lib.ListN.{length, getD}
 use lib.Seq.{getD-set-other}
-use Rattle.word.specs.declared.types.Direction.{Direction}
 use Rattle.word.specs.declared.types.Pointer.{Pointer}
 use Rattle.word.specs.Choice.{if_then_else_}
 use Rattle.word.specs.Repeat.{repeated}
-use Rattle.word.specs.Pointer.{moved, passed}
+use Rattle.word.specs.Pointer.{moved}
 use Rattle.word.specs.Size.{height, width}
 use Rattle.word.proofs.ChoiceLaws.{or-left, or-right}
 use Rattle.area.specs.declared.types.Setup.{Setup}
@@ -22,7 +21,7 @@ use Rattle.area.proofs.ChannelLaws.{oneWord-stores, oneWord-moves-d, oneRow-mov
 use Rattle.blit.specs.Touch.{rowTouches, afterRow, touches, among}
 use Rattle.blit.specs.Refusal.{refusal}
 use Rattle.blit.specs.Blit.{finished, done, refused, answered, blit}
-use Rattle.blit.specs.OnlyDChanges.{touchedByD, OnlyDChanges, WithoutDNothingChanges}
+use Rattle.blit.specs.OnlyDChanges.{OnlyDChanges, WithoutDNothingChanges}
 
 pub among-of-append : (word : ℕ) (first rest : List ℕ) → among word (first ++ rest) ≡ (among word first || among word rest)
 unfolding among

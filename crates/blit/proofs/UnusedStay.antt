@@ -1,5 +1,5 @@
 -- A blit changes no register but those of used channels and the flag: each is put at its own place.
-use mathlib.Core.Path.{_≡_, refl, sym, ap, _∙_}
+use mathlib.Core.Path.{_≡_, refl, sym, _∙_}
 use Prim.Native.Nat.{ℕ, _+_}
 use mathlib.Core.Bool.{Bool, true, false, _||_}
 use mathlib.Core.List.{List, [], _∷_, _++_}
@@ -16,7 +16,6 @@ use Rattle.area.specs.declared.types.Uses.{Uses}
 use Rattle.area.specs.declared.types.Pointers.{Pointers}
 use Rattle.area.specs.declared.types.Sources.{Sources}
 use Rattle.area.specs.Setup.{setup}
-use Rattle.area.specs.Flow.{State}
 use Rattle.blit.specs.Touch.{among}
 use Rattle.blit.specs.Refusal.{refusal}
 use Rattle.blit.specs.WriteBack.{putPointer, putPointers, putSource, putSources, putFlag}

@@ -1,7 +1,7 @@
 -- What a blit leaves alone in memory: every word that D doesn't touch, and all of it where D isn't used.
 use Prim.Native.Nat.{ℕ}
 use mathlib.Core.Path.{_≡_}
-use mathlib.Core.Bool.{true, false}
+use mathlib.Core.Bool.{false}
 use mathlib.Core.List.{List}
 use lib.ListN.{getD}
 use Rattle.word.specs.Size.{height, width}

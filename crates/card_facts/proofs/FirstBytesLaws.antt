@@ -5,13 +5,13 @@ use native.Mathlib.Decide.{decLt}
 use native.Mathlib.Omega.{arith}
 use mathlib.Core.Bool.{Bool, true, false, not, _&&_}
 use mathlib.Core.List.{List, [], _∷_, _++_}
-use borrow.Author.Tests.{ne-eqb, eqb-false, not-true, leb-true}
+use borrow.Author.Tests.{ne-eqb, eqb-false, not-true}
 use lib.Dec.{eqb, leb}
 use lib.ListN.{length, getD, take, drop, length-append, length-drop, take-append-drop, List·getD-append}
 use lib.Seq.{length-take-le, take-all, drop-append-le, getD-drop}
 use Rattle.word.specs.Choice.{if_then_else_}
 use Rattle.word.proofs.ChoiceLaws.{and-left, and-right}
-use Rattle.card_text.specs.Text.{newline, byte, decimalDigit}
+use Rattle.card_text.specs.Text.{byte, decimalDigit}
 use Rattle.card_text.specs.RamLine.{digits, spelled, ramWords, ramEnd, ramKey, ramLine}
 use Rattle.card_text.specs.Reading.{keyAt, wordAt, keyLine, badFrom, badLine}
 use Rattle.card_text.specs.Card.{printed}

@@ -1,6 +1,6 @@
 -- What a card gives is no longer than its room: each line has its most, and memory at most 32,768 words.
-use mathlib.Core.Path.{_≡_, refl, sym, ap, _∙_}
-use Prim.Native.Nat.{ℕ, suc, _+_, _*_, _/_, _%_, _<_, _≤_}
+use mathlib.Core.Path.{_≡_, refl, ap, _∙_}
+use Prim.Native.Nat.{ℕ, _+_, _*_, _/_, _%_, _<_, _≤_}
 use native.Mathlib.Decide.{decLt}
 use native.Mathlib.Omega.{arith}
 use mathlib.Core.Bool.{Bool, true, false}
@@ -9,9 +9,9 @@ use borrow.Author.Tests.{eqb-true}
 use lib.Dec.{eqb, leb}
 use lib.ListN.{length, getD, length-append}
 use Rattle.word.specs.Choice.{if_then_else_}
-use Rattle.file.specs.Places.{fileLength, pointerD, flag}
+use Rattle.file.specs.Places.{fileLength, flag}
 use Rattle.job.specs.Steps.{stepsFrom}
-use Rattle.runner.specs.Run.{End, Machine, machine, startRefusal, run}
+use Rattle.runner.specs.Run.{End, machine, startRefusal, run}
 use Rattle.runner.proofs.LengthLaws.{runSteps-keeps-memory-length}
 use Rattle.runner.proofs.StartLaws.{run-when-started, run-when-unstarted}
 use Rattle.card_text.specs.Text.{newline, colon, glyph, hex4, hex5, leading, decimal}
@@ -19,7 +19,7 @@ use Rattle.card_text.specs.RamLine.{ramWords, ramEnd, ramLine}
 use Rattle.card_text.specs.Keys.{keyCount}
 use Rattle.card_text.specs.Reading.{badFrom, badLine}
 use Rattle.card_text.specs.Job.{counted, zeros, cardJob, cardRun}
-use Rattle.card_text.specs.Printing.{answerIs, storedIs, zeroIs, dptIs, wordIs, lineIs, numberLine, dptLine, wordLine, changedWord, changed, printedRun, printedBad}
+use Rattle.card_text.specs.Printing.{answerIs, storedIs, zeroIs, wordIs, lineIs, numberLine, dptLine, wordLine, changedWord, changed, printedRun, printedBad}
 use Rattle.card_text.specs.Card.{printed}
 use Rattle.card_facts.specs.TextFits.{TextFits}
 use Rattle.card_text.proofs.JobLaws.{counted-length}

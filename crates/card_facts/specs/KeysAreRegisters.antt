@@ -1,7 +1,6 @@
 -- The registers that the card's keys write are the file's, in the file's order; size stands after the twelfth.
-use Prim.Native.Nat.{ℕ}
 use mathlib.Core.Path.{_≡_}
-use mathlib.Core.List.{List, _++_, map}
+use mathlib.Core.List.{_++_, map}
 use lib.ListN.{take, drop}
 use Rattle.file.specs.File.{Register, registers}
 use Rattle.card_text.specs.Job.{offsets}

@@ -1,18 +1,16 @@
 -- Laws of the card as a whole: the run that it prints, and the cases of its text.
 use mathlib.Core.Path.{_≡_, refl, sym, ap, _∙_}
-use Prim.Native.Nat.{ℕ, _+_, _≤_}
+use Prim.Native.Nat.{ℕ, _≤_}
 use native.Mathlib.Omega.{arith}
-use mathlib.Core.Bool.{Bool, true, false}
 use mathlib.Core.List.{List}
-use borrow.Author.Tests.{eq-eqb, ne-eqb}
+use borrow.Author.Tests.{ne-eqb}
 use lib.ListN.{length, take}
 use lib.Seq.{length-take-le}
 use Rattle.file.specs.Places.{fileLength}
 use Rattle.runner.specs.declared.types.Answer.{Answer}
-use Rattle.runner.specs.Run.{End, ended, machine, run}
+use Rattle.runner.specs.Run.{ended, machine, run}
 use Rattle.runner.specs.Answer.{answerNumber, answerPlace, answerStored, left}
 use Rattle.card_text.specs.declared.types.Ram.{Ram}
-use Rattle.card_text.specs.RamLine.{ramWords, ramEnd, ramLine}
 use Rattle.card_text.specs.Reading.{badFrom, badLine}
 use Rattle.card_text.specs.Ram.{ramRead}
 use Rattle.card_text.specs.Job.{counted, zeros, writeOrder, writes, cardRun}

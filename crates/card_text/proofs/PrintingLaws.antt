@@ -1,18 +1,17 @@
 -- Laws of what is printed: digits, numbers and lines, out of their pieces.
-use mathlib.Core.Path.{_≡_, refl, sym, ap, ap₂, _∙_}
+use mathlib.Core.Path.{_≡_, sym, ap, ap₂, _∙_}
 use Prim.Native.Nat.{ℕ, suc, _+_, _*_, _/_, _%_, _<_, _≤_}
 use native.Mathlib.Omega.{arith}
-use mathlib.Core.Bool.{Bool, true, false}
-use mathlib.Core.List.{List, [], _∷_, _++_}
+use mathlib.Core.List.{List, [], _∷_}
 use borrow.Author.Tests.{le-leb, lt-leb, eq-eqb, ne-eqb}
 use lib.ListN.{length, getD, drop, drop-of-length-le}
 use lib.Seq.{drop-cons}
 use Rattle.file.specs.Places.{pointerD, flag}
-use Rattle.runner.specs.Run.{End, ended, machine}
-use Rattle.card_text.specs.Text.{newline, equals, colon, glyph, hex4, hex5, leading, decimal}
+use Rattle.runner.specs.Run.{ended, machine}
+use Rattle.card_text.specs.Text.{newline, colon, glyph, hex4, hex5, leading, decimal}
 use Rattle.card_text.specs.Printing.{answerIs, storedIs, zeroIs, dptIs, wordIs, lineIs, numberLine, dptLine, wordLine, changedWord, changed, printedRun, printedBad}
 use Rattle.card_text.specs.Card.{Written, written, writing}
-use Rattle.card_text.proofs.WritingLaws.{writing-of-none, writing-of-append, writing-then, writing-done}
+use Rattle.card_text.proofs.WritingLaws.{writing-of-none, writing-of-append, writing-then}
 
 pub glyph-when-decimal : (digit : ℕ) → digit ≤ 9 → 48 + digit ≡ glyph digit
 unfolding glyph

@@ -1,24 +1,20 @@
 -- Laws of a card's lines: what is read of the first, and the first bad one of the others.
-use mathlib.Core.Path.{_≡_, refl, sym, ap, ap₂, _∙_}
+use mathlib.Core.Path.{_≡_, refl, sym, ap, _∙_}
 use Prim.Native.Nat.{ℕ, zero, suc, _+_, _*_, _-_, _<_, _≤_}
 use native.Mathlib.Nat.{add-zero}
-use native.Mathlib.Numerals.{sub-one}
 use native.Mathlib.Decide.{decLt}
 use native.Mathlib.Omega.{arith}
-use mathlib.Core.Bool.{Bool, true, false, not, _&&_}
-use mathlib.Core.List.{List, [], _∷_}
-use borrow.Author.Tests.{le-leb, lt-leb, leb-true, eq-eqb, ne-eqb, eqb-true, not-true}
-use lib.Dec.{eqb, leb}
-use lib.ListN.{length, getD, drop, drop-of-length-le, List·getD-eq-default}
-use lib.Seq.{drop-cons}
+use mathlib.Core.Bool.{Bool, true, false, _&&_}
+use mathlib.Core.List.{List}
+use borrow.Author.Tests.{eq-eqb, ne-eqb, eqb-true}
+use lib.Dec.{eqb}
+use lib.ListN.{length, getD, List·getD-eq-default}
 use Rattle.word.specs.Choice.{if_then_else_}
-use Rattle.word.proofs.ChoiceLaws.{and-left, and-right, and-none}
-use Rattle.card_text.specs.declared.types.Ram.{Ram}
-use Rattle.card_text.specs.Text.{newline, equals, byte, decimalDigit, hexDigit}
-use Rattle.card_text.specs.RamLine.{digits, spelled, ramWords, ramEnd, ramKey, ramLine}
+use Rattle.word.proofs.ChoiceLaws.{and-none}
+use Rattle.card_text.specs.Text.{equals, byte, hexDigit}
+use Rattle.card_text.specs.RamLine.{digits, ramKey}
 use Rattle.card_text.specs.Keys.{letter}
 use Rattle.card_text.specs.Reading.{keyAt, wordAt, keyLine, badFrom}
-use Rattle.card_text.specs.Ram.{ramRead, ramEnded}
 
 pub ramKey-of-parts : (text : List ℕ) (a b c d : ℕ)
     → a ≡ getD text 0 0 → b ≡ getD text 1 0 → c ≡ getD text 2 0 → d ≡ getD text 3 0

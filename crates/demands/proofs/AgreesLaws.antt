@@ -1,18 +1,17 @@
 -- Laws of knowledge that agrees with a register file: every register that is known holds its number.
 use mathlib.Core.Path.{_≡_, refl, sym, ap, _∙_}
-use Prim.Native.Nat.{ℕ, _+_, _<_, _≤_}
+use Prim.Native.Nat.{ℕ, _+_, _<_}
 use native.Mathlib.Decide.{decLt}
 use native.Mathlib.Omega.{arith}
 use mathlib.Core.Bool.{Bool, true, false}
 use mathlib.Core.List.{List}
 use borrow.Author.Tests.{eqb-true, eqb-false}
 use lib.Dec.{eqb}
-use lib.ListN.{length, getD, set, length-set, List·getD-eq-default}
+use lib.ListN.{length, getD, set, List·getD-eq-default}
 use lib.Seq.{getD-set-other, getD-set-same, set-out}
 use Rattle.word.specs.declared.types.Pointer.{Pointer}
-use Rattle.word.specs.Choice.{if_then_else_}
 use Rattle.word.specs.Pointer.{high, low}
-use Rattle.file.specs.Places.{flag, pointerD}
+use Rattle.file.specs.Places.{flag}
 use Rattle.blit.specs.WriteBack.{putPointer, putSource}
 use Rattle.knowledge.specs.declared.types.Known.{Known}
 use Rattle.settled.specs.Learn.{forgetPointer, forgetSource}

@@ -21,7 +21,6 @@ use Rattle.job.specs.Step.{operands, found, front}
 use Rattle.job.specs.Steps.{Placed, placed, stepsFrom, steps}
 use Rattle.runner.specs.Effect.{stepEffect, effect}
 use Rattle.runner.specs.Run.{Machine, machine, after, runSteps, runFrom, jobLength, startRefusal, run}
-use Rattle.runner.proofs.AnywhereLaws.{SameButPlace}
 use Rattle.knowledge.specs.declared.types.Known.{Known}
 use Rattle.knowledge.specs.Knowledge.{nothing, numbers}
 use Rattle.knowledge.proofs.KnowledgeLaws.{nothing-length}
@@ -38,7 +37,7 @@ use Rattle.demands.proofs.AgreesLaws.{Agrees, agrees-of-set, agrees-of-
 use Rattle.demands.proofs.SettledKnownLaws.{both-first, settled-is-lawful, settled-uses-d, settled-agrees}
 use Rattle.demands.proofs.GoodStepLaws.{Good, byStep-is-clean, byStep-fits, steps-are-good}
 use Rattle.demands.specs.DemandThree.{DemandThree}
-use Rattle.demands.proofs.StepRunLaws.{copied-runs}
+use Rattle.demands.proofs.StepRunLaws.{SameButPlace, copied-runs}
 use Rattle.demands.proofs.StandsLaws.{Stands, after-lengths, stands-after-register, stands-after-store, stands-after-flag, stands-after-kept}
 
 -- a blit that is settled

@@ -5,7 +5,7 @@ use native.Mathlib.Nat.{le-refl}
 use native.Mathlib.Numerals.{one-add}
 use native.Mathlib.Omega.{arith}
 use mathlib.Core.Bool.{Bool, true, false, not, _||_}
-use mathlib.Core.List.{List, [], _∷_, _++_}
+use mathlib.Core.List.{List, [], _∷_}
 use borrow.Author.Tests.{eqb-true, eqb-false, leb-true}
 use lib.Dec.{eqb, leb}
 use lib.ListN.{length, take, drop}
@@ -21,7 +21,7 @@ use Rattle.job.specs.Steps.{Placed, placed, following, stepsFrom}
 use Rattle.job.proofs.StepLaws.{front-le}
 use Rattle.runner.proofs.FrontLaws.{front-of-take, front-is-some}
 use Rattle.folder.specs.Fold.{rawWords}
-use Rattle.folder.specs.Folding.{Folding, refused, done, tooLong, byStep}
+use Rattle.folder.specs.Folding.{refused, done, tooLong, byStep}
 
 -- a step that some words begin is begun by them wherever they stand
 begun-elsewhere : (begins : Kind) (at to : ℕ) (rest : List ℕ) (step : Step) (next : ℕ)

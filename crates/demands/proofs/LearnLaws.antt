@@ -1,27 +1,24 @@
 -- Laws of what the folder learns: after every step its knowledge agrees with what the step leaves in the register file.
 use mathlib.Core.Path.{_≡_, refl, sym, ap, _∙_}
-use Prim.Native.Nat.{ℕ, _+_, _<_}
+use Prim.Native.Nat.{ℕ}
 use native.Mathlib.Omega.{arith}
 use mathlib.Core.Bool.{Bool, true, false}
 use mathlib.Core.List.{List}
 use lib.Dec.{eqb}
-use lib.ListN.{length, getD, set, length-set}
-use Rattle.word.specs.declared.types.Pointer.{Pointer}
+use lib.ListN.{length, length-set}
 use Rattle.word.specs.Choice.{if_then_else_}
-use Rattle.word.specs.Pointer.{high, low}
-use Rattle.file.specs.File.{kept}
-use Rattle.file.specs.Places.{control0, pointerA, pointerB, pointerC, pointerD, sourceA, sourceB, sourceC, flag}
+use Rattle.file.specs.Places.{control0, pointerA, pointerB, pointerC, pointerD, sourceA, sourceB, sourceC}
 use Rattle.area.specs.declared.types.Uses.{Uses}
 use Rattle.area.specs.declared.types.Pointers.{Pointers}
 use Rattle.area.specs.declared.types.Sources.{Sources}
 use Rattle.area.specs.Setup.{con0, uses, setup}
-use Rattle.area.specs.Flow.{State, start}
+use Rattle.area.specs.Flow.{start}
 use Rattle.blit.specs.Refusal.{stepRefusal}
 use Rattle.blit.specs.WriteBack.{putPointer, putPointers, putSource, putSources, putFlag}
 use Rattle.blit.specs.Blit.{finished, done, refused, answered, blitStep}
 use Rattle.knowledge.specs.declared.types.Known.{Known}
 use Rattle.knowledge.specs.Known.{number, isKnown}
-use Rattle.settled.specs.Learn.{knownAt, written, mayUse, forgetPointer, forgetSource, forgetUsed, forgotten, movedD}
+use Rattle.settled.specs.Learn.{knownAt, mayUse, forgetPointer, forgetSource, forgetUsed, forgotten}
 use Rattle.demands.proofs.AgreesLaws.{Agrees, agrees-of-flag, agrees-of-source, agrees-of-pointer}
 
 -- the channels that a blit uses are among those it may use

@@ -1,5 +1,5 @@
 -- The size writes of a folded job: a settled blit's words have none, and any other step is its own.
-use mathlib.Core.Path.{_≡_, refl, sym, ap, ap₂, subst, _∙_}
+use mathlib.Core.Path.{_≡_, refl, sym, ap, subst, _∙_}
 use Prim.Native.Nat.{ℕ, zero, suc, _+_, _<_}
 use native.Mathlib.Numerals.{one-add}
 use mathlib.Core.Bool.{Bool, true, false}
@@ -9,14 +9,12 @@ use lib.Seq.{drop-at}
 use Rattle.word.specs.declared.types.Pointer.{Pointer}
 use Rattle.word.specs.Choice.{if_then_else_}
 use Rattle.word.specs.Repeat.{repeated}
-use Rattle.word.specs.Pointer.{pointerEnd, moved, passed}
+use Rattle.word.specs.Pointer.{pointerEnd, moved}
 use Rattle.word.specs.Size.{height, width}
 use Rattle.file.specs.Places.{pointerD}
 use Rattle.area.specs.declared.types.Setup.{Setup}
-use Rattle.area.specs.declared.types.Flow.{Flow}
 use Rattle.area.specs.Setup.{setup}
 use Rattle.area.specs.Flow.{State, state, pointers, start}
-use Rattle.area.specs.With.{withCarry}
 use Rattle.area.specs.Rows.{finishedWord, oneWord, rowStart, oneRow}
 use Rattle.area.proofs.ChannelLaws.{oneWord-moves-d, oneRow-moves-d}
 use Rattle.word.proofs.PointerLaws.{moved-lt, passed-lt}
@@ -24,7 +22,7 @@ use Rattle.blit.proofs.RefusalLaws.{pointerAt-lt}
 use Rattle.job.specs.declared.types.Step.{Step}
 use Rattle.job.specs.declared.types.Read.{Read}
 use Rattle.job.specs.Step.{operands, found, front}
-use Rattle.job.specs.Steps.{Placed, placed, following, stepsFrom, steps}
+use Rattle.job.specs.Steps.{Placed, following, stepsFrom, steps}
 use Rattle.job.proofs.StepsLaws.{stepsFrom-of-skip}
 use Rattle.knowledge.specs.declared.types.Known.{Known}
 use Rattle.knowledge.specs.Knowledge.{nothing, numbers}
@@ -36,10 +34,9 @@ use Rattle.settled.proofs.WordsLaws.{afterSettled}
 use Rattle.settled.specs.Settled.{settled}
 use Rattle.settled.specs.Learn.{written, forgotten, movedD}
 use Rattle.folder.specs.Fold.{folded, learned, rawWords, piece, learnedAfter, foldSteps, foldFrom, fold}
-use Rattle.demands.specs.DemandThree.{FolderAccepts}
 use Rattle.demands.specs.SettledAreReplaced.{sizeOf, sizes, unsettledOf, unsettled, SettledAreReplaced}
 use Rattle.demands.proofs.SettledKnownLaws.{settled-uses-d}
-use Rattle.demands.proofs.GoodStepLaws.{GoodStep, Good, byStep-is-clean, steps-are-good}
+use Rattle.demands.proofs.GoodStepLaws.{Good, byStep-is-clean, steps-are-good}
 use Rattle.demands.proofs.StepRunLaws.{decoded, empty-begins-nothing}
 use Rattle.demands.proofs.DemandThreeLaws.{folding-starts}
 

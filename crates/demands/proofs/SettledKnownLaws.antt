@@ -1,5 +1,5 @@
 -- Laws of a settled blit: the file of the known numbers agrees with the register file on all that the blit depends on.
-use mathlib.Core.Path.{_≡_, refl, sym, ap, _∙_}
+use mathlib.Core.Path.{_≡_, refl, sym, _∙_}
 use Prim.Native.Nat.{ℕ, _+_, _*_, _<_}
 use native.Mathlib.Omega.{arith}
 use mathlib.Core.Bool.{Bool, true, false, not, _&&_, _||_}
@@ -14,7 +14,7 @@ use Rattle.area.specs.Setup.{con0, uses, function, setup}
 use Rattle.blit.specs.Refusal.{stepRefusal}
 use Rattle.depends.specs.Depends.{counts}
 use Rattle.knowledge.specs.declared.types.Known.{Known}
-use Rattle.knowledge.specs.Known.{number, isKnown}
+use Rattle.knowledge.specs.Known.{number}
 use Rattle.knowledge.specs.Knowledge.{numbers}
 use Rattle.knowledge.proofs.KnownLaws.{known-is-number}
 use Rattle.knowledge.proofs.KnowledgeLaws.{numbers-at}

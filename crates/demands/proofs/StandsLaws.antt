@@ -11,7 +11,7 @@ use Rattle.blit.specs.Blit.{refused}
 use Rattle.job.specs.declared.types.Step.{Step}
 use Rattle.job.specs.declared.types.Read.{Read}
 use Rattle.runner.specs.Effect.{did, registerEffect, storeEffect, flagEffect, stepEffect, effect}
-use Rattle.runner.specs.Run.{Machine, machine, after, run}
+use Rattle.runner.specs.Run.{Machine, after}
 use Rattle.runner.proofs.LengthLaws.{effect-keeps-memory-length, effect-keeps-file-length}
 use Rattle.knowledge.specs.declared.types.Known.{Known}
 use Rattle.settled.specs.Learn.{written, forgotten}

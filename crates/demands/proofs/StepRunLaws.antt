@@ -17,9 +17,13 @@ use Rattle.job.specs.Steps.{Placed, placed, following, stepsFrom}
 use Rattle.job.proofs.StepLaws.{front-of-append}
 use Rattle.job.proofs.StepsLaws.{stepsFrom-of-skip}
 use Rattle.runner.specs.Effect.{stepEffect, effect}
-use Rattle.runner.specs.Run.{Machine, after, End, ended, runSteps, runFrom, run}
-use Rattle.runner.proofs.AnywhereLaws.{SameButPlace}
+use Rattle.runner.specs.Run.{Machine, after, End, ended, runSteps, runFrom}
 use Rattle.knowledge.specs.Knowledge.{numbers}
+
+-- two ends that agree in all but the place
+pub record SameButPlace (this other : End) : Type 0 where
+  pub numbers : this .number ≡ other .number
+  pub machines : this .machine ≡ other .machine
 
 pub empty-begins-nothing : (at : ℕ) (step : Step) → front at [] ≡ found at step → ⊥
 unfolding front found

@@ -1,5 +1,5 @@
 -- Laws of places and lengths: a job has at most 4,096 words and a folded job too, so that 32 bits hold them.
-use mathlib.Core.Path.{_≡_, refl, sym, ap, _∙_}
+use mathlib.Core.Path.{_≡_, refl, ap}
 use Prim.Native.Nat.{ℕ, zero, suc, _+_, _<_, _≤_}
 use native.Mathlib.Decide.{decLt}
 use native.Mathlib.Omega.{arith}
@@ -11,8 +11,8 @@ use lib.ListN.{length}
 use Rattle.word.specs.Choice.{if_then_else_, _when_, given}
 use Rattle.blit.specs.Refusal.{memorySize}
 use Rattle.job.specs.Step.{front, readNumber}
-use Rattle.job.specs.Steps.{Placed, placed, following, stepsFrom, steps}
-use Rattle.runner.specs.Run.{Machine, machine, effectOn, after, End, ended, runSteps, runFrom, jobLength, startRefusal, run}
+use Rattle.job.specs.Steps.{Placed, following, stepsFrom, steps}
+use Rattle.runner.specs.Run.{Machine, machine, effectOn, after, End, ended, runSteps, jobLength, startRefusal, run}
 use Rattle.runner.proofs.RunLaws.{jobLength-when-short}
 use Rattle.runner.proofs.StartLaws.{startRefusal-is-none, run-when-started, run-when-unstarted}
 use Rattle.blit.specs.declared.types.Answer as blitAnswer

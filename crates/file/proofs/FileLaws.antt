@@ -1,17 +1,16 @@
 -- Laws of the register file: where an offset stands, what a register keeps, and when a file is accepted.
 use mathlib.Core.Path.{_≡_, refl, sym, ap, _∙_}
-use Prim.Native.Nat.{ℕ, zero, suc, _+_, _-_, _<_, _≤_}
+use Prim.Native.Nat.{ℕ, zero, suc, _-_, _<_, _≤_}
 use native.Mathlib.Nat.{zero-lt-suc, not-suc-le-zero}
-use native.Mathlib.Numerals.{sub-one}
 use native.Mathlib.Decide.{decLt}
 use native.Mathlib.Omega.{arith}
-use mathlib.Core.Bool.{Bool, true, false, _&&_, and-false}
+use mathlib.Core.Bool.{Bool, true, false}
 use mathlib.Core.List.{List, [], _∷_, map}
-use borrow.Author.Tests.{eq-eqb, ne-eqb, eqb-true}
+use borrow.Author.Tests.{eq-eqb, ne-eqb}
 use lib.Dec.{eqb}
-use lib.Bits.{bitAnd, and-zero-r}
+use lib.Bits.{and-zero-r}
 use lib.ListN.{length, getD, List·getD-eq-default}
-use Rattle.word.specs.Choice.{if_then_else_, every}
+use Rattle.word.specs.Choice.{every}
 use Rattle.word.proofs.ChoiceLaws.{every-turn, every-when-fails}
 use Rattle.file.specs.File.{Register, registers, placeIn, place, keptBits, kept, accepted}
 use Rattle.file.specs.Places.{fileLength}

@@ -1,5 +1,5 @@
 -- Paper 01, "Memory and registers": "A register file is a lent run of exactly 20 16-bit words, in this order".
-use Prim.Native.Nat.{ℕ, zero, suc}
+use Prim.Native.Nat.{ℕ, suc}
 use mathlib.Core.Bool.{Bool, _&&_}
 use mathlib.Core.List.{List, [], _∷_, _++_, map}
 use lib.Dec.{eqb, ltb}

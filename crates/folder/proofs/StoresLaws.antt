@@ -1,15 +1,13 @@
 -- Laws of a settled blit's stores laid into a run, word by word and row by row.
-use mathlib.Core.Path.{_≡_, refl, sym, ap, _∙_}
+use mathlib.Core.Path.{_≡_, sym, ap, _∙_}
 use Prim.Native.Nat.{ℕ, zero, suc, _+_, _*_, _-_, _<_, _≤_}
 use native.Mathlib.Numerals.{sub-one}
 use native.Mathlib.Omega.{arith}
-use mathlib.Core.Bool.{Bool, true, false}
-use mathlib.Core.List.{List, [], _∷_, _++_}
+use mathlib.Core.List.{List, [], _++_}
 use mir.Val.{Fits}
 use mir.Syntax.{w32}
 use lib.Dec.{eqb}
 use lib.ListN.{length}
-use Rattle.word.specs.declared.types.Pointer.{Pointer}
 use Rattle.word.specs.Size.{height, width}
 use Rattle.word.proofs.SizeLaws.{height-le, words-le}
 use Rattle.word.proofs.RepeatLaws.{repeated-turn}

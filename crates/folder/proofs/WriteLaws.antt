@@ -1,20 +1,19 @@
 -- Laws of the folded job laid into the output, step by step.
-use mathlib.Core.Path.{_≡_, refl, sym, ap, _∙_}
-use Prim.Native.Nat.{ℕ, zero, suc, _+_, _*_, _-_, _<_, _≤_}
+use mathlib.Core.Path.{_≡_, sym, ap, _∙_}
+use Prim.Native.Nat.{ℕ, _+_, _<_, _≤_}
 use native.Mathlib.Omega.{arith}
 use mathlib.Core.Bool.{Bool, true, false}
-use mathlib.Core.List.{List, [], _∷_, _++_}
+use mathlib.Core.List.{List, []}
 use mir.Val.{Fits}
 use mir.Syntax.{w32}
 use lib.ListN.{length, take, drop}
-use Rattle.word.specs.Choice.{if_then_else_}
 use Rattle.job.specs.declared.types.Step.{Step}
 use Rattle.job.specs.declared.types.Read.{Read}
 use Rattle.job.specs.Step.{operands, stepAt}
-use Rattle.job.specs.Steps.{Placed, stepsFrom, steps}
+use Rattle.job.specs.Steps.{Placed, steps}
 use Rattle.job.proofs.StepLaws.{stepAt-moves, stepAt-next}
 use Rattle.job.proofs.StepsLaws.{steps-of-end, steps-at-end}
-use Rattle.settled.specs.Words.{settledEnd, settledWords}
+use Rattle.settled.specs.Words.{settledWords}
 use Rattle.knowledge.specs.declared.types.Known.{Known}
 use Rattle.knowledge.specs.Knowledge.{nothing, numbers}
 use Rattle.folder.specs.declared.types.Refusal.{Refusal}

@@ -4,7 +4,7 @@ use mathlib.Core.Bool.{Bool, not, _||_}
 use mathlib.Core.List.{List, [], _∷_, _++_}
 use lib.Dec.{eqb, leb}
 use lib.ListN.{length, drop}
-use Rattle.word.specs.Choice.{if_then_else_, Rule, _when_, given}
+use Rattle.word.specs.Choice.{if_then_else_, _when_, given}
 use Rattle.blit.specs.Refusal.{memorySize}
 use Rattle.job.specs.Step.{readNumber}
 use Rattle.job.specs.Steps.{Placed, steps}

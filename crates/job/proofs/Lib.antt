@@ -1,6 +1,5 @@
 -- The laws of the definitions in specs/, a file for each.
 pub mod KindLaws
 pub mod StepLaws
-pub mod RangeLaws
 pub mod StepsLaws
 pub mod WellCutLaws

@@ -77,18 +77,3 @@ module _ (job : List ℕ) (at : ℕ) where
       → stepsFrom 0 at (drop at job) ≡ placed at read ∷ stepsFrom 0 (at + 1) (drop (at + 1) job)
   unfolding stepAt
   steps-of-fault read reads faulty = rw (← drop-drop 1 at job) (stepsFrom-of-fault (drop at job) read reads faulty)
-
-  pub steps-of-nothing : stepAt job at ≡ Read.NoStep
-      → stepsFrom 0 at (drop at job) ≡ placed at Read.NoStep ∷ stepsFrom 0 (at + 1) (drop (at + 1) job)
-  unfolding readNumber
-  steps-of-nothing reads = steps-of-fault Read.NoStep reads (omega arith)
-
-  pub steps-of-cut : stepAt job at ≡ Read.CutOff
-      → stepsFrom 0 at (drop at job) ≡ placed at Read.CutOff ∷ stepsFrom 0 (at + 1) (drop (at + 1) job)
-  unfolding readNumber
-  steps-of-cut reads = steps-of-fault Read.CutOff reads (omega arith)
-
-  pub steps-of-odd : stepAt job at ≡ Read.OddStore
-      → stepsFrom 0 at (drop at job) ≡ placed at Read.OddStore ∷ stepsFrom 0 (at + 1) (drop (at + 1) job)
-  unfolding readNumber
-  steps-of-odd reads = steps-of-fault Read.OddStore reads (omega arith)

@@ -105,21 +105,3 @@ pub steps-of-append : (at : ℕ) (first rest : List ℕ) → wellCut first ≡ t
     → stepsFrom 0 at (first ++ rest) ≡ stepsFrom 0 at first ++ stepsFrom 0 (at + length first) rest
 unfolding wellCut
 steps-of-append at first rest whole = stepsFrom-of-append 0 at first rest (omega arith) (faultless-anywhere 0 at 0 first ∙ whole)
-
-pub faultless-of-append : (these others : List Placed) → faultless these ≡ true → faultless (these ++ others) ≡ faultless others
-unfolding faultless
-faultless-of-append [] others whole = refl
-faultless-of-append (one ∷ rest) others whole =
-    by-test (isStep (one .read)) whole (λ later. faultless-of-append rest others later)
-  where
-    by-test : (good : Bool) → (good && faultless rest) ≡ true
-        → (faultless rest ≡ true → faultless (rest ++ others) ≡ faultless others) → (good && faultless (rest ++ others)) ≡ faultless others
-    by-test true whole later = later whole
-    by-test false whole later = let n : _≡_ {A = ℕ} 0 1 = cc in absurd (omega arith)
-
-pub wellCut-of-append : (first rest : List ℕ) → wellCut first ≡ true → wellCut (first ++ rest) ≡ wellCut rest
-unfolding wellCut
-wellCut-of-append first rest whole =
-    ap faultless (stepsFrom-of-append 0 0 first rest (omega arith) whole)
-    ∙ faultless-of-append (steps first) (stepsFrom 0 (0 + length first) rest) whole
-    ∙ faultless-anywhere 0 (0 + length first) 0 rest

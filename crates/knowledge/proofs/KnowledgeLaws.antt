@@ -1,36 +1,19 @@
--- Laws of the knowledge as a list: its length, a register replaced, and the file of its numbers.
-use mathlib.Core.Path.{_≡_, refl, sym, ap, _∙_}
-use Prim.Native.Nat.{ℕ, zero, suc, _+_, _-_, _<_}
+-- Laws of the knowledge as a list: its length, and the file of its numbers.
+use mathlib.Core.Path.{_≡_, refl, _∙_}
+use Prim.Native.Nat.{ℕ, zero, suc, _<_}
 use native.Mathlib.Nat.{le-of-suc-le-suc, not-suc-le-zero}
 use native.Mathlib.Omega.{arith}
-use mathlib.Core.List.{List, [], _∷_, _++_, map}
-use lib.ListN.{length, getD, set, length-append, length-map, List·getD-append}
-use lib.Seq.{getD-set-same, getD-set-other, set-append-left}
-use Rattle.file.specs.Places.{flag, fileLength}
+use mathlib.Core.List.{List, [], _∷_, map}
+use lib.ListN.{length, getD, length-map, List·getD-append}
+use Rattle.file.specs.Places.{flag}
 use Rattle.knowledge.specs.declared.types.Known.{Known}
 use Rattle.knowledge.specs.declared.types.Known.the-variants.{Unknown}
 use Rattle.knowledge.specs.declared.types.Knowledge.{Knowledge}
 use Rattle.knowledge.specs.Known.{number}
 use Rattle.knowledge.specs.Knowledge.{controls, halves, modulos, sources, listed, nothing, numbers}
 
-pub listed-length : (knowledge : Knowledge) → length (listed knowledge) ≡ flag
-listed-length knowledge = refl
-
 pub nothing-length : length nothing ≡ flag
 nothing-length = refl
-
--- a register replaced, and the others
-pub known-of-with-same : (known : List Known) (place : ℕ) (told : Known)
-    → place < length known → getD (set known place told) place Unknown ≡ told
-known-of-with-same known place told inside = getD-set-same known place told Unknown inside
-
-pub known-of-with-other : (known : List Known) (place other : ℕ) (told : Known)
-    → (other ≡ place → ⊥) → getD (set known place told) other Unknown ≡ getD known other Unknown
-known-of-with-other known place other told apart = getD-set-other known place other told Unknown apart
-
-pub numbers-length : (known : List Known) → length known ≡ flag → length (numbers known) ≡ fileLength
-unfolding numbers
-numbers-length known long = simp (length-append, length-map) (omega arith)
 
 map-at : (known : List Known) (place : ℕ)
     → place < length known → getD (map number known) place 0 ≡ number (getD known place Unknown)
@@ -45,20 +28,6 @@ unfolding numbers
 numbers-at known place long inside =
     List·getD-append (map number known) (0 ∷ []) 0 place (simp length-map (omega arith))
     ∙ map-at known place (omega arith)
-
-map-of-set : (known : List Known) (place : ℕ) (told : Known)
-    → map number (set known place told) ≡ set (map number known) place (number told)
-map-of-set [] place told = refl
-map-of-set (first ∷ rest) zero told = refl
-map-of-set (first ∷ rest) (suc place) told = ap (λ (words : List ℕ). number first ∷ words) (map-of-set rest place told)
-
--- a register replaced is a word of the file replaced
-pub numbers-of-with : (known : List Known) (place : ℕ) (told : Known)
-    → length known ≡ flag → place < flag → numbers (set known place told) ≡ set (numbers known) place (number told)
-unfolding numbers
-numbers-of-with known place told long inside =
-    ap (λ (words : List ℕ). words ++ (0 ∷ [])) (map-of-set known place told)
-    ∙ sym (set-append-left (map number known) (0 ∷ []) place (number told) (simp length-map (omega arith)))
 
 -- the file of the numbers, part by part
 pub numbers-of-parts : (knowledge : Knowledge) (control c b a d modulo source : List ℕ)

@@ -1,4 +1,4 @@
--- Laws of the lengths of memory and file: no step and no run changes them.
+-- Laws of the lengths of memory and file: no step changes them, and no run changes that of memory.
 use mathlib.Core.Path.{_≡_, refl, _∙_}
 use Prim.Native.Nat.{ℕ}
 use mathlib.Core.Bool.{Bool, true, false}
@@ -60,19 +60,4 @@ runSteps-keeps-memory-length (one ∷ rest) before =
         ((if done then runSteps rest (after before (effectOn before (one .read))) else
         ended (effectOn before (one .read) .number) (one .place) before) .machine .memory) ≡ length (before .memory)
     by-test true later = later ∙ effect-keeps-memory-length (one .read) (before .memory) (before .file)
-    by-test false later = refl
-
-pub runSteps-keeps-file-length : (list : List Placed) (before : Machine)
-    → length (runSteps list before .machine .file) ≡ length (before .file)
-unfolding runSteps
-runSteps-keeps-file-length [] before = refl
-runSteps-keeps-file-length (one ∷ rest) before =
-    by-test (eqb (effectOn before (one .read) .number) 0) (runSteps-keeps-file-length rest (after before (effectOn before (one .read))))
-  where
-    by-test : (done : Bool)
-        → length (runSteps rest (after before (effectOn before (one .read))) .machine .file) ≡ length (effectOn before (one .read) .file)
-        → length
-        ((if done then runSteps rest (after before (effectOn before (one .read))) else
-        ended (effectOn before (one .read) .number) (one .place) before) .machine .file) ≡ length (before .file)
-    by-test true later = later ∙ effect-keeps-file-length (one .read) (before .memory) (before .file)
     by-test false later = refl

@@ -5,7 +5,6 @@ pub mod StartLaws
 pub mod TableLaws
 pub mod RunAppendLaws
 pub mod LengthLaws
-pub mod AnywhereLaws
 pub mod FrontLaws
 pub mod CutLaws
 pub mod RefusedRunStandsLaws

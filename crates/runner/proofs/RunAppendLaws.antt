@@ -1,7 +1,6 @@
 -- Laws of a run that follows another: the run of two lists of steps, of words cut at a step boundary, and of a job.
 use mathlib.Core.Path.{_≡_, refl, sym, ap, _∙_}
 use Prim.Native.Nat.{ℕ, _+_, _≤_}
-use native.Mathlib.Nat.{zero-add}
 use native.Mathlib.Omega.{arith}
 use mathlib.Core.Bool.{Bool, true, false}
 use mathlib.Core.List.{List, [], _∷_, _++_}
@@ -11,7 +10,7 @@ use Rattle.word.specs.Choice.{if_then_else_}
 use Rattle.job.specs.Steps.{Placed, stepsFrom, steps}
 use Rattle.job.proofs.WellCutLaws.{wellCut, steps-of-append}
 use Rattle.runner.specs.Run.{Machine, machine, effectOn, after, End, ended, runSteps, runFrom, jobMost, startRefusal, run}
-use Rattle.runner.specs.RunAppend.{CutAtStep, _followedBy_, RunAppend}
+use Rattle.runner.specs.RunAppend.{_followedBy_, RunAppend}
 use Rattle.runner.proofs.StartLaws.{startRefusal-of-other}
 
 pub followedBy-when-done : (end : End) (next : Machine → End) → end .number ≡ 0 → (end followedBy next) ≡ next (end .machine)
@@ -41,12 +40,6 @@ pub runFrom-of-append : (at : ℕ) (first rest : List ℕ) (before : Machine) �
 runFrom-of-append at first rest before whole =
     ap (λ (list : List Placed). runSteps list before) (steps-of-append at first rest whole)
     ∙ runSteps-of-append (stepsFrom 0 at first) (stepsFrom 0 (at + length first) rest) before
-
--- a first part of whole steps ends at a step boundary
-pub cutAtStep-when-wellCut : (first rest : List ℕ) → wellCut first ≡ true → CutAtStep first rest
-cutAtStep-when-wellCut first rest whole =
-    steps-of-append 0 first rest whole
-    ∙ ap (λ (at : ℕ). steps first ++ stepsFrom 0 at rest) (zero-add (length first))
 
 pub run-append : RunAppend
 unfolding run

@@ -91,11 +91,6 @@ module _ (memory file job : List ℕ) where
   unfolding startRefusal given
   startRefusal-when-length taken fine long = rw (taken, fine, long)
 
-  pub startRefusal-when-none : memorySize (length memory) ≡ false → accepted file ≡ true → jobLength job ≡ false
-      → startRefusal memory file job ≡ 0
-  unfolding startRefusal given
-  startRefusal-when-none taken fine short = rw (taken, fine, short)
-
   -- a run that starts takes its steps; any other is refused at once
   pub run-when-started : startRefusal memory file job ≡ 0 → run memory file job ≡ runFrom 0 job (machine memory file 0)
   unfolding run

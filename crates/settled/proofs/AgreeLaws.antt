@@ -2,26 +2,24 @@
 use mathlib.Core.Path.{_≡_, refl, sym, ap, ap₂, _∙_}
 use Prim.Native.Nat.{ℕ, _+_}
 use mathlib.Core.Bool.{Bool, true, false, _&&_, _||_}
-use mathlib.Core.List.{List, [], _++_}
+use mathlib.Core.List.{List, _++_}
 use lib.ListN.{getD}
 use Rattle.word.specs.declared.types.Direction.{Direction}
 use Rattle.word.specs.declared.types.Pointer.{Pointer}
-use Rattle.word.specs.Choice.{if_then_else_, given}
+use Rattle.word.specs.Choice.{given}
 use Rattle.word.specs.Pointer.{pointer, half}
 use Rattle.word.specs.Size.{height, width}
 use Rattle.file.specs.Places.{firstMask, lastMask, pointerD, moduloD, sourceA, sourceB, sourceC}
 use Rattle.area.specs.declared.types.Uses.{Uses}
-use Rattle.area.specs.declared.types.Masks.{Masks}
 use Rattle.area.specs.declared.types.Setup.{Setup}
 use Rattle.area.specs.declared.types.Pointers.{Pointers}
 use Rattle.area.specs.Setup.{con0, con1, uses, function, shifts, carryIn, line, direction, fill, masks, modulos, setup}
-use Rattle.area.specs.Flow.{State, state, pointerAt, pointers, sources, start}
-use Rattle.area.specs.Rows.{rows}
+use Rattle.area.specs.Flow.{pointerAt, pointers, sources, start}
 use Rattle.blit.specs.Touch.{touches, leaves, channelLeaves}
 use Rattle.blit.specs.Refusal.{bothFills, fillUpward, leavesMemory, stepRefusal}
 use Rattle.blit.proofs.RefusalLaws.{numbered}
 use Rattle.depends.specs.Depends.{counts}
-use Rattle.settled.specs.Words.{pointerWords, flagWords, blitStores, settledEnd, settledWords}
+use Rattle.settled.specs.Words.{pointerWords, flagWords, settledEnd, settledWords}
 use Rattle.settled.proofs.OnlyDLaws.{OnlyD}
 use Rattle.settled.proofs.AlikeLaws.{AlikeSetup, AlikeFlow}
 use Rattle.settled.proofs.AlikeRowsLaws.{blitStores-alike, rows-alike}

@@ -14,7 +14,7 @@ use Rattle.area.specs.declared.types.Uses.{Uses}
 use Rattle.area.specs.declared.types.Setup.{Setup}
 use Rattle.area.specs.declared.types.Flow.{Flow}
 use Rattle.area.specs.Setup.{uses, setup}
-use Rattle.area.specs.Flow.{State, state, start}
+use Rattle.area.specs.Flow.{state, start}
 use Rattle.area.specs.Rows.{rows}
 use Rattle.settled.specs.Words.{settledEnd}
 use Rattle.knowledge.specs.declared.types.Known.{Known}

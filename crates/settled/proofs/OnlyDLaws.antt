@@ -6,9 +6,7 @@ use native.Mathlib.Omega.{arith}
 use mathlib.Core.Bool.{Bool, true, false}
 use mathlib.Core.List.{List, []}
 use lib.Dec.{eqb}
-use lib.ListN.{getD, set}
 use Rattle.word.specs.declared.types.Pointer.{Pointer}
-use Rattle.word.specs.Choice.{if_then_else_}
 use Rattle.word.specs.Repeat.{repeated}
 use Rattle.area.specs.declared.types.Uses.{Uses}
 use Rattle.area.specs.declared.types.Setup.{Setup}

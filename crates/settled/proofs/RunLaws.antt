@@ -1,17 +1,16 @@
 -- Laws of a settled blit's words when they are run: its stores leave memory as the blit does, and count as many words.
-use mathlib.Core.Path.{_≡_, refl, sym, ap, _∙_}
+use mathlib.Core.Path.{_≡_, sym, ap, _∙_}
 use Prim.Native.Nat.{ℕ, zero, suc, _+_, _*_, _<_}
 use native.Mathlib.Nat.{suc-mul}
 use native.Mathlib.Omega.{arith}
-use mathlib.Core.Bool.{Bool, true, false, _||_}
-use mathlib.Core.List.{List, [], _∷_, _++_, append-assoc}
+use mathlib.Core.Bool.{Bool, false, _||_}
+use mathlib.Core.List.{List, [], _++_, append-assoc}
 use borrow.Author.Tests.{leb-false}
-use lib.Dec.{eqb, leb}
-use lib.ListN.{length, set, length-set}
+use lib.Dec.{leb}
+use lib.ListN.{length, set}
 use Rattle.word.specs.declared.types.Pointer.{Pointer}
-use Rattle.word.specs.Choice.{if_then_else_}
 use Rattle.word.specs.Repeat.{repeated}
-use Rattle.word.specs.Pointer.{pointerEnd, moved, passed}
+use Rattle.word.specs.Pointer.{pointerEnd, moved}
 use Rattle.word.proofs.ChoiceLaws.{or-left, or-right}
 use Rattle.area.specs.declared.types.Setup.{Setup}
 use Rattle.area.specs.declared.types.Flow.{Flow}
@@ -24,8 +23,8 @@ use Rattle.area.proofs.ChannelLaws.{oneWord-stores, oneWord-moves-d, oneRow-mov
 use Rattle.blit.specs.Touch.{rowTouches, afterRow, touches, leaves}
 use Rattle.word.proofs.PointerLaws.{moved-lt, passed-lt}
 use Rattle.blit.proofs.TouchLaws.{leaves-of-append}
-use Rattle.runner.specs.Run.{Machine, machine, End, runFrom}
-use Rattle.settled.specs.Words.{storeWords, rowStores, blitStores}
+use Rattle.runner.specs.Run.{machine, runFrom}
+use Rattle.settled.specs.Words.{rowStores, blitStores}
 use Rattle.settled.proofs.StoreLaws.{run-of-store}
 use Rattle.settled.proofs.OnlyDLaws.{OnlyD, finishedWord-without-memory, oneWord-of-empty, oneRow-of-empty}
 

@@ -16,9 +16,8 @@ use Rattle.blit.specs.declared.types.Verdict.{Verdict}
 use Rattle.blit.specs.Refusal.{stepRefusal, verdictNumber}
 use Rattle.blit.proofs.BlitLaws.{refusal-is-some}
 use Rattle.depends.specs.declared.types.Depends.{Depends}
-use Rattle.depends.specs.Depends.{counts, depends}
+use Rattle.depends.specs.Depends.{depends}
 use Rattle.knowledge.specs.declared.types.Known.{Known}
-use Rattle.knowledge.specs.Known.{isKnown}
 use Rattle.knowledge.specs.Knowledge.{numbers}
 use Rattle.settled.specs.Settled.{has, controlsKnown, onlyDUsed, sourcesKnown, settled}
 

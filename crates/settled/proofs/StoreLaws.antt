@@ -1,12 +1,11 @@
 -- Laws of store steps: what the words of a store, a pointer and a flag do when they are run.
-use mathlib.Core.Path.{_≡_, refl, sym, ap, _∙_}
-use Prim.Native.Nat.{ℕ, zero, suc, _+_, _*_, _/_, _%_, _<_, _≤_}
+use mathlib.Core.Path.{_≡_, refl, _∙_}
+use Prim.Native.Nat.{ℕ, zero, suc, _+_, _*_, _/_, _%_, _<_}
 use native.Mathlib.Nat.{add-zero, mod-eq-of-lt}
 use native.Mathlib.Omega.{arith}
 use mathlib.Core.Bool.{Bool, true, false}
-use mathlib.Core.List.{List, [], _∷_, _++_}
+use mathlib.Core.List.{List, _∷_, _++_}
 use borrow.Author.Tests.{ne-eqb, lt-leb}
-use lib.Dec.{eqb, leb}
 use lib.Bits.{and-mask, and-high}
 use lib.ListN.{length, set}
 use Rattle.word.specs.declared.types.Pointer.{Pointer}
@@ -14,15 +13,13 @@ use Rattle.word.specs.Choice.{if_then_else_}
 use Rattle.word.specs.Pointer.{pointerEnd, pointer, high, low}
 use Rattle.file.specs.File.{registers, placeIn, place, isRegister, keptBits, kept}
 use Rattle.file.specs.Places.{pointerD, flag}
-use Rattle.blit.specs.Blit.{refused}
 use Rattle.job.specs.declared.types.Kind.{Kind}
 use Rattle.job.specs.declared.types.Step.{Step}
-use Rattle.job.specs.declared.types.Read.{Read}
 use Rattle.job.specs.Kind.{kind}
-use Rattle.job.specs.Step.{operands, found, isOdd, begun, front}
+use Rattle.job.specs.Step.{operands, found, begun, front}
 use Rattle.job.specs.Steps.{placed, following, stepsFrom}
-use Rattle.runner.specs.Effect.{did, registerEffect, storeEffect, flagEffect, stepEffect, effect}
-use Rattle.runner.specs.Run.{Machine, machine, End, ended, runSteps, runFrom}
+use Rattle.runner.specs.Effect.{registerEffect, storeEffect, flagEffect, stepEffect, effect}
+use Rattle.runner.specs.Run.{machine, runSteps, runFrom}
 use Rattle.settled.specs.Words.{storeWords, pointerWords, flagWords}
 
 kind-of-store : (half : ℕ) → half < 8 → kind (0x8000 + half) ≡ Kind.Store half

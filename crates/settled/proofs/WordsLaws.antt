@@ -1,9 +1,8 @@
 -- A settled blit's words, run, leave what the blit leaves.
-use mathlib.Core.Path.{_≡_, refl, sym, ap, ap₂, _∙_}
-use Prim.Native.Nat.{ℕ, _+_, _*_, _<_}
+use mathlib.Core.Path.{_≡_, sym, ap, _∙_}
+use Prim.Native.Nat.{ℕ, _+_, _*_}
 use mathlib.Core.Bool.{Bool, true, false}
-use mathlib.Core.List.{List, [], _∷_, _++_, append-assoc}
-use lib.Dec.{eqb}
+use mathlib.Core.List.{List, [], _++_, append-assoc}
 use lib.ListN.{length, set}
 use native.Mathlib.Nat.{zero-add}
 use Rattle.word.specs.declared.types.Pointer.{Pointer}
@@ -14,7 +13,6 @@ use Rattle.file.specs.Places.{pointerA, pointerB, pointerC, pointerD, sourceA, 
 use Rattle.area.specs.declared.types.Uses.{Uses}
 use Rattle.area.specs.declared.types.Pointers.{Pointers}
 use Rattle.area.specs.declared.types.Sources.{Sources}
-use Rattle.area.specs.declared.types.Flow.{Flow}
 use Rattle.area.specs.Setup.{setup}
 use Rattle.area.specs.Flow.{State, state, pointers, start}
 use Rattle.area.specs.Rows.{rows}
@@ -22,7 +20,7 @@ use Rattle.blit.specs.Refusal.{stepRefusal}
 use Rattle.blit.specs.WriteBack.{putPointer, putPointers, putSource, putSources, putFlag}
 use Rattle.blit.specs.Blit.{Outcome, finished, done, answered, blitStep}
 use Rattle.blit.proofs.RefusalLaws.{stepRefusal-of-none, leavesMemory-of-d, pointerAt-lt}
-use Rattle.runner.specs.Run.{Machine, machine, after, End, ended, runFrom}
+use Rattle.runner.specs.Run.{machine, after, runFrom}
 use Rattle.settled.specs.Words.{pointerWords, flagWords, blitStores, settledEnd, settledWords}
 use Rattle.settled.proofs.StoreLaws.{run-of-end}
 use Rattle.settled.proofs.OnlyDLaws.{OnlyD, rows-of-empty, rows-count-all}

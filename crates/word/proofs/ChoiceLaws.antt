@@ -1,4 +1,4 @@
--- Laws of choices, of tests at every number below one, and of the list of rules.
+-- Laws of choices, and of tests at every number below one.
 use mathlib.Core.Path.{_≡_, refl, sym, ap, _∙_}
 use Prim.Native.Nat.{ℕ, zero, suc, _-_, _<_}
 use native.Mathlib.Nat.{not-suc-le-zero}
@@ -6,9 +6,8 @@ use native.Mathlib.Numerals.{sub-one}
 use native.Mathlib.Decide.{decLt}
 use native.Mathlib.Omega.{arith}
 use mathlib.Core.Bool.{Bool, true, false, _&&_, _||_}
-use mathlib.Core.List.{List, [], _∷_}
 use lib.Dec.{T}
-use Rattle.word.specs.Choice.{if_then_else_, every, Rule, _when_, given}
+use Rattle.word.specs.Choice.{if_then_else_, every}
 
 -- what a choice gives, by its test
 pub if-when-true : {Answer : Type 0} (test : Bool) (answer this other : Answer)
@@ -71,18 +70,3 @@ every-when-fails test zero more fails = absurd (omega arith)
 every-when-fails test (suc n) more fails =
     let here : test n ≡ false = rw sub-one at fails in
     ap (λ (answer : Bool). answer && every test n) here
-
--- the first rule applies, or it is passed and the rest decide
-pub given-when-applies : (number : ℕ) (test applies : Bool) (rest : List Rule)
-    → test ≡ applies → test ≡ true → number ≡ given (number when applies ∷ rest)
-unfolding given
-given-when-applies number test applies rest same holds = rw (← same, holds)
-
-pub given-when-passed : (number answer : ℕ) (test applies : Bool) (rest : List Rule)
-    → test ≡ applies → test ≡ false → answer ≡ given rest → answer ≡ given (number when applies ∷ rest)
-unfolding given
-given-when-passed number answer test applies rest same fails later = rw (← same, fails) later
-
-pub given-of-none : 0 ≡ given []
-unfolding given
-given-of-none = refl

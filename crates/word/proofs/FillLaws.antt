@@ -10,7 +10,7 @@ use lib.Bits.{bitOr, bitXor, xor-comm, xor-zero-r, xor-lt, or-lt}
 use Rattle.word.specs.declared.types.Fill.{Fill}
 use Rattle.word.specs.declared.types.Fill.the-variants.{Off, Inclusive, Exclusive}
 use Rattle.word.specs.declared.types.Filled.{Filled}
-use Rattle.word.specs.Word.{bit, ofBits, word}
+use Rattle.word.specs.Word.{bit, word}
 use Rattle.word.specs.Fill.{carry, exclusive, inclusive, filled}
 use Rattle.word.proofs.WordLaws.{bit-lt, bit-of-or, bit-of-xor, bit-of-remainder, bit-of-shift, bit-below-shift, bit-of-spread, ofBits-is-unique, bit-of-ofBits, ofBits-lt, xor-assoc}
 

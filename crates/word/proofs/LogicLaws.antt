@@ -4,9 +4,9 @@ use Prim.Native.Nat.{ℕ, zero, suc, _+_, _*_, _/_, _%_, _^_, _<_}
 use native.Mathlib.Nat.{div-one}
 use native.Mathlib.Omega.{arith}
 use lib.Bits.{bitAnd, bitXor, and-lt, xor-lt, xor-zero-r}
-use Rattle.word.specs.Word.{bit, ofBits, word}
+use Rattle.word.specs.Word.{bit}
 use Rattle.word.specs.Logic.{logic}
-use Rattle.word.proofs.WordLaws.{bit-lt, bit-of-and, bit-of-xor, bit-of-spread, ofBits-is-unique, ofBits-lt, bit-cases}
+use Rattle.word.proofs.WordLaws.{bit-lt, bit-of-and, bit-of-xor, bit-of-spread, ofBits-is-unique, bit-cases}
 
 -- this where the bits of by are 1, other where they are 0
 unfoldable pub picked : (by this other : ℕ) → ℕ
@@ -66,10 +66,6 @@ unfolding logic
 logic-is-tree f a b c ha hb hc =
     ofBits-is-unique (λ i. bit f (4 * bit a i + 2 * bit b i + bit c i)) 16 _ (search (picked-lt, spread-lt))
     (λ i h. simp (bit-of-picked, bit-of-spread) (tree-of-bits f (bit a i) (bit b i) (bit c i) (bit-lt a i) (bit-lt b i) (bit-lt c i)))
-
-pub logic-lt : (function a b c : ℕ) → logic function a b c < 65536
-unfolding logic
-logic-lt function a b c = ofBits-lt (λ i. bit function (4 * bit a i + 2 * bit b i + bit c i)) 16 (λ i. bit-lt function (4 * bit a i + 2 * bit b i + bit c i))
 
 -- function F0 gives A
 f0-of-bits : (a b c : ℕ) → a < 2 → b < 2 → c < 2 → a ≡ bit 0xF0 (4 * a + 2 * b + c)

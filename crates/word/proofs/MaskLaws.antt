@@ -4,7 +4,6 @@ use Prim.Native.Nat.{ℕ, _<_}
 use native.Mathlib.Nat.{mod-eq-of-lt}
 use mathlib.Core.Bool.{Bool, true, false}
 use lib.Bits.{bitAnd, and-mask}
-use Rattle.word.specs.Choice.{if_then_else_}
 use Rattle.word.specs.Mask.{maskedWhen, masked}
 
 pub maskedWhen-when-applies : (applies : Bool) (mask word : ℕ) → applies ≡ true → bitAnd word mask ≡ maskedWhen applies mask word

@@ -1,5 +1,5 @@
 -- Laws of pointers: their moves, and that moves of one word are one move of so many.
-use mathlib.Core.Path.{_≡_, refl, sym, ap, _∙_}
+use mathlib.Core.Path.{_≡_, sym, ap, _∙_}
 use Prim.Native.Nat.{ℕ, zero, suc, _+_, _-_, _%_, _<_}
 use native.Mathlib.Nat.{mod-eq-of-lt}
 use native.Mathlib.Omega.{arith}
@@ -7,7 +7,7 @@ use Rattle.word.specs.declared.types.Direction.{Direction}
 use Rattle.word.specs.declared.types.Direction.the-variants.{Ascending, Descending}
 use Rattle.word.specs.declared.types.Pointer.{Pointer}
 use Rattle.word.specs.Repeat.{repeated}
-use Rattle.word.specs.Pointer.{pointerEnd, pointer, up, down, half, plus, minus, moved, passed}
+use Rattle.word.specs.Pointer.{pointerEnd, pointer, up, down, plus, minus, moved, passed}
 
 -- a word number may be bounded before it is moved
 pub sum-of-remainder : (word by : ℕ) → (word % pointerEnd + by) % pointerEnd ≡ (word + by) % pointerEnd

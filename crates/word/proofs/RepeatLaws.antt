@@ -1,6 +1,6 @@
 -- Laws of a step done n times: a turn of a loop that counts down, its end, and what every step keeps.
-use mathlib.Core.Path.{_≡_, refl, sym, ap, _∙_}
-use Prim.Native.Nat.{ℕ, zero, suc, _+_, _-_, _<_, _≤_}
+use mathlib.Core.Path.{_≡_, refl, _∙_}
+use Prim.Native.Nat.{ℕ, zero, suc, _-_, _<_, _≤_}
 use native.Mathlib.Numerals.{sub-one}
 use native.Mathlib.Omega.{arith}
 use Rattle.word.specs.Repeat.{repeated}
@@ -24,11 +24,3 @@ pub repeated-keeps : {State Part : Type 0} (step : ℕ → State → State) (par
 unfolding repeated
 repeated-keeps step part keeps zero state = refl
 repeated-keeps step part keeps (suc n) state = repeated-keeps step part keeps n (step n state) ∙ keeps n state
-
--- what holds at the start and is handed on by every step holds at the end
-pub repeated-holds : {State : Type 0} (step : ℕ → State → State) (Holds : State → Type 0)
-    → ((left : ℕ) (state : State) → Holds state → Holds (step left state))
-    → (n : ℕ) (state : State) → Holds state → Holds (repeated step n state)
-unfolding repeated
-repeated-holds step Holds hands zero state start = start
-repeated-holds step Holds hands (suc n) state start = repeated-holds step Holds hands n (step n state) (hands n state start)

@@ -1,16 +1,15 @@
 -- Laws of words and their bits.
 use mathlib.Core.Path.{_≡_, refl, sym, ap, ap₂, _∙_}
-use Prim.Native.Nat.{ℕ, zero, suc, _+_, _-_, _*_, _/_, _%_, _^_, _≤_, _<_}
-use native.Mathlib.Nat.{mod-lt, mod-one, mod-eq-of-lt, add-zero, zero-lt-suc, le-refl, sub-add-cancel}
+use Prim.Native.Nat.{ℕ, zero, suc, _+_, _-_, _*_, _/_, _%_, _^_, _<_}
+use native.Mathlib.Nat.{mod-lt, mod-one, mod-eq-of-lt, add-zero, zero-lt-suc}
 use native.Mathlib.Numerals.{one-add}
 use native.Mathlib.Omega.{arith}
-use lib.Dec.{T, ltb, eqb, lit<, lt→ltb, eqb→eq}
-use mathlib.Core.Bool.{Bool, true, false}
-use lib.Pow.{mod-pow-add, pow-pos, pow-add, field, mod-mod-pow, high, low, shr-shr, shl-shr}
+use lib.Dec.{eqb, lit<, eqb→eq}
+use lib.Pow.{mod-pow-add, pow-pos, field, mod-mod-pow, high, low, shr-shr, shl-shr}
 use lib.Arith.{digits-lt}
 use lib.Bits.{bitAnd, bitOr, bitXor, and-shr, or-shr, xor-shr, and-mod, or-mod, xor-mod}
 use Rattle.word.specs.Choice.{every}
-use Rattle.word.specs.Word.{bit, ofBits, word}
+use Rattle.word.specs.Word.{bit, ofBits}
 use Rattle.word.proofs.ChoiceLaws.{every-at}
 
 pub bit-lt : (x i : ℕ) → bit x i < 2
@@ -52,9 +51,6 @@ bit-of-remainder x k i h =
     let j : ℕ = k - (i + 1) in
     let e : k ≡ (j + 1) + i = omega arith in
     ap (λ (n : ℕ). x % 2 ^ n / 2 ^ i % 2) e ∙ ap (λ (n : ℕ). n % 2) (field x (j + 1) i) ∙ mod-mod-pow (x / 2 ^ i) j 1
-
-pub bit-of-quotient : (x k i : ℕ) → bit (x / 2 ^ k) i ≡ bit x (k + i)
-bit-of-quotient x k i = ap (λ (n : ℕ). n % 2) (shr-shr x k i)
 
 pub bit-of-shift : (x k i : ℕ) → bit (x * 2 ^ k) (k + i) ≡ bit x i
 bit-of-shift x k i = ap (λ (n : ℕ). n % 2) (sym (shr-shr (x * 2 ^ k) k i) ∙ ap (λ (n : ℕ). n / 2 ^ i) (shl-shr x k))

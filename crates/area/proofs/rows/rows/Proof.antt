@@ -1,6 +1,6 @@
 -- `area::rows::rows` meets its contract: what is left from here gives what the whole gives.
-use Prim.Native.Nat.{_+_, _*_, _<_, _≤_}
-use mathlib.Core.Path.{_≡_, _∙_}
+use Prim.Native.Nat.{_+_, _*_, _<_}
+use mathlib.Core.Path.{_≡_}
 use lib.ListN.{length}
 use Rattle.word.proofs.RepeatLaws.{repeated-done}
 use Rattle.area.specs.Flow.{state}

@@ -1,5 +1,5 @@
 -- `blit::registers::put_pointer` meets its contract, used or not.
-use Rattle.word.proofs.ChoiceLaws.{if-when-true, if-when-false}
+use Rattle.word.proofs.ChoiceLaws.{if-when-false}
 use Rattle.blit.specs.WriteBack.{putPointer}
 use Rattle.blit.proofs.BlitLaws.{putPointer-when-used}
 use borrow.Author.Needs.{needs}

@@ -1,6 +1,5 @@
 -- `card_text::text::hex_value` meets its contract, for a digit, a capital and any other byte.
 use Rattle.card_text.proofs.TextLaws.{decimalDigit-ge, hexValue-when-decimal, decimal-lt, capital-far, hexValue-when-capital, capital-lt, hexValue-when-none}
-use native.Mathlib.Omega.{arith}
 use borrow.Author.Needs.{needs}
 use Rattle.card_text.proofs.text.hex_value.Statement.{statement}
 use Rattle.card_text.proofs.text.hex_value.Tie as tie

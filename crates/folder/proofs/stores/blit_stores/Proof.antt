@@ -1,7 +1,7 @@
 -- `folder::stores::blit_stores` meets its contract: what is left of the rows from here gives what the whole gives.
 use mathlib.Core.Path.{_≡_}
 use mathlib.Core.List.{[]}
-use Prim.Native.Nat.{_+_, _*_, _<_, _≤_}
+use Prim.Native.Nat.{_+_, _*_, _<_}
 use lib.ListN.{length}
 use Rattle.word.proofs.RepeatLaws.{repeated-done}
 use Rattle.area.specs.Flow.{state}

@@ -1,6 +1,6 @@
 -- `word::logic::logic` meets its contract: its seven picks are the tree of `LogicLaws`.
 use native.Mathlib.Omega.{arith}
-use Rattle.word.proofs.LogicLaws.{picked, tree, logic-is-tree}
+use Rattle.word.proofs.LogicLaws.{picked, logic-is-tree}
 use borrow.Author.Needs.{needs}
 use Rattle.word.proofs.logic.logic.Statement.{statement}
 use Rattle.word.proofs.logic.logic.Tie as tie

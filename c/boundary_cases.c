@@ -38,7 +38,7 @@ static void blits_done(void)
          "01F0 0000 0FF0 00FF  0 0 0 0 0 0 0 0  0 0 0 0  0 0 FFFF  0", 0x0041, 0, 1, "00F0",
          "01F0 0000 0FF0 00FF  0 0 0 0 0 0 0 2  0 0 0 0  0 0 FFFF  0");
     blit("P9, size 0000, memory of one word", "FFFF",
-         "0100 0000 0000 0000  0 0 0 0 0 0 0 0  0 0 0 0  0 0 0  0", 0x0000, 10, 0, SAME, SAME);
+         "0100 0000 0000 0000  0 0 0 0 0 0 0 0  0 0 0 0  0 0 0  0", 0x0000, 17, 0, SAME, SAME);
     blit("P9, size 0000, 65,536 words", "FFFF*65536 1234",
          "0100 0000 0000 0000  0 0 0 0 0 0 0 0  0 0 0 0  0 0 0  0", 0x0000, 0, 65536, "0000*65536 1234",
          "0100 0000 0000 0000  0 0 0 0 0 0 2 0  0 0 0 0  0 0 0  1");
@@ -76,17 +76,42 @@ static void blits_refused(void)
     blit("line, both fills, outside", ZEROS, "0F00 0019 0000*8 0007 0000*9", 0x0041, 7, 0, SAME, SAME);
     blit("both fills, outside", ZEROS, "0F00 0018 0000*8 0007 0000*9", 0x0041, 8, 0, SAME, SAME);
     blit("fill upward, outside", ZEROS, "0F00 0008 0000*8 0007 0000*9", 0x0041, 9, 0, SAME, SAME);
-    blit("D outside", ZEROS, "0F00 000A 0000*8 0007 0000*9", 0x0041, 10, 0, SAME, SAME);
-    blit("A outside", ZEROS, "0F00 0000 0000*7 0020 0000*10", 0x0041, 10, 0, SAME, SAME);
-    blit("B outside", ZEROS, "0F00 0000 0000*5 0020 0000*12", 0x0041, 10, 0, SAME, SAME);
-    blit("C outside", ZEROS, "0F00 0000 0000*3 0020 0000*14", 0x0041, 10, 0, SAME, SAME);
-    blit("outside after a word inside", "0000*9", "01FF 0000*10 0010 0000*8", 0x0042, 10, 0, SAME, SAME);
+    blit("a lawful fill, outside", ZEROS, "0F00 000A 0000*8 0007 0000*9", 0x0041, 17, 0, SAME, SAME);
+    blit("outside after a word inside", "0000*9", "01FF 0000*10 0010 0000*8", 0x0042, 17, 0, SAME, SAME);
+}
+
+/* Which channel is told: pointers of C, B, A and D, high half and low half, in the middle of each file. */
+static void channels_outside(void)
+{
+    blit("A outside", ZEROS, "0F00 0000 0000 0000  0 0 0 0 0 20 0 0  0000*8", 0x0041, 14, 0, SAME, SAME);
+    blit("B outside", ZEROS, "0F00 0000 0000 0000  0 0 0 20 0 0 0 0  0000*8", 0x0041, 15, 0, SAME, SAME);
+    blit("C outside", ZEROS, "0F00 0000 0000 0000  0 20 0 0 0 0 0 0  0000*8", 0x0041, 16, 0, SAME, SAME);
+    blit("D outside", ZEROS, "0F00 0000 0000 0000  0 0 0 0 0 0 0 20  0000*8", 0x0041, 17, 0, SAME, SAME);
+    blit("all outside", ZEROS, "0F00 0000 0000 0000  0 20 0 20 0 20 0 20  0000*8", 0x0041, 14, 0, SAME, SAME);
+    blit("B, C and D outside", ZEROS, "0F00 0000 0000 0000  0 20 0 20 0 0 0 20  0000*8", 0x0041, 15, 0, SAME, SAME);
+    blit("C and D outside", ZEROS, "0F00 0000 0000 0000  0 20 0 0 0 0 0 20  0000*8", 0x0041, 16, 0, SAME, SAME);
+    blit("A and D outside", ZEROS, "0900 0000 0000 0000  0 0 0 0 0 20 0 20  0000*8", 0x0041, 14, 0, SAME, SAME);
+    blit("D outside at word 1, A at word 2", ZEROS, "0900 0000 0000 0000  0 0 0 0 0 1C 0 1E  0000*8", 0x0043, 14, 0,
+         SAME, SAME);
+    blit("D outside in row 0, A in row 1", ZEROS, "0900 0000 0000 0000  0 0 0 0 0 1E 0 20  0000*8", 0x0081, 14, 0,
+         SAME, SAME);
+    blit("D outside, A just inside", ZEROS, "0900 0000 0000 0000  0 0 0 0 0 1A 0 1C  0000*8", 0x0043, 17, 0, SAME, SAME);
+    blit("A goes round below word 0", ZEROS, "0900 0002 0000 0000  0 0 0 0 0 0 0 2  0000*8", 0x0042, 14, 0, SAME, SAME);
+    blit("B's modulo leads outside", ZEROS, "0500 0000 0000 0000  0 0 0 0 0 0 0 0  0 20 0 0  0000*4", 0x0081, 15, 0,
+         SAME, SAME);
+    blit("channels that aren't used, outside", ZEROS, "01FF 0000 0000 0000  0 20 0 20 0 20 0 0  0000*8", 0x0041, 0, 1,
+         "FFFF 0000*15", "01FF 0000 0000 0000  0 20 0 20 0 20 0 2  0000*8");
+    blit("D not used, outside", ZEROS, "0E00 0000 0000 0000  0 0 0 0 0 0 0 20  0000*8", 0x0041, 0, 0, SAME,
+         "0E00 0000 0000 0000  0 2 0 2 0 2 0 20  0000*7 0001");
+    blit("D not used, outside, and C", ZEROS, "0E00 0000 0000 0000  0 20 0 0 0 0 0 20  0000*8", 0x0041, 16, 0, SAME,
+         SAME);
 }
 
 void blits(void)
 {
     blits_done();
     blits_refused();
+    channels_outside();
 }
 
 static void runs_of_lengths(void)
@@ -116,10 +141,12 @@ static void runs_of_steps(void)
     run("line, both fills", ZEROS, ZERO_FILE, "0042 0019 0058 0041", 7, 2, 0, SAME, "0000 0019 0000*18");
     run("both fills", ZEROS, ZERO_FILE, "0042 0018 0058 0041", 8, 2, 0, SAME, "0000 0018 0000*18");
     run("fill upward", ZEROS, ZERO_FILE, "0042 0008 0058 0041", 9, 2, 0, SAME, "0000 0008 0000*18");
-    run("blit touches N", ZEROS, ZERO_FILE, "0040 0100 0056 001E 0058 0042", 10, 4, 0, SAME,
+    run("blit touches N", ZEROS, ZERO_FILE, "0040 0100 0056 001E 0058 0042", 17, 4, 0, SAME,
         "0100 0000*10 001E 0000*8");
     run("blit to N - 1", ZEROS, ZERO_FILE, "0040 0100 0056 001E 0058 0041", 0, 0, 1, SAME,
         "0100 0000*10 0020 0000*7 0001");
+    run("blit, A and D outside", ZEROS, ZERO_FILE, "8000 0000 1111 0040 0900 0052 0020 0056 0020 0058 0041 C001", 14, 9, 1,
+        "1111 0000*15", "0900 0000*8 0020 0000 0020 0000*8");
     run("store at N", ZEROS, ZERO_FILE, "8000 001E 1111 0040 2222 C001 8000 0020 3333 C000", 10, 6, 1, "0000*15 1111",
         "2222 0000*18 0001");
     run("size 0000 and a store", "0000*65536", ZERO_FILE, "0040 0100 0058 0000 8000 0000 0001", 0, 0, 65537,

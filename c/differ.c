@@ -10,7 +10,7 @@
 #include "differ.h"
 #include "plain.h"
 
-enum { FENCE = 8, FENCE_WORD = 0xA55A, NUMBERS = 12 };
+enum { FENCE = 8, FENCE_WORD = 0xA55A, NUMBERS = 18 };
 
 /* One side's buffers, a fence on either side of each, and its answer. */
 struct side {

@@ -1,4 +1,4 @@
-/* A second Blitter, in plain C, written from paper 01 alone: one area blit, a job run, a job folded.
+/* A second Blitter, in plain C, written from the papers alone: one area blit, a job run, a job folded.
  * Nothing of it is proved. It is what the archive is compared with, call by call, and what its cost is set beside.
  * Parameters, numbers and what a refusal leaves are those of the entries of the same name in desk.h. */
 #ifndef PLAIN_H

@@ -130,6 +130,16 @@ static bool leaves(struct channel channel, uint32_t height, uint32_t width, size
     return false;
 }
 
+/* 14, 15, 16 or 17 for the first of A, B, C and D that leaves memory, whichever does so earlier; 0 if none does. */
+static uint32_t leaving(const struct blit *blit, size_t ram_words)
+{
+    const struct channel channels[] = {blit->a.channel, blit->b.channel, blit->c.channel, blit->d};
+    for (uint32_t i = 0; i < 4; i++)
+        if (leaves(channels[i], blit->height, blit->width, ram_words))
+            return 14 + i;
+    return 0;
+}
+
 static uint32_t refusal(const struct blit *blit, uint16_t con1, size_t ram_words)
 {
     if (con1 & 1)
@@ -138,12 +148,7 @@ static uint32_t refusal(const struct blit *blit, uint16_t con1, size_t ram_words
         return 8;
     if ((blit->exclusive || blit->inclusive) && !blit->descending)
         return 9;
-    if (leaves(blit->a.channel, blit->height, blit->width, ram_words) ||
-        leaves(blit->b.channel, blit->height, blit->width, ram_words) ||
-        leaves(blit->c.channel, blit->height, blit->width, ram_words) ||
-        leaves(blit->d, blit->height, blit->width, ram_words))
-        return 10;
-    return 0;
+    return leaving(blit, ram_words);
 }
 
 uint32_t plain_blit_refusal(const uint16_t *file, size_t ram_words, uint16_t size)

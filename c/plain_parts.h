@@ -39,7 +39,7 @@ bool plain_file_lawful(const uint16_t *file, size_t file_words);
 uint32_t plain_height(uint16_t size);
 uint32_t plain_width(uint16_t size);
 
-/* The first of 7, 8, 9 and 10 that refuses the blit, or 0. */
+/* The first of 7, 8, 9, 14, 15, 16 and 17 that refuses the blit, or 0. */
 uint32_t plain_blit_refusal(const uint16_t *file, size_t ram_words, uint16_t size);
 
 /* Does a blit that nothing refuses; gives the count of words stored. */

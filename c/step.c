@@ -1,5 +1,6 @@
 #include "step.h"
 
+#include <stdbool.h>
 #include <string.h>
 
 struct reg {
@@ -22,7 +23,7 @@ static const struct reg registers[FILE_WORDS] = {
     {"zero", 0, 0x0001},
 };
 
-/* Paper 01's "Numbers given back". */
+/* Paper 01's "Numbers given back", as paper 02 leaves it: 13 isn't given. */
 static const char *const meanings[] = {
     "done",
     "memory of no words or of more than 262,144",
@@ -34,14 +35,21 @@ static const char *const meanings[] = {
     "a line",
     "both fills",
     "a fill without descending",
-    "a blit or store at a word that memory doesn't have",
+    "a store at a word that memory doesn't have",
     "a folded job of more than 4,096 words",
     "a bad card",
+    NULL,
+    "channel A at a word that memory doesn't have",
+    "channel B at a word that memory doesn't have",
+    "channel C at a word that memory doesn't have",
+    "channel D at a word that memory doesn't have",
 };
 
 const char *number_meaning(uint32_t number)
 {
-    return number < sizeof meanings / sizeof meanings[0] ? meanings[number] : "not a number of paper 01";
+    bool given = number < sizeof meanings / sizeof meanings[0] && meanings[number] != NULL;
+
+    return given ? meanings[number] : "not a number of the papers";
 }
 
 const char *register_name(size_t reg)

@@ -17,8 +17,13 @@
  *      7  a line: bit 0 of BLTCON1
  *      8  both fills
  *      9  a fill without descending
- *     10  a blit or a store at a word that memory doesn't have
+ *     10  a store at a word that memory doesn't have
  *     11  a folded job longer than the output or than 4,096 words
+ *     14  a blit whose channel A comes to a word that memory doesn't have
+ *     15  the same of channel B, but not of A
+ *     16  the same of channel C, but not of A or B
+ *     17  the same of channel D alone
+ *   Of a blit's channels those in use count, in the order A, B, C, D, whichever leaves memory earlier.
  * - The three numbers are written at every call, refused or not.
  * - There is no state: calls on different buffers may run at the same time. No call allocates, prints or fails otherwise.
  */
@@ -33,14 +38,14 @@ extern "C" {
 #endif
 
 /* Does one area blit of the given BLTSIZE. *number is 0 when it is done, and *stored the count of words stored;
- * otherwise it is 1, 2, 7, 8, 9 or 10 (the first that holds, in this order), *stored is 0, and ram and file are
- * unchanged. */
+ * otherwise it is 1, 2, 7, 8, 9, 14, 15, 16 or 17 (the first that holds, in this order), *stored is 0, and ram and
+ * file are unchanged. */
 void desk_blit(uint16_t *ram, size_t ram_words, uint16_t *file, size_t file_words, uint16_t size,
                uint32_t *number, uint32_t *stored);
 
-/* Runs a job. *number is 0 when it is done, and *place is 0; otherwise it is 1 to 10, *place the word index of the
- * refused step (0 for 1 to 3), and ram, file and *stored are as after the last step that was done. *stored counts the
- * words stored by blits and store steps together. */
+/* Runs a job. *number is 0 when it is done, and *place is 0; otherwise it is 1 to 10 or 14 to 17, *place the word
+ * index of the refused step (0 for 1 to 3), and ram, file and *stored are as after the last step that was done.
+ * *stored counts the words stored by blits and store steps together. */
 void desk_run(uint16_t *ram, size_t ram_words, uint16_t *file, size_t file_words,
               const uint16_t *job, size_t job_words,
               uint32_t *number, uint32_t *place, uint32_t *stored);

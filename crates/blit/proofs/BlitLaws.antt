@@ -15,7 +15,7 @@ use Rattle.file.specs.Places.{flag}
 use Rattle.area.specs.declared.types.Setup.{Setup}
 use Rattle.area.specs.declared.types.Flow.{Flow}
 use Rattle.blit.specs.declared.types.Refusal.{Refusal}
-use Rattle.blit.specs.declared.types.Refusal.the-variants.{MemorySize, RegisterFile, Line, BothFills, FillUpward, LeavesMemory}
+use Rattle.blit.specs.declared.types.Refusal.the-variants.{MemorySize, RegisterFile, Line, BothFills, FillUpward, ALeaves, BLeaves, CLeaves, DLeaves}
 use Rattle.blit.specs.declared.types.Verdict.{Verdict}
 use Rattle.blit.specs.declared.types.Verdict.the-variants as verdicts
 use Rattle.blit.specs.declared.types.Answer.{Answer}
@@ -84,7 +84,10 @@ refusal-is-some RegisterFile = refl
 refusal-is-some Line = refl
 refusal-is-some BothFills = refl
 refusal-is-some FillUpward = refl
-refusal-is-some LeavesMemory = refl
+refusal-is-some ALeaves = refl
+refusal-is-some BLeaves = refl
+refusal-is-some CLeaves = refl
+refusal-is-some DLeaves = refl
 
 pub answered-when-refused : (memory file : List ℕ) (size : ℕ) (why : Refusal) (verdict : Verdict)
     → verdict ≡ verdicts.Refused why → left (Refused why) memory file ≡ answered (verdictNumber verdict) memory file size

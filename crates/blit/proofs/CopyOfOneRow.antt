@@ -28,12 +28,12 @@ use Rattle.area.proofs.ChannelLaws.{oneWord-stores, oneWord-moves-a, oneWord-mo
 use Rattle.area.proofs.CopyLaws.{Copying, finishedWord-copies, oneWord-hands-on}
 use Rattle.area.specs.declared.types.Pointers.{Pointers}
 use Rattle.blit.specs.Touch.{rowTouches, touches, among, leaves}
-use Rattle.blit.specs.Refusal.{refusal, leavesMemory}
+use Rattle.blit.specs.Refusal.{refusal, leaving}
 use Rattle.blit.specs.Blit.{finished, done, answered, blit}
 use Rattle.blit.specs.CopyOfOneRow.{plain, Copies, spot, CopyOfOneRow}
 use Rattle.word.proofs.PointerLaws.{moves-are-one, moved-lt}
 use Rattle.blit.proofs.TouchLaws.{leaves-of-append}
-use Rattle.blit.proofs.RefusalLaws.{refusal-of-none, leavesMemory-of-d, pointerAt-lt}
+use Rattle.blit.proofs.RefusalLaws.{refusal-of-none, leaving-of-d, pointerAt-lt}
 use Rattle.blit.proofs.OnlyDChanges.{words-change-no-other}
 
 -- a word that is no spot of a row isn't touched by it
@@ -137,10 +137,10 @@ one-row-inside direction n wide modulo rows pointer one stays =
     or-left (leaves n (rowTouches direction wide pointer)) (leaves n [])
     (sym (leaves-of-append n (rowTouches direction wide pointer) []) ∙ rw one at stays)
 
-d-inside : (n size : ℕ) (set : Setup) (at : Pointers) → set .uses .d ≡ true → height size ≡ 1 → leavesMemory n set at size ≡ false
+d-inside : (n size : ℕ) (set : Setup) (at : Pointers) → set .uses .d ≡ true → height size ≡ 1 → leaving n set at size ≡ 0
     → leaves n (rowTouches (set .direction) (width size) (at .d)) ≡ false
 d-inside n size set at uses one stays =
-    one-row-inside (set .direction) n (width size) (set .modulos .d) (height size) (at .d) one (leavesMemory-of-d n size set at uses stays)
+    one-row-inside (set .direction) n (width size) (set .modulos .d) (height size) (at .d) one (leaving-of-d n size set at uses stays)
 
 -- a file that copies has a set-up that copies
 setup-direction : (way : Direction) (file : List ℕ) → con1 file ≡ plain way → setup file .direction ≡ way

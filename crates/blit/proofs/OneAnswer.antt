@@ -5,7 +5,7 @@ use borrow.Author.Tests.{eqb-false}
 use lib.Dec.{eqb}
 use Rattle.word.specs.Choice.{if_then_else_}
 use Rattle.blit.specs.declared.types.Refusal.{Refusal}
-use Rattle.blit.specs.declared.types.Refusal.the-variants.{MemorySize, RegisterFile, Line, BothFills, FillUpward, LeavesMemory}
+use Rattle.blit.specs.declared.types.Refusal.the-variants.{MemorySize, RegisterFile, Line, BothFills, FillUpward, ALeaves, BLeaves, CLeaves, DLeaves}
 use Rattle.blit.specs.declared.types.Answer.{Answer}
 use Rattle.blit.specs.declared.types.Answer.the-variants.{Done, Refused}
 use Rattle.blit.specs.Refusal.{refusalNumber}
@@ -21,7 +21,10 @@ refusalOf number =
     if eqb number 7 then Line else
     if eqb number 8 then BothFills else
     if eqb number 9 then FillUpward else
-    LeavesMemory
+    if eqb number 14 then ALeaves else
+    if eqb number 15 then BLeaves else
+    if eqb number 16 then CLeaves else
+    DLeaves
 
 refusalNumber-tells : (why : Refusal) → refusalOf (refusalNumber why) ≡ why
 unfolding refusalOf
@@ -30,7 +33,10 @@ refusalNumber-tells RegisterFile = refl
 refusalNumber-tells Line = refl
 refusalNumber-tells BothFills = refl
 refusalNumber-tells FillUpward = refl
-refusalNumber-tells LeavesMemory = refl
+refusalNumber-tells ALeaves = refl
+refusalNumber-tells BLeaves = refl
+refusalNumber-tells CLeaves = refl
+refusalNumber-tells DLeaves = refl
 
 answers-are-equal : (answer other : Answer) → answerNumber answer ≡ answerNumber other → answerStored answer ≡ answerStored other → answer ≡ other
 answers-are-equal (Done stored) (Done stored′) number count = ap Done count

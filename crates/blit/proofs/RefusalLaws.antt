@@ -10,7 +10,6 @@ use lib.Dec.{eqb, leb, ltb}
 use Rattle.word.specs.Choice.{if_then_else_, given}
 use Rattle.word.specs.Pointer.{pointerEnd, pointer}
 use Rattle.word.specs.Size.{height, width}
-use Rattle.word.proofs.ChoiceLaws.{or-right}
 use Rattle.word.proofs.SizeLaws.{width-le, width-positive}
 use Rattle.file.specs.File.{accepted}
 use Rattle.file.specs.Places.{pointerA, pointerB, pointerC, pointerD}
@@ -19,7 +18,7 @@ use Rattle.area.specs.declared.types.Pointers.{Pointers}
 use Rattle.area.specs.Setup.{con1, line, setup}
 use Rattle.area.specs.Flow.{pointerAt, pointers}
 use Rattle.blit.specs.Touch.{touches, leaves, channelLeaves}
-use Rattle.blit.specs.Refusal.{memorySize, bothFills, fillUpward, leavesMemory, stepRefusal, refusal}
+use Rattle.blit.specs.Refusal.{memorySize, bothFills, fillUpward, leaving, stepRefusal, refusal}
 
 -- the far end tested the other way round
 pub memorySize-is-beyond : (n : ℕ) → (eqb n 0 || ltb pointerEnd n) ≡ memorySize n
@@ -60,24 +59,28 @@ module _ (file : List ℕ) (at : Pointers) (same : at ≡ pointers file) where
 -- the channels one after the other: the first that leaves decides
 module _ (n : ℕ) (set : Setup) (at : Pointers) (size wide tall : ℕ) (width-is : wide ≡ width size) (height-is : tall ≡ height size) (a : Bool)
     (of-a : a ≡ channelLeaves n (set .direction) (set .uses .a) wide (set .modulos .a) tall (at .a)) where
-  pub leavesMemory-by-a : a ≡ true → true ≡ leavesMemory n set at size
-  unfolding leavesMemory
-  leavesMemory-by-a leaves = rw (← width-is, ← height-is, ← of-a, leaves)
+  pub leaving-by-a : a ≡ true → 14 ≡ leaving n set at size
+  unfolding leaving given
+  leaving-by-a outside = rw (← width-is, ← height-is, ← of-a, outside)
 
   module _ (a-stays : a ≡ false) (b : Bool) (of-b : b ≡ channelLeaves n (set .direction) (set .uses .b) wide (set .modulos .b) tall (at .b)) where
-    pub leavesMemory-by-b : b ≡ true → true ≡ leavesMemory n set at size
-    unfolding leavesMemory
-    leavesMemory-by-b leaves = rw (← width-is, ← height-is, ← of-a, ← of-b, a-stays, leaves)
+    pub leaving-by-b : b ≡ true → 15 ≡ leaving n set at size
+    unfolding leaving given
+    leaving-by-b outside = rw (← width-is, ← height-is, ← of-a, ← of-b, a-stays, outside)
 
     module _ (b-stays : b ≡ false) (c : Bool) (of-c : c ≡ channelLeaves n (set .direction) (set .uses .c) wide (set .modulos .c) tall (at .c)) where
-      pub leavesMemory-by-c : c ≡ true → true ≡ leavesMemory n set at size
-      unfolding leavesMemory
-      leavesMemory-by-c leaves = rw (← width-is, ← height-is, ← of-a, ← of-b, ← of-c, a-stays, b-stays, leaves)
+      pub leaving-by-c : c ≡ true → 16 ≡ leaving n set at size
+      unfolding leaving given
+      leaving-by-c outside = rw (← width-is, ← height-is, ← of-a, ← of-b, ← of-c, a-stays, b-stays, outside)
 
-      pub leavesMemory-by-d : (d : Bool) → c ≡ false → d ≡ channelLeaves n (set .direction) (set .uses .d) wide (set .modulos .d) tall (at .d)
-          → d ≡ leavesMemory n set at size
-      unfolding leavesMemory
-      leavesMemory-by-d d c-stays of-d = rw (← width-is, ← height-is, ← of-a, ← of-b, ← of-c, a-stays, b-stays, c-stays) of-d
+      module _ (c-stays : c ≡ false) (d : Bool) (of-d : d ≡ channelLeaves n (set .direction) (set .uses .d) wide (set .modulos .d) tall (at .d)) where
+        pub leaving-by-d : d ≡ true → 17 ≡ leaving n set at size
+        unfolding leaving given
+        leaving-by-d outside = rw (← width-is, ← height-is, ← of-a, ← of-b, ← of-c, ← of-d, a-stays, b-stays, c-stays, outside)
+
+        pub leaving-by-none : d ≡ false → 0 ≡ leaving n set at size
+        unfolding leaving given
+        leaving-by-none stays = rw (← width-is, ← height-is, ← of-a, ← of-b, ← of-c, ← of-d, a-stays, b-stays, c-stays, stays)
 
 -- the rules of a blit, one after the other
 module _ (n size : ℕ) (file : List ℕ) (control : ℕ) (reads : control ≡ con1 file) where
@@ -95,17 +98,11 @@ module _ (n size : ℕ) (file : List ℕ) (control : ℕ) (reads : control ≡ c
       unfolding stepRefusal given
       refused-by-fill-upward holds = rw (← reads, ne-eqb (control / 1 % 2) 1 area, ← of-both, one, ← of-upward, holds)
 
-      module _ (downward : upward ≡ false) (set : Setup) (at : Pointers) (outside : Bool)
-          (of-set : set ≡ setup file) (of-at : at ≡ pointers file) (of-outside : outside ≡ leavesMemory n set at size) where
-        pub refused-by-leaving : outside ≡ true → 10 ≡ stepRefusal n file size
-        unfolding stepRefusal given
-        refused-by-leaving holds =
-            rw (← reads, ne-eqb (control / 1 % 2) 1 area, ← of-both, one, ← of-upward, downward, ← of-set, ← of-at, ← of-outside, holds)
-
-        pub lawful : outside ≡ false → 0 ≡ stepRefusal n file size
-        unfolding stepRefusal given
-        lawful holds =
-            rw (← reads, ne-eqb (control / 1 % 2) 1 area, ← of-both, one, ← of-upward, downward, ← of-set, ← of-at, ← of-outside, holds)
+      pub refused-by-leaving : upward ≡ false → (set : Setup) (at : Pointers) (number : ℕ)
+          → set ≡ setup file → at ≡ pointers file → number ≡ leaving n set at size → number ≡ stepRefusal n file size
+      unfolding stepRefusal given leaving
+      refused-by-leaving downward set at number of-set of-at gives =
+          rw (← reads, ne-eqb (control / 1 % 2) 1 area, ← of-both, one, ← of-upward, downward, ← of-set, ← of-at) gives
 
 -- memory and file, then the rules of the blit
 module _ (n size : ℕ) (file : List ℕ) (bad : Bool) (of-bad : bad ≡ memorySize n) where
@@ -122,57 +119,67 @@ module _ (n size : ℕ) (file : List ℕ) (bad : Bool) (of-bad : bad ≡ memoryS
     unfolding refusal stepRefusal given
     refused-by-blit number holds rest = rw (← of-bad, taken, ← of-fine, holds) rest
 
--- the numbers by their tests alone
-abbrev pub numbered : (memory file line both upward leaving : Bool) → ℕ
-numbered memory file line both upward leaving =
+-- the numbers by their tests alone: of the channels, and of all
+abbrev pub channelNumbered : (a b c d : Bool) → ℕ
+channelNumbered a b c d =
+    if a then 14 else
+    if b then 15 else
+    if c then 16 else
+    if d then 17 else
+    0
+
+abbrev pub numbered : (memory file line both upward : Bool) → (channel : ℕ) → ℕ
+numbered memory file line both upward channel =
     if memory then 1 else
     if file then 2 else
     if line then 7 else
     if both then 8 else
     if upward then 9 else
-    if leaving then 10 else
-    0
+    channel
 
 pub refusal-is-numbered : (n : ℕ) (file : List ℕ) (size : ℕ)
     → refusal n file size
     ≡ numbered (memorySize n) (not (accepted file)) (line (con1 file)) (bothFills (con1 file)) (fillUpward (con1 file))
-    (leavesMemory n (setup file) (pointers file) size)
-unfolding refusal given
+    (leaving n (setup file) (pointers file) size)
+unfolding refusal given leaving
 refusal-is-numbered n file size = refl
 
-numbered-of-none : (memory file line both upward leaving : Bool) → numbered memory file line both upward leaving ≡ 0 → leaving ≡ false
-numbered-of-none true file line both upward leaving lawful = absurd (omega arith)
-numbered-of-none false true line both upward leaving lawful = absurd (omega arith)
-numbered-of-none false false true both upward leaving lawful = absurd (omega arith)
-numbered-of-none false false false true upward leaving lawful = absurd (omega arith)
-numbered-of-none false false false false true leaving lawful = absurd (omega arith)
-numbered-of-none false false false false false true lawful = absurd (omega arith)
-numbered-of-none false false false false false false lawful = refl
+numbered-of-none : (memory file line both upward : Bool) (channel : ℕ) → numbered memory file line both upward channel ≡ 0 → channel ≡ 0
+numbered-of-none true file line both upward channel lawful = absurd (omega arith)
+numbered-of-none false true line both upward channel lawful = absurd (omega arith)
+numbered-of-none false false true both upward channel lawful = absurd (omega arith)
+numbered-of-none false false false true upward channel lawful = absurd (omega arith)
+numbered-of-none false false false false true channel lawful = absurd (omega arith)
+numbered-of-none false false false false false channel lawful = lawful
 
 -- a blit that nothing refuses doesn't leave memory
-pub refusal-of-none : (n : ℕ) (file : List ℕ) (size : ℕ) → refusal n file size ≡ 0 → leavesMemory n (setup file) (pointers file) size ≡ false
+pub refusal-of-none : (n : ℕ) (file : List ℕ) (size : ℕ) → refusal n file size ≡ 0 → leaving n (setup file) (pointers file) size ≡ 0
 refusal-of-none n file size lawful =
     numbered-of-none (memorySize n) (not (accepted file)) (line (con1 file)) (bothFills (con1 file)) (fillUpward (con1 file))
-    (leavesMemory n (setup file) (pointers file) size) (sym (refusal-is-numbered n file size) ∙ lawful)
+    (leaving n (setup file) (pointers file) size) (sym (refusal-is-numbered n file size) ∙ lawful)
 
 -- the same of a job's blit
-pub stepRefusal-of-none : (n : ℕ) (file : List ℕ) (size : ℕ) → stepRefusal n file size ≡ 0 → leavesMemory n (setup file) (pointers file) size ≡ false
-unfolding stepRefusal given
+pub stepRefusal-of-none : (n : ℕ) (file : List ℕ) (size : ℕ) → stepRefusal n file size ≡ 0 → leaving n (setup file) (pointers file) size ≡ 0
+unfolding stepRefusal given leaving
 stepRefusal-of-none n file size lawful =
     numbered-of-none false false (line (con1 file)) (bothFills (con1 file)) (fillUpward (con1 file))
-    (leavesMemory n (setup file) (pointers file) size) lawful
-
-used-stays : (used rest : Bool) → used ≡ true → (used && rest) ≡ false → rest ≡ false
-used-stays used rest uses stays = rw uses at stays
+    (leaving n (setup file) (pointers file) size) lawful
 
 -- then D, if it is used, stays inside
-pub leavesMemory-of-d : (n size : ℕ) (set : Setup) (at : Pointers) → set .uses .d ≡ true → leavesMemory n set at size ≡ false
+last-of-none : (a b c used outside : Bool) → used ≡ true → channelNumbered a b c (used && outside) ≡ 0 → outside ≡ false
+last-of-none true b c used outside uses none = absurd (omega arith)
+last-of-none false true c used outside uses none = absurd (omega arith)
+last-of-none false false true used outside uses none = absurd (omega arith)
+last-of-none false false false true true uses none = absurd (omega arith)
+last-of-none false false false false true uses none = sym uses
+last-of-none false false false used false uses none = refl
+
+pub leaving-of-d : (n size : ℕ) (set : Setup) (at : Pointers) → set .uses .d ≡ true → leaving n set at size ≡ 0
     → leaves n (touches (set .direction) (width size) (set .modulos .d) (height size) (at .d)) ≡ false
-unfolding leavesMemory channelLeaves
-leavesMemory-of-d n size set at uses stays =
-    used-stays (set .uses .d) (leaves n (touches (set .direction) (width size) (set .modulos .d) (height size) (at .d))) uses
-    (or-right
-    (channelLeaves n (set .direction) (set .uses .a) (width size) (set .modulos .a) (height size) (at .a)
-    || channelLeaves n (set .direction) (set .uses .b) (width size) (set .modulos .b) (height size) (at .b)
-    || channelLeaves n (set .direction) (set .uses .c) (width size) (set .modulos .c) (height size) (at .c))
-    (channelLeaves n (set .direction) (set .uses .d) (width size) (set .modulos .d) (height size) (at .d)) stays)
+unfolding leaving given channelLeaves
+leaving-of-d n size set at uses none =
+    last-of-none
+    (channelLeaves n (set .direction) (set .uses .a) (width size) (set .modulos .a) (height size) (at .a))
+    (channelLeaves n (set .direction) (set .uses .b) (width size) (set .modulos .b) (height size) (at .b))
+    (channelLeaves n (set .direction) (set .uses .c) (width size) (set .modulos .c) (height size) (at .c))
+    (set .uses .d) (leaves n (touches (set .direction) (width size) (set .modulos .d) (height size) (at .d))) uses none

@@ -14,7 +14,10 @@ fn refusal_number(why: Refusal) -> u32
         Refusal::Line => 7,
         Refusal::BothFills => 8,
         Refusal::FillUpward => 9,
-        Refusal::LeavesMemory => 10,
+        Refusal::ALeaves => 14,
+        Refusal::BLeaves => 15,
+        Refusal::CLeaves => 16,
+        Refusal::DLeaves => 17,
     }
 }
 

@@ -1,7 +1,7 @@
 // The refusals of a blit, in the order of the paper.
 ghost use mathlib.Core.Path.{_≡_};
 ghost use Prim.Native.Nat.{_<_};
-ghost use Rattle.blit.specs.Refusal.{bothFills, fillUpward, leavesMemory, stepRefusal, refusal, verdictNumber};
+ghost use Rattle.blit.specs.Refusal.{bothFills, fillUpward, leaving, stepRefusal, refusal, verdictNumber};
 use crate::types::Refusal;
 use crate::types::Verdict;
 use area::types::Pointers;
@@ -19,10 +19,11 @@ fn fill_upward(con1: u16) -> bool
     ((con1 / 16 % 2 == 1) | (con1 / 8 % 2 == 1)) & !(con1 / 2 % 2 == 1)
 }
 
-fn leaves_memory(n: usize, setup: Setup, pointers: Pointers, size: u16) -> bool
+// The channels in the order A, B, C, D: the first that leaves memory is told.
+fn leaving(n: usize, setup: Setup, pointers: Pointers, size: u16) -> Verdict
     requires { ⌜ (pointers .a .word < 262144) × (pointers .b .word < 262144)
         × (pointers .c .word < 262144) × (pointers .d .word < 262144) ⌝ }
-    ensures { λ outside. ⌜ outside ≡ leavesMemory n setup pointers size ⌝ }
+    ensures { λ verdict. ⌜ verdictNumber verdict ≡ leaving n setup pointers size ⌝ }
 {
     let uses = setup.uses;
     let modulos = setup.modulos;
@@ -34,15 +35,18 @@ fn leaves_memory(n: usize, setup: Setup, pointers: Pointers, size: u16) -> bool
     let c = pointers.c;
     let d = pointers.d;
     if crate::touch::channel_leaves(n, direction, uses.a, width, modulos.a, height, a) {
-        return true;
+        return Verdict::Refused(Refusal::ALeaves);
     }
     if crate::touch::channel_leaves(n, direction, uses.b, width, modulos.b, height, b) {
-        return true;
+        return Verdict::Refused(Refusal::BLeaves);
     }
     if crate::touch::channel_leaves(n, direction, uses.c, width, modulos.c, height, c) {
-        return true;
+        return Verdict::Refused(Refusal::CLeaves);
     }
-    crate::touch::channel_leaves(n, direction, uses.d, width, modulos.d, height, d)
+    if crate::touch::channel_leaves(n, direction, uses.d, width, modulos.d, height, d) {
+        return Verdict::Refused(Refusal::DLeaves);
+    }
+    Verdict::Lawful
 }
 
 // The refusal of a job's blit, whose memory and file have been taken.
@@ -61,10 +65,7 @@ pub fn step_refusal(n: usize, file: &[u16], size: u16) -> Verdict
     }
     let setup = area::setup::setup(file);
     let pointers = area::flow::pointers(file);
-    if leaves_memory(n, setup, pointers, size) {
-        return Verdict::Refused(Refusal::LeavesMemory);
-    }
-    Verdict::Lawful
+    leaving(n, setup, pointers, size)
 }
 
 pub fn refusal(n: usize, file: &[u16], size: u16) -> Verdict

@@ -1,13 +1,16 @@
 // The types that the answers of a blit speak of.
 
-// Why a blit is refused.
+// Why a blit is refused. One that leaves memory is refused by the first channel that does.
 pub enum Refusal {
     MemorySize,
     RegisterFile,
     Line,
     BothFills,
     FillUpward,
-    LeavesMemory,
+    ALeaves,
+    BLeaves,
+    CLeaves,
+    DLeaves,
 }
 
 // Whether a blit would be done.

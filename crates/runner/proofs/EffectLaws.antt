@@ -34,7 +34,7 @@ unfolding flagEffect
 flagEffect-of-write value memory file next writes = rw writes
 
 pub storeEffect-when-outside : (to value : ℕ) (memory file : List ℕ) → length memory ≤ to
-    → leftByStep (Taken.Refused reasons.Refusal.LeavesMemory) memory file ≡ storeEffect to value memory file
+    → leftByStep (Taken.Refused reasons.Refusal.StoreOutside) memory file ≡ storeEffect to value memory file
 unfolding storeEffect refused
 storeEffect-when-outside to value memory file outside = rw (le-leb (length memory) to outside)
 

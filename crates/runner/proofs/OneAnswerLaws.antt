@@ -23,7 +23,11 @@ numbered number =
     if eqb number 7 then Refusal.Line else
     if eqb number 8 then Refusal.BothFills else
     if eqb number 9 then Refusal.FillUpward else
-    Refusal.LeavesMemory
+    if eqb number 10 then Refusal.StoreOutside else
+    if eqb number 14 then Refusal.ALeaves else
+    if eqb number 15 then Refusal.BLeaves else
+    if eqb number 16 then Refusal.CLeaves else
+    Refusal.DLeaves
 
 numbered-of-number : (why : Refusal) → numbered (refusalNumber why) ≡ why
 unfolding numbered
@@ -36,7 +40,11 @@ numbered-of-number Refusal.OddStore = refl
 numbered-of-number Refusal.Line = refl
 numbered-of-number Refusal.BothFills = refl
 numbered-of-number Refusal.FillUpward = refl
-numbered-of-number Refusal.LeavesMemory = refl
+numbered-of-number Refusal.StoreOutside = refl
+numbered-of-number Refusal.ALeaves = refl
+numbered-of-number Refusal.BLeaves = refl
+numbered-of-number Refusal.CLeaves = refl
+numbered-of-number Refusal.DLeaves = refl
 
 pub refusalNumber-is-unique : (one other : Refusal) → refusalNumber one ≡ refusalNumber other → one ≡ other
 refusalNumber-is-unique one other same = sym (numbered-of-number one) ∙ ap numbered same ∙ numbered-of-number other

@@ -25,7 +25,7 @@ use Rattle.runner.specs.declared.types.Taken.{Taken}
 use Rattle.runner.specs.declared.types.Answer.{Answer}
 use Rattle.runner.specs.Effect.{stepEffect, effect}
 use Rattle.runner.specs.Run.{Machine, machine, effectOn, after, End, ended, runSteps, runFrom, jobMost, jobLength, startRefusal, run}
-use Rattle.runner.specs.Answer.{refusalNumber, leftByStep, left}
+use Rattle.runner.specs.Answer.{refusalNumber, answerNumber, leftByStep, left}
 use Rattle.runner.proofs.EffectLaws.{stepEffect-counts, stepEffect-stays}
 
 -- a refusal's number is never 0
@@ -39,7 +39,16 @@ refusalNumber-positive Refusal.OddStore same = omega arith
 refusalNumber-positive Refusal.Line same = omega arith
 refusalNumber-positive Refusal.BothFills same = omega arith
 refusalNumber-positive Refusal.FillUpward same = omega arith
-refusalNumber-positive Refusal.LeavesMemory same = omega arith
+refusalNumber-positive Refusal.StoreOutside same = omega arith
+refusalNumber-positive Refusal.ALeaves same = omega arith
+refusalNumber-positive Refusal.BLeaves same = omega arith
+refusalNumber-positive Refusal.CLeaves same = omega arith
+refusalNumber-positive Refusal.DLeaves same = omega arith
+
+-- a refused run answers with the number of its reason
+pub answerNumber-of-refused : (answer : Answer) (why : Refusal) (place stored number : ℕ)
+    → answer ≡ Answer.Refused why place stored → number ≡ refusalNumber why → number ≡ answerNumber answer
+answerNumber-of-refused answer why place stored number same gives = rw same gives
 
 -- the first step, done or refused
 module _ (one : Placed) (rest : List Placed) (before : Machine) (outcome : Outcome) (gives : outcome ≡ effectOn before (one .read)) where

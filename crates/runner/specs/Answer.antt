@@ -17,7 +17,11 @@ refusalNumber Refusal.OddStore = 6
 refusalNumber Refusal.Line = 7
 refusalNumber Refusal.BothFills = 8
 refusalNumber Refusal.FillUpward = 9
-refusalNumber Refusal.LeavesMemory = 10
+refusalNumber Refusal.StoreOutside = 10
+refusalNumber Refusal.ALeaves = 14
+refusalNumber Refusal.BLeaves = 15
+refusalNumber Refusal.CLeaves = 16
+refusalNumber Refusal.DLeaves = 17
 
 -- a step's answer: number and count
 abbrev pub takenNumber : Taken → ℕ

@@ -1,5 +1,5 @@
--- Paper 01, "Numbers given back": each number is "given exactly when" its row says and no earlier one does,
--- in the paper's order.
+-- Paper 01, "Numbers given back", as paper 02 leaves it: each number is "given exactly when" its row says and no
+-- earlier one does, in the paper's order.
 use Prim.Native.Nat.{ℕ, _<_}
 use mathlib.Core.Path.{_≡_}
 use mathlib.Core.Bool.{true, false}
@@ -29,7 +29,7 @@ pub record ExactNumbers (memory file job : List ℕ) : Type 0 where
   pub three :
       run memory file job .number ≡ 3
       ↔ (memorySize (length memory) ≡ false) × (accepted file ≡ true) × (jobLength job ≡ true)
-  -- "step by step", with the place: 4, 5, 6, 7, 8, 9, 10
+  -- "step by step", with the place: 4, 5, 6, 10, and a blit's own numbers
   pub step : (place number : ℕ)
       → 3 < number
       → (run memory file job .number ≡ number) × (run memory file job .place ≡ place)

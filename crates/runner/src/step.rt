@@ -18,7 +18,10 @@ fn blit_refusal(why: blit::types::Refusal) -> Refusal
         blit::types::Refusal::Line => Refusal::Line,
         blit::types::Refusal::BothFills => Refusal::BothFills,
         blit::types::Refusal::FillUpward => Refusal::FillUpward,
-        blit::types::Refusal::LeavesMemory => Refusal::LeavesMemory,
+        blit::types::Refusal::ALeaves => Refusal::ALeaves,
+        blit::types::Refusal::BLeaves => Refusal::BLeaves,
+        blit::types::Refusal::CLeaves => Refusal::CLeaves,
+        blit::types::Refusal::DLeaves => Refusal::DLeaves,
     }
 }
 
@@ -48,7 +51,7 @@ fn store_step(ram: &mut [u16], file: &[u16], to: u32, value: u16) -> Taken
         ≡ storeEffect to value (now (ram .entry)) (now (file .entry)) ⌝ }
 {
     if ram.len() <= to as usize {
-        return Taken::Refused(Refusal::LeavesMemory);
+        return Taken::Refused(Refusal::StoreOutside);
     }
     word::memory::write(ram, to, value);
     Taken::Done(1)

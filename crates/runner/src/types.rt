@@ -11,7 +11,11 @@ pub enum Refusal {
     Line,
     BothFills,
     FillUpward,
-    LeavesMemory,
+    StoreOutside,
+    ALeaves,
+    BLeaves,
+    CLeaves,
+    DLeaves,
 }
 
 // What one step answers: done with the count of words that it stored, or refused.

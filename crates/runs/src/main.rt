@@ -135,7 +135,7 @@ fn job_lengths() {
     );
 }
 
-// Numbers 4 to 10, each after steps that are done.
+// Numbers 4 to 10 and 17, each after steps that are done.
 fn refused_steps() {
     on_zeros(b"begins no step", &[0xC001, 0x0041, 0x0000]);
     on_zeros(b"cut off, and odd", &[0xC001, 0x8000, 0x0001]);
@@ -165,6 +165,111 @@ fn refused_steps() {
             0x3333,
             0xC000,
         ],
+    );
+}
+
+// Which channel is told of a blit that leaves 16 words: the first in the order A, B, C, D of which any word lies
+// outside, whichever leaves earlier. Byte 0020 is word 16.
+fn channels() {
+    on_zeros(
+        b"A outside",
+        &[0x0040, 0x0F00, 0x0052, 0x0020, 0x0058, 0x0041],
+    );
+    on_zeros(
+        b"B outside",
+        &[0x0040, 0x0F00, 0x004E, 0x0020, 0x0058, 0x0041],
+    );
+    on_zeros(
+        b"C outside",
+        &[0x0040, 0x0F00, 0x004A, 0x0020, 0x0058, 0x0041],
+    );
+    on_zeros(
+        b"D outside",
+        &[0x0040, 0x0F00, 0x0056, 0x0020, 0x0058, 0x0041],
+    );
+    on_zeros(
+        b"A and D outside",
+        &[
+            0x0040,
+            0x0900,
+            0x0052,
+            0x0020,
+            0x0056,
+            0x0020,
+            0x0058,
+            0x0041,
+        ],
+    );
+    on_zeros(
+        b"D outside at word 1, A at word 2",
+        &[
+            0x0040,
+            0x0900,
+            0x0052,
+            0x001C,
+            0x0056,
+            0x001E,
+            0x0058,
+            0x0043,
+        ],
+    );
+    on_zeros(
+        b"D outside in row 0, A in row 1",
+        &[
+            0x0040,
+            0x0900,
+            0x0052,
+            0x001E,
+            0x0056,
+            0x0020,
+            0x0058,
+            0x0081,
+        ],
+    );
+    on_zeros(
+        b"C outside at word 0, B at word 1",
+        &[
+            0x0040,
+            0x0F00,
+            0x004A,
+            0x0020,
+            0x004E,
+            0x001E,
+            0x0058,
+            0x0042,
+        ],
+    );
+    on_zeros(
+        b"A goes round below word 0",
+        &[
+            0x0040,
+            0x0900,
+            0x0042,
+            0x0002,
+            0x0056,
+            0x0002,
+            0x0058,
+            0x0042,
+        ],
+    );
+    on_zeros(
+        b"A, B and C not used, outside",
+        &[
+            0x0040,
+            0x0100,
+            0x004A,
+            0x0020,
+            0x004E,
+            0x0020,
+            0x0052,
+            0x0020,
+            0x0058,
+            0x0041,
+        ],
+    );
+    on_zeros(
+        b"D not used, outside",
+        &[0x0040, 0x0E00, 0x0056, 0x0020, 0x0058, 0x0041],
     );
 }
 
@@ -252,6 +357,7 @@ fn main() {
     on_zeros_whole(b"empty job", &[]);
     on_zeros_whole(b"flag set and cleared", &[0xC001, 0xC000]);
     refused_steps();
+    channels();
     largest_blit();
     several_blits();
 }

@@ -1,7 +1,7 @@
 -- Two register files that agree on what a settled blit depends on are refused alike, and become the same words.
 use mathlib.Core.Path.{_≡_, refl, sym, ap, ap₂, _∙_}
 use Prim.Native.Nat.{ℕ, _+_}
-use mathlib.Core.Bool.{Bool, true, false, _&&_, _||_}
+use mathlib.Core.Bool.{Bool, true, false, _&&_}
 use mathlib.Core.List.{List, _++_}
 use lib.ListN.{getD}
 use Rattle.word.specs.declared.types.Direction.{Direction}
@@ -16,8 +16,8 @@ use Rattle.area.specs.declared.types.Pointers.{Pointers}
 use Rattle.area.specs.Setup.{con0, con1, uses, function, shifts, carryIn, line, direction, fill, masks, modulos, setup}
 use Rattle.area.specs.Flow.{pointerAt, pointers, sources, start}
 use Rattle.blit.specs.Touch.{touches, leaves, channelLeaves}
-use Rattle.blit.specs.Refusal.{bothFills, fillUpward, leavesMemory, stepRefusal}
-use Rattle.blit.proofs.RefusalLaws.{numbered}
+use Rattle.blit.specs.Refusal.{bothFills, fillUpward, leaving, stepRefusal}
+use Rattle.blit.proofs.RefusalLaws.{channelNumbered, numbered}
 use Rattle.depends.specs.Depends.{counts}
 use Rattle.settled.specs.Words.{pointerWords, flagWords, settledEnd, settledWords}
 use Rattle.settled.proofs.OnlyDLaws.{OnlyD}
@@ -36,19 +36,21 @@ pub record Agree (this other : List ℕ) : Type 0 where
   pub b : counts (function (con0 this)) 2 ≡ true → getD this sourceB 0 ≡ getD other sourceB 0
   pub c : counts (function (con0 this)) 1 ≡ true → getD this sourceC 0 ≡ getD other sourceC 0
 
--- tests of four channels of which the last alone is used
+-- four channels of which the last alone is used
 last-alone : (a b c d x y z w : Bool) → a ≡ false → b ≡ false → c ≡ false → d ≡ true
-    → (a && x || b && y || c && z || d && w) ≡ w
+    → channelNumbered (a && x) (b && y) (c && z) (d && w) ≡ channelNumbered false false false w
 last-alone a b c d x y z w no-a no-b no-c yes-d = rw (no-a, no-b, no-c, yes-d)
 
-leavesMemory-of-only-d : (n : ℕ) (set : Setup) (at : Pointers) (size : ℕ) → OnlyD (set .uses)
-    → leavesMemory n set at size ≡ leaves n (touches (set .direction) (width size) (set .modulos .d) (height size) (at .d))
-unfolding leavesMemory channelLeaves
-leavesMemory-of-only-d n set at size only =
+leaving-of-only-d : (n : ℕ) (set : Setup) (at : Pointers) (size : ℕ) → OnlyD (set .uses)
+    → leaving n set at size
+    ≡ channelNumbered false false false (leaves n (touches (set .direction) (width size) (set .modulos .d) (height size) (at .d)))
+unfolding leaving given channelLeaves
+leaving-of-only-d n set at size only =
     last-alone (set .uses .a) (set .uses .b) (set .uses .c) (set .uses .d) _ _ _ _ (only .a) (only .b) (only .c) (only .d)
 
 touches-alike : (n wide tall : ℕ) (way way′ : Direction) (modulo modulo′ : ℕ) (at at′ : Pointer) → way ≡ way′ → modulo ≡ modulo′ → at ≡ at′
-    → leaves n (touches way wide modulo tall at) ≡ leaves n (touches way′ wide modulo′ tall at′)
+    → channelNumbered false false false (leaves n (touches way wide modulo tall at))
+    ≡ channelNumbered false false false (leaves n (touches way′ wide modulo′ tall at′))
 touches-alike n wide tall way way′ modulo modulo′ at at′ same by from = rw (same, by, from)
 
 module _ (this other : List ℕ) (agree : Agree this other) where
@@ -100,14 +102,14 @@ module _ (this other : List ℕ) (agree : Agree this other) where
       }
 
   pub stepRefusal-alike : (n size : ℕ) → OnlyD (setup this .uses) → stepRefusal n this size ≡ stepRefusal n other size
-  unfolding stepRefusal given
+  unfolding stepRefusal given leaving
   stepRefusal-alike n size only =
-      ap₂ (λ (control : ℕ) (leaving : Bool). numbered false false (line control) (bothFills control) (fillUpward control) leaving)
+      ap₂ (λ (control channel : ℕ). numbered false false (line control) (bothFills control) (fillUpward control) channel)
       (agree .control1)
-      (leavesMemory-of-only-d n (setup this) (pointers this) size only
+      (leaving-of-only-d n (setup this) (pointers this) size only
       ∙ touches-alike n (width size) (height size) (setup this .direction) (setup other .direction) (setup this .modulos .d) (setup other .modulos .d) (pointers this .d) (pointers other .d)
       (setup-alike .direction) (setup-alike .modulo) pointers-alike
-      ∙ sym (leavesMemory-of-only-d n (setup other) (pointers other) size (uses-alike only)))
+      ∙ sym (leaving-of-only-d n (setup other) (pointers other) size (uses-alike only)))
 
   end-alike : (size : ℕ) → OnlyD (setup this .uses) → AlikeFlow (function (con0 this)) (settledEnd this size .flow) (settledEnd other size .flow)
   unfolding settledEnd setup

@@ -19,7 +19,7 @@ use Rattle.area.specs.Rows.{rows}
 use Rattle.blit.specs.Refusal.{stepRefusal}
 use Rattle.blit.specs.WriteBack.{putPointer, putPointers, putSource, putSources, putFlag}
 use Rattle.blit.specs.Blit.{Outcome, finished, done, answered, blitStep}
-use Rattle.blit.proofs.RefusalLaws.{stepRefusal-of-none, leavesMemory-of-d, pointerAt-lt}
+use Rattle.blit.proofs.RefusalLaws.{stepRefusal-of-none, leaving-of-d, pointerAt-lt}
 use Rattle.runner.specs.Run.{machine, after, runFrom}
 use Rattle.settled.specs.Words.{pointerWords, flagWords, blitStores, settledEnd, settledWords}
 use Rattle.settled.proofs.StoreLaws.{run-of-end}
@@ -83,7 +83,7 @@ settledWords-run at size more memory file stored only lawful =
     rows-of-empty (setup file) only (width size) (height size) memory (start file) in
     let counts : end .flow .stored ≡ height size * width size =
     rows-count-all (setup file) only (width size) (height size) (state memory (start file)) ∙ zero-add (height size * width size) in
-    let stays = leavesMemory-of-d (length memory) size (setup file) (pointers file) (only .d) (stepRefusal-of-none (length memory) file size lawful) in
+    let stays = leaving-of-d (length memory) size (setup file) (pointers file) (only .d) (stepRefusal-of-none (length memory) file size lawful) in
     ap (λ (last : State). runFrom at ((stores ++ (pointerWords (last .flow .pointers .d) ++ flagWords (last .flow .allzero))) ++ more) (machine memory file stored)) ends
     ∙ ap (λ (words : List ℕ). runFrom at words (machine memory file stored))
     (append-assoc stores (pointerWords (end .flow .pointers .d) ++ flagWords (end .flow .allzero)) more)

@@ -18,7 +18,7 @@ use Rattle.area.specs.Store.{store}
 use Rattle.area.specs.Move.{stepped, moveOn, turned, rowEnd}
 use Rattle.area.specs.Rows.{finishedWord, storedWord, oneWord, rowStart, oneRow}
 use Rattle.blit.specs.Touch.{rowTouches, afterRow, touches, leaves, channelLeaves}
-use Rattle.blit.specs.Refusal.{bothFills, fillUpward, leavesMemory, stepRefusal}
+use Rattle.blit.specs.Refusal.{bothFills, fillUpward, stepRefusal}
 use Rattle.job.specs.Kind.{kind}
 use Rattle.job.specs.Step.{operands, found, begun, front}
 use Rattle.job.specs.Steps.{following, stepsFrom}
@@ -36,7 +36,7 @@ use Rattle.examples.proofs.examples_hold.Tie as tie
 returns : tie.Need-returns
 unfolding fold foldFrom foldSteps piece learnedAfter folded learned settled controlsKnown onlyDUsed sourcesKnown written forgotten forgetUsed forgetPointer forgetSource mayUse movedD
     settledWords settledEnd blitStores rowStores numbers number isKnown counts changes stepsFrom following front begun found operands kind place placeIn isRegister registers kept keptBits
-    stepRefusal given bothFills fillUpward leavesMemory channelLeaves leaves touches rowTouches afterRow repeated setup uses shifts direction fill masks modulos start pointers pointerAt sources pointer half moved passed
+    stepRefusal given bothFills fillUpward channelLeaves leaves touches rowTouches afterRow repeated setup uses shifts direction fill masks modulos start pointers pointerAt sources pointer half moved passed
     oneWord storedWord finishedWord finish final result maskedA fetch fetched store moveOn stepped rowStart oneRow rowEnd turned filled examples ofBits height width maskedWhen masked logic carry exclusive inclusive
 returns c = refl
 

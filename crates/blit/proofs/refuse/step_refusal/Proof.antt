@@ -1,5 +1,5 @@
 -- `blit::refuse::step_refusal` meets its contract: each test is a rule of the list, in the list's order.
-use Rattle.blit.proofs.RefusalLaws.{pointers-lt-a, pointers-lt-b, pointers-lt-c, pointers-lt-d, refused-by-line, refused-by-both-fills, refused-by-fill-upward, refused-by-leaving, lawful}
+use Rattle.blit.proofs.RefusalLaws.{pointers-lt-a, pointers-lt-b, pointers-lt-c, pointers-lt-d, refused-by-line, refused-by-both-fills, refused-by-fill-upward, refused-by-leaving}
 use borrow.Author.Needs.{needs}
 use Rattle.blit.proofs.refuse.step_refusal.Statement.{statement}
 use Rattle.blit.proofs.refuse.step_refusal.Tie as tie
@@ -28,14 +28,11 @@ setup-requires c κs = search needs
 pointers-requires : tie.Need-pointers-requires
 pointers-requires c κs = search needs
 
-leaves-memory-requires : tie.Need-leaves-memory-requires
-leaves-memory-requires c κs = search (needs, pointers-lt-a, pointers-lt-b, pointers-lt-c, pointers-lt-d)
+leaving-requires : tie.Need-leaving-requires
+leaving-requires c κs = search (needs, pointers-lt-a, pointers-lt-b, pointers-lt-c, pointers-lt-d)
 
 returns-4 : tie.Need-returns-4
 returns-4 c = search refused-by-leaving
-
-returns-5 : tie.Need-returns-5
-returns-5 c = search lawful
 
 pub step-refusal-spec : {M : Type 1} → statement M
 step-refusal-spec =
@@ -49,6 +46,5 @@ step-refusal-spec =
     returns-3
     setup-requires
     pointers-requires
-    leaves-memory-requires
-    returns-4
-    returns-5)
+    leaving-requires
+    returns-4)

@@ -1,6 +1,5 @@
 -- Paper 01, "Numbers given back", as paper 02 leaves it: the rows that a step can be refused by,
 -- in the order 4, 5, 6, 10, then those of a blit.
-use Prim.Native.Nat.{ℕ}
 use mathlib.Core.Bool.{Bool, true, false}
 use mathlib.Core.List.{List, [], _∷_}
 use lib.Dec.{leb}

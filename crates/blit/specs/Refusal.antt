@@ -65,7 +65,7 @@ stepRefusal n file size = given (blitRules n file size)
 unfoldable pub refusal : (n : ℕ) → (file : List ℕ) → (size : ℕ) → ℕ
 refusal n file size = given (refusals n file size)
 
--- the paper's number for each case
+-- the papers' number for each case
 abbrev pub refusalNumber : Refusal → ℕ
 refusalNumber MemorySize = 1
 refusalNumber RegisterFile = 2

@@ -1,6 +1,6 @@
 // The types that the answers of a blit speak of.
 
-// Why a blit is refused. One that leaves memory is refused by the first channel that does.
+// Why a blit is refused. One that leaves memory is refused by the first channel that does, in the order A, B, C, D.
 pub enum Refusal {
     MemorySize,
     RegisterFile,

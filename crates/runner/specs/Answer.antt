@@ -1,4 +1,4 @@
--- Paper 01, "Numbers given back": the paper's number and values for each case of an answer.
+-- Paper 01, "Numbers given back", as paper 02 leaves it: the number and values for each case of an answer.
 use Prim.Native.Nat.{ℕ}
 use mathlib.Core.List.{List}
 use Rattle.blit.specs.Blit.{Outcome}

@@ -7,9 +7,9 @@ use native.Mathlib.Omega.{arith}
 use lib.Dec.{eqb}
 use lib.ListN.{length, set, length-set}
 use Rattle.word.specs.declared.types.Pointer.{Pointer}
-use Rattle.word.specs.Choice.{if_then_else_}
 use Rattle.word.specs.Pointer.{high, low}
 use Rattle.word.specs.Size.{height, width}
+use Rattle.word.proofs.ChoiceLaws.{if-either}
 use Rattle.word.proofs.SizeLaws.{height-le, width-le}
 use Rattle.file.specs.Places.{flag}
 use Rattle.area.specs.declared.types.Setup.{Setup}
@@ -26,7 +26,7 @@ use Rattle.area.specs.Rows.{rows}
 use Rattle.area.proofs.RowsLaws.{rows-count, rows-keep-length}
 use Rattle.blit.specs.Refusal.{stepRefusal, refusal, refusalNumber, verdictNumber}
 use Rattle.blit.specs.WriteBack.{putPointer, putPointers, putSource, putSources, putFlag}
-use Rattle.blit.specs.Blit.{finished, done, refused, answered, blitStep, blit, left}
+use Rattle.blit.specs.Blit.{Outcome, finished, done, refused, answered, blitStep, blit, left}
 
 pub putPointer-when-used : (used : Bool) (place up down : ℕ) (pointer : Pointer) (file one two : List ℕ)
     → used ≡ true → up ≡ high pointer → one ≡ set file place up → down ≡ low pointer → two ≡ set one (place + 1) down
@@ -121,36 +121,34 @@ pub done-keeps-length : (file : List ℕ) (end : State) → length (done file en
 unfolding done putFlag putSources putPointers
 done-keeps-length file end = simp (length-set, putSource-keeps-length, putPointer-keeps-length)
 
+-- what holds of a blit that is done and of one that is refused
+pub answered-either : (Holds : Outcome → Type 0) (number : ℕ) (memory file : List ℕ) (size : ℕ)
+    → Holds (done file (finished memory file size)) → Holds (refused number memory file) → Holds (answered number memory file size)
+unfolding answered
+answered-either Holds number memory file size does stays =
+    if-either Holds (eqb number 0) (done file (finished memory file size)) (refused number memory file) does stays
+
 pub answered-keeps-memory-length : (number : ℕ) (memory file : List ℕ) (size : ℕ)
     → length (answered number memory file size .memory) ≡ length memory
-unfolding answered done refused finished
-answered-keeps-memory-length number memory file size = by-number (eqb number 0)
-  where
-    by-number : (none : Bool)
-        → length ((if none then done file (finished memory file size) else refused number memory file) .memory) ≡ length memory
-    by-number true = rows-keep-length (setup file) (width size) (height size) (state memory (start file))
-    by-number false = refl
+unfolding done refused finished
+answered-keeps-memory-length number memory file size =
+    answered-either (λ (end : Outcome). length (end .memory) ≡ length memory) number memory file size
+    (rows-keep-length (setup file) (width size) (height size) (state memory (start file))) refl
 
 pub answered-keeps-file-length : (number : ℕ) (memory file : List ℕ) (size : ℕ)
     → length (answered number memory file size .file) ≡ length file
-unfolding answered refused
-answered-keeps-file-length number memory file size = by-number (eqb number 0)
-  where
-    by-number : (none : Bool)
-        → length ((if none then done file (finished memory file size) else refused number memory file) .file) ≡ length file
-    by-number true = done-keeps-length file (finished memory file size)
-    by-number false = refl
+unfolding refused
+answered-keeps-file-length number memory file size =
+    answered-either (λ (end : Outcome). length (end .file) ≡ length file) number memory file size
+    (done-keeps-length file (finished memory file size)) refl
 
 -- a blit stores at most 1,024 rows of 64 words
 pub answered-counts : (number : ℕ) (memory file : List ℕ) (size : ℕ) → answered number memory file size .stored ≤ 65536
-unfolding answered done refused finished start
-answered-counts number memory file size = by-number (eqb number 0)
-  where
-    by-number : (none : Bool)
-        → (if none then done file (finished memory file size) else refused number memory file) .stored ≤ 65536
-    by-number true =
-        omega (arith, rows-count (setup file) (width size) (height size) (state memory (start file)) (width-le size), height-le size)
-    by-number false = omega arith
+unfolding done refused finished start
+answered-counts number memory file size =
+    answered-either (λ (end : Outcome). end .stored ≤ 65536) number memory file size
+    (omega (arith, rows-count (setup file) (width size) (height size) (state memory (start file)) (width-le size), height-le size))
+    (omega arith)
 
 -- the same of a job's blit
 pub blitStep-keeps-memory-length : (memory file : List ℕ) (size : ℕ) → length (blitStep memory file size .memory) ≡ length memory

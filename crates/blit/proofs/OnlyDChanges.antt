@@ -8,7 +8,6 @@ use lib.Dec.{eqb}
 use lib.ListN.{length, getD}
 use lib.Seq.{getD-set-other}
 use Rattle.word.specs.declared.types.Pointer.{Pointer}
-use Rattle.word.specs.Choice.{if_then_else_}
 use Rattle.word.specs.Repeat.{repeated}
 use Rattle.word.specs.Pointer.{moved}
 use Rattle.word.specs.Size.{height, width}
@@ -20,7 +19,8 @@ use Rattle.area.specs.Rows.{finishedWord, oneWord, words, rowStart, oneRow, row
 use Rattle.area.proofs.ChannelLaws.{oneWord-stores, oneWord-moves-d, oneRow-moves-d, rows-without-d}
 use Rattle.blit.specs.Touch.{rowTouches, afterRow, touches, among}
 use Rattle.blit.specs.Refusal.{refusal}
-use Rattle.blit.specs.Blit.{finished, done, refused, answered, blit}
+use Rattle.blit.specs.Blit.{Outcome, finished, done, refused, blit}
+use Rattle.blit.proofs.BlitLaws.{answered-either}
 use Rattle.blit.specs.OnlyDChanges.{OnlyDChanges, WithoutDNothingChanges}
 
 pub among-of-append : (word : ℕ) (first rest : List ℕ) → among word (first ++ rest) ≡ (among word first || among word rest)
@@ -77,21 +77,14 @@ rows-change-no-word setup width word left now false idle apart =
     ap (λ (memory : List ℕ). getD memory word 0) (rows-without-d setup width left now idle)
 
 pub only-d-changes : OnlyDChanges
-unfolding blit answered done refused finished
-only-d-changes memory file size word apart = by-number (eqb (refusal (length memory) file size) 0)
-  where
-    by-number : (none : Bool)
-        → getD ((if none then done file (finished memory file size) else refused (refusal (length memory) file size) memory file) .memory) word 0
-        ≡ getD memory word 0
-    by-number true =
-        rows-change-no-word (setup file) (width size) word (height size) (state memory (start file)) (setup file .uses .d) refl apart
-    by-number false = refl
+unfolding blit done refused finished
+only-d-changes memory file size word apart =
+    answered-either (λ (end : Outcome). getD (end .memory) word 0 ≡ getD memory word 0) (refusal (length memory) file size) memory file size
+    (rows-change-no-word (setup file) (width size) word (height size) (state memory (start file)) (setup file .uses .d) refl apart)
+    refl
 
 pub without-d-nothing-changes : WithoutDNothingChanges
-unfolding blit answered done refused finished
-without-d-nothing-changes memory file size idle = by-number (eqb (refusal (length memory) file size) 0)
-  where
-    by-number : (none : Bool)
-        → (if none then done file (finished memory file size) else refused (refusal (length memory) file size) memory file) .memory ≡ memory
-    by-number true = rows-without-d (setup file) (width size) (height size) (state memory (start file)) idle
-    by-number false = refl
+unfolding blit done refused finished
+without-d-nothing-changes memory file size idle =
+    answered-either (λ (end : Outcome). end .memory ≡ memory) (refusal (length memory) file size) memory file size
+    (rows-without-d (setup file) (width size) (height size) (state memory (start file)) idle) refl

@@ -19,7 +19,8 @@ use Rattle.area.specs.Setup.{setup}
 use Rattle.blit.specs.Touch.{among}
 use Rattle.blit.specs.Refusal.{refusal}
 use Rattle.blit.specs.WriteBack.{putPointer, putPointers, putSource, putSources, putFlag}
-use Rattle.blit.specs.Blit.{finished, done, refused, answered, blit}
+use Rattle.blit.specs.Blit.{Outcome, finished, done, refused, blit}
+use Rattle.blit.proofs.BlitLaws.{answered-either}
 use Rattle.blit.specs.UnusedStay.{pointerPlaces, sourcePlaces, changeable, UnusedStay}
 use Rattle.blit.proofs.OnlyDChanges.{among-of-append}
 
@@ -82,12 +83,8 @@ done-elsewhere uses pointers sources allzero file place apart =
     ∙ putPointer-elsewhere (uses .a) pointerA place (pointers .a) _ (among-left place a (pointerPlaces (uses .b) pointerB) pointer-b)
 
 pub unused-stay : UnusedStay
-unfolding blit answered done refused
-unused-stay memory file size place apart = by-number (eqb (refusal (length memory) file size) 0)
-  where
-    by-number : (none : Bool)
-        → getD ((if none then done file (finished memory file size) else refused (refusal (length memory) file size) memory file) .file) place 0
-        ≡ getD file place 0
-    by-number true =
-        done-elsewhere (setup file .uses) (finished memory file size .flow .pointers) (finished memory file size .flow .sources) (finished memory file size .flow .allzero) file place apart
-    by-number false = refl
+unfolding blit done refused
+unused-stay memory file size place apart =
+    answered-either (λ (end : Outcome). getD (end .file) place 0 ≡ getD file place 0) (refusal (length memory) file size) memory file size
+    (done-elsewhere (setup file .uses) (finished memory file size .flow .pointers) (finished memory file size .flow .sources) (finished memory file size .flow .allzero) file place apart)
+    refl

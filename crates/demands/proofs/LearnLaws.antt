@@ -4,7 +4,6 @@ use Prim.Native.Nat.{ℕ}
 use native.Mathlib.Omega.{arith}
 use mathlib.Core.Bool.{Bool, true, false}
 use mathlib.Core.List.{List}
-use lib.Dec.{eqb}
 use lib.ListN.{length, length-set}
 use Rattle.word.specs.Choice.{if_then_else_}
 use Rattle.file.specs.Places.{control0, pointerA, pointerB, pointerC, pointerD, sourceA, sourceB, sourceC}
@@ -15,7 +14,8 @@ use Rattle.area.specs.Setup.{con0, uses, setup}
 use Rattle.area.specs.Flow.{start}
 use Rattle.blit.specs.Refusal.{stepRefusal}
 use Rattle.blit.specs.WriteBack.{putPointer, putPointers, putSource, putSources, putFlag}
-use Rattle.blit.specs.Blit.{finished, done, refused, answered, blitStep}
+use Rattle.blit.specs.Blit.{Outcome, finished, done, refused, blitStep}
+use Rattle.blit.proofs.BlitLaws.{answered-either}
 use Rattle.knowledge.specs.declared.types.Known.{Known}
 use Rattle.knowledge.specs.Known.{number, isKnown}
 use Rattle.settled.specs.Learn.{knownAt, mayUse, forgetPointer, forgetSource, forgetUsed, forgotten}
@@ -87,14 +87,10 @@ forgotten-keeps-length known = simp (forgetSource-keeps-length, forgetPointer-ke
 -- a kept blit, done or refused
 pub agrees-of-kept : (known : List Known) (memory file : List ℕ) (size : ℕ) → length known ≡ 19
     → Agrees known file → Agrees (forgotten known) (blitStep memory file size .file)
-unfolding blitStep answered done refused putFlag forgotten setup
-agrees-of-kept known memory file size long agrees = by-number (eqb (stepRefusal (length memory) file size) 0)
-  where
-    by-number : (lawful : Bool)
-        → Agrees (forgetUsed (mayUse known) known)
-        ((if lawful then done file (finished memory file size) else refused (stepRefusal (length memory) file size) memory file) .file)
-    by-number true =
-        agrees-of-flag (forgetUsed (mayUse known) known) _ _ (forgotten-keeps-length known ∙ long)
-        (agrees-of-forgetUsed known file (mayUse known) (uses (con0 file)) (finished memory file size .flow .pointers) (finished memory file size .flow .sources)
-        (mayUse-covers known file agrees) agrees)
-    by-number false = agrees-of-nothing known file (mayUse known) (start file .pointers) (start file .sources) agrees
+unfolding blitStep done refused putFlag forgotten setup
+agrees-of-kept known memory file size long agrees =
+    answered-either (λ (end : Outcome). Agrees (forgetUsed (mayUse known) known) (end .file)) (stepRefusal (length memory) file size) memory file size
+    (agrees-of-flag (forgetUsed (mayUse known) known) _ _ (forgotten-keeps-length known ∙ long)
+    (agrees-of-forgetUsed known file (mayUse known) (uses (con0 file)) (finished memory file size .flow .pointers) (finished memory file size .flow .sources)
+    (mayUse-covers known file agrees) agrees))
+    (agrees-of-nothing known file (mayUse known) (start file .pointers) (start file .sources) agrees)

@@ -1,17 +1,15 @@
 -- Laws of the machine that a run stands on: after every step that is copied, what the folder knows agrees with its file.
 use mathlib.Core.Path.{_≡_, refl, sym, subst, _∙_}
 use Prim.Native.Nat.{ℕ}
-use mathlib.Core.Bool.{Bool, true, false}
 use mathlib.Core.List.{List}
-use lib.Dec.{leb}
-use lib.ListN.{length, set, length-set}
-use Rattle.word.specs.Choice.{if_then_else_}
+use lib.ListN.{length, length-set}
 use Rattle.file.specs.File.{kept}
-use Rattle.blit.specs.Blit.{refused}
+use Rattle.blit.specs.Blit.{Outcome, refused}
 use Rattle.job.specs.declared.types.Step.{Step}
 use Rattle.job.specs.declared.types.Read.{Read}
-use Rattle.runner.specs.Effect.{did, registerEffect, storeEffect, flagEffect, stepEffect, effect}
+use Rattle.runner.specs.Effect.{registerEffect, storeEffect, flagEffect, stepEffect, effect}
 use Rattle.runner.specs.Run.{Machine, after}
+use Rattle.runner.proofs.EffectLaws.{storeEffect-either}
 use Rattle.runner.proofs.LengthLaws.{effect-keeps-memory-length, effect-keeps-file-length}
 use Rattle.knowledge.specs.declared.types.Known.{Known}
 use Rattle.settled.specs.Learn.{written, forgotten}
@@ -27,12 +25,8 @@ pub record Stands (n : ℕ) (known : List Known) (before : Machine) : Type 0 whe
   pub agrees : Agrees known (before .file)
 
 storeEffect-keeps-file : (to value : ℕ) (memory file : List ℕ) → storeEffect to value memory file .file ≡ file
-unfolding storeEffect refused
-storeEffect-keeps-file to value memory file = by-test (leb (length memory) to)
-  where
-    by-test : (outside : Bool) → (if outside then refused 10 memory file else did 1 (set memory to value) file) .file ≡ file
-    by-test true = refl
-    by-test false = refl
+unfolding refused
+storeEffect-keeps-file to value memory file = storeEffect-either (λ (end : Outcome). end .file ≡ file) to value memory file refl refl
 
 -- after a step that is copied, knowledge agrees
 module _ (n : ℕ) (known : List Known) (before : Machine) (stands : Stands n known before) where

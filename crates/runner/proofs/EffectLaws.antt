@@ -2,21 +2,20 @@
 use mathlib.Core.Path.{_≡_, refl}
 use Prim.Native.Nat.{ℕ, _<_, _≤_}
 use native.Mathlib.Omega.{arith}
-use mathlib.Core.Bool.{Bool, true, false}
 use mathlib.Core.List.{List}
 use borrow.Author.Tests.{le-leb, lt-leb}
-use lib.Dec.{eqb, leb}
+use lib.Dec.{leb}
 use lib.ListN.{length, set}
-use Rattle.word.specs.Choice.{if_then_else_}
+use Rattle.word.proofs.ChoiceLaws.{if-either}
 use Rattle.file.specs.File.{kept}
 use Rattle.file.specs.Places.{flag}
 use Rattle.blit.specs.Refusal as blits
-use Rattle.blit.specs.Blit.{Outcome, finished, done, refused, answered, blitStep}
+use Rattle.blit.specs.Blit.{Outcome, done, refused, blitStep}
 use Rattle.blit.specs.Refusal.{stepRefusal}
 use Rattle.blit.specs.Blit as blit
 use Rattle.blit.specs.declared.types.Answer.{Answer}
 use Rattle.blit.specs.declared.types.Refusal.{Refusal}
-use Rattle.blit.proofs.BlitLaws.{blitStep-counts}
+use Rattle.blit.proofs.BlitLaws.{answered-either, blitStep-counts}
 use Rattle.job.specs.declared.types.Step.{Step}
 use Rattle.runner.specs.declared.types.Refusal as reasons
 use Rattle.runner.specs.declared.types.Taken.{Taken}
@@ -76,16 +75,20 @@ module _ (step : Step) (taken : Taken) (memory file next end : List ℕ) where
   unfolding stepEffect
   stepEffect-of-flag value same gives = rw same gives
 
+-- what holds of a store that is refused and of one that is done
+pub storeEffect-either : (Holds : Outcome → Type 0) (to value : ℕ) (memory file : List ℕ)
+    → Holds (refused 10 memory file) → Holds (did 1 (set memory to value) file) → Holds (storeEffect to value memory file)
+unfolding storeEffect
+storeEffect-either Holds to value memory file stays does =
+    if-either Holds (leb (length memory) to) (refused 10 memory file) (did 1 (set memory to value) file) stays does
+
 -- a step stores at most 65,536 words
 pub stepEffect-counts : (step : Step) (memory file : List ℕ) → stepEffect step memory file .stored ≤ 65536
-unfolding stepEffect registerEffect storeEffect flagEffect refused
+unfolding stepEffect registerEffect flagEffect refused
 stepEffect-counts (Step.Register place value) memory file = omega arith
 stepEffect-counts (Step.Size size) memory file = blitStep-counts memory file size
-stepEffect-counts (Step.Store to value) memory file = by-test (leb (length memory) to)
-  where
-    by-test : (outside : Bool) → (if outside then refused 10 memory file else did 1 (set memory to value) file) .stored ≤ 65536
-    by-test true = omega arith
-    by-test false = omega arith
+stepEffect-counts (Step.Store to value) memory file =
+    storeEffect-either (λ (end : Outcome). end .stored ≤ 65536) to value memory file (omega arith) (omega arith)
 stepEffect-counts (Step.Flag value) memory file = omega arith
 
 -- a refused step leaves memory and file
@@ -93,23 +96,16 @@ Stays : (memory file : List ℕ) → Outcome → Type 0
 Stays memory file outcome = (outcome .number ≡ 0 → ⊥) → (outcome .memory ≡ memory) × (outcome .file ≡ file)
 
 blitStep-stays : (memory file : List ℕ) (size : ℕ) → Stays memory file (blitStep memory file size)
-unfolding Stays blitStep answered done refused
-blitStep-stays memory file size = by-test (eqb (stepRefusal (length memory) file size) 0)
-  where
-    by-test : (none : Bool)
-        → Stays memory file
-        (if none then done file (finished memory file size) else refused (stepRefusal (length memory) file size) memory file)
-    by-test true refusal = absurd (refusal refl)
-    by-test false refusal = (refl, refl)
+unfolding Stays blitStep done refused
+blitStep-stays memory file size =
+    answered-either (Stays memory file) (stepRefusal (length memory) file size) memory file size
+    (λ refusal. absurd (refusal refl)) (λ refusal. (refl, refl))
 
 pub stepEffect-stays : (step : Step) (memory file : List ℕ) → (stepEffect step memory file .number ≡ 0 → ⊥)
     → (stepEffect step memory file .memory ≡ memory) × (stepEffect step memory file .file ≡ file)
-unfolding Stays stepEffect registerEffect storeEffect flagEffect refused
+unfolding Stays stepEffect registerEffect flagEffect refused
 stepEffect-stays (Step.Register place value) memory file refusal = absurd (refusal refl)
 stepEffect-stays (Step.Size size) memory file refusal = blitStep-stays memory file size refusal
-stepEffect-stays (Step.Store to value) memory file refusal = by-test (leb (length memory) to) refusal
-  where
-    by-test : (outside : Bool) → Stays memory file (if outside then refused 10 memory file else did 1 (set memory to value) file)
-    by-test true refusal = (refl, refl)
-    by-test false refusal = absurd (refusal refl)
+stepEffect-stays (Step.Store to value) memory file refusal =
+    storeEffect-either (Stays memory file) to value memory file (λ refusal. (refl, refl)) (λ refusal. absurd (refusal refl)) refusal
 stepEffect-stays (Step.Flag value) memory file refusal = absurd (refusal refl)

@@ -3,8 +3,8 @@ use mathlib.Core.Path.{_≡_, refl, _∙_}
 use Prim.Native.Nat.{ℕ}
 use mathlib.Core.Bool.{Bool, true, false}
 use mathlib.Core.List.{List, [], _∷_}
-use lib.Dec.{eqb, leb}
-use lib.ListN.{length, set, length-set}
+use lib.Dec.{eqb}
+use lib.ListN.{length, length-set}
 use Rattle.word.specs.Choice.{if_then_else_}
 use Rattle.file.specs.File.{kept}
 use Rattle.file.specs.Places.{flag}
@@ -13,22 +13,20 @@ use Rattle.blit.proofs.BlitLaws.{blitStep-keeps-memory-length, blitStep-keeps-f
 use Rattle.job.specs.declared.types.Step.{Step}
 use Rattle.job.specs.declared.types.Read.{Read}
 use Rattle.job.specs.Steps.{Placed}
-use Rattle.runner.specs.Effect.{did, registerEffect, storeEffect, flagEffect, stepEffect, effect}
+use Rattle.runner.specs.Effect.{registerEffect, flagEffect, stepEffect, effect}
+use Rattle.runner.proofs.EffectLaws.{storeEffect-either}
 use Rattle.runner.specs.Run.{Machine, effectOn, after, ended, runSteps}
 
 SameLengths : (memory file : List ℕ) → Outcome → Type 0
 SameLengths memory file outcome = (length (outcome .memory) ≡ length memory) × (length (outcome .file) ≡ length file)
 
 stepEffect-keeps-lengths : (step : Step) (memory file : List ℕ) → SameLengths memory file (stepEffect step memory file)
-unfolding SameLengths stepEffect registerEffect storeEffect flagEffect refused
+unfolding SameLengths stepEffect registerEffect flagEffect refused
 stepEffect-keeps-lengths (Step.Register place value) memory file = (refl, length-set file place (kept place value))
 stepEffect-keeps-lengths (Step.Size size) memory file =
     (blitStep-keeps-memory-length memory file size, blitStep-keeps-file-length memory file size)
-stepEffect-keeps-lengths (Step.Store to value) memory file = by-test (leb (length memory) to)
-  where
-    by-test : (outside : Bool) → SameLengths memory file (if outside then refused 10 memory file else did 1 (set memory to value) file)
-    by-test true = (refl, refl)
-    by-test false = (length-set memory to value, refl)
+stepEffect-keeps-lengths (Step.Store to value) memory file =
+    storeEffect-either (SameLengths memory file) to value memory file (refl, refl) (length-set memory to value, refl)
 stepEffect-keeps-lengths (Step.Flag value) memory file = (refl, length-set file flag value)
 
 effect-keeps-lengths : (read : Read) (memory file : List ℕ) → SameLengths memory file (effect read memory file)

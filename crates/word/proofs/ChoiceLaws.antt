@@ -18,6 +18,12 @@ pub if-when-false : {Answer : Type 0} (test : Bool) (answer this other : Answer)
     → test ≡ false → answer ≡ other → answer ≡ (if test then this else other)
 if-when-false test answer this other fails same = rw fails same
 
+-- what holds of both holds of the choice
+pub if-either : {Answer : Type 0} (Holds : Answer → Type 0) (test : Bool) (this other : Answer)
+    → Holds this → Holds other → Holds (if test then this else other)
+if-either Holds true this other first second = first
+if-either Holds false this other first second = second
+
 T-left : (a b : Bool) → T (a && b) → T a
 T-left true b both = tt
 T-left false b both = both

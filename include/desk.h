@@ -22,7 +22,7 @@
  *     14  a blit whose channel A comes to a word that memory doesn't have
  *     15  the same of channel B, but not of A
  *     16  the same of channel C, but not of A or B
- *     17  the same of channel D alone
+ *     17  the same of channel D, but not of A, B or C
  *   Of a blit's channels those in use count, in the order A, B, C, D, whichever leaves memory earlier.
  * - The three numbers are written at every call, refused or not.
  * - There is no state: calls on different buffers may run at the same time. No call allocates, prints or fails otherwise.

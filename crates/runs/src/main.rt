@@ -168,109 +168,41 @@ fn refused_steps() {
     );
 }
 
+// A blit by its controls, the low halves of the pointers of A, B, C and D, and its size.
+fn pointed(name: &[u8], con0: u16, con1: u16, a: u16, b: u16, c: u16, d: u16, size: u16) {
+    let job = [
+        0x0040u16,
+        con0,
+        0x0042,
+        con1,
+        0x0052,
+        a,
+        0x004E,
+        b,
+        0x004A,
+        c,
+        0x0056,
+        d,
+        0x0058,
+        size,
+    ];
+    on_zeros(name, &job);
+}
+
 // Which channel is told of a blit that leaves 16 words: the first in the order A, B, C, D of which any word lies
-// outside, whichever leaves earlier. Byte 0020 is word 16.
+// outside, whichever leaves earlier. Byte 20 is word 16; a name has the word or row at which a channel leaves.
 fn channels() {
-    on_zeros(
-        b"A outside",
-        &[0x0040, 0x0F00, 0x0052, 0x0020, 0x0058, 0x0041],
-    );
-    on_zeros(
-        b"B outside",
-        &[0x0040, 0x0F00, 0x004E, 0x0020, 0x0058, 0x0041],
-    );
-    on_zeros(
-        b"C outside",
-        &[0x0040, 0x0F00, 0x004A, 0x0020, 0x0058, 0x0041],
-    );
-    on_zeros(
-        b"D outside",
-        &[0x0040, 0x0F00, 0x0056, 0x0020, 0x0058, 0x0041],
-    );
-    on_zeros(
-        b"A and D outside",
-        &[
-            0x0040,
-            0x0900,
-            0x0052,
-            0x0020,
-            0x0056,
-            0x0020,
-            0x0058,
-            0x0041,
-        ],
-    );
-    on_zeros(
-        b"D outside at word 1, A at word 2",
-        &[
-            0x0040,
-            0x0900,
-            0x0052,
-            0x001C,
-            0x0056,
-            0x001E,
-            0x0058,
-            0x0043,
-        ],
-    );
-    on_zeros(
-        b"D outside in row 0, A in row 1",
-        &[
-            0x0040,
-            0x0900,
-            0x0052,
-            0x001E,
-            0x0056,
-            0x0020,
-            0x0058,
-            0x0081,
-        ],
-    );
-    on_zeros(
-        b"C outside at word 0, B at word 1",
-        &[
-            0x0040,
-            0x0F00,
-            0x004A,
-            0x0020,
-            0x004E,
-            0x001E,
-            0x0058,
-            0x0042,
-        ],
-    );
-    on_zeros(
-        b"A goes round below word 0",
-        &[
-            0x0040,
-            0x0900,
-            0x0042,
-            0x0002,
-            0x0056,
-            0x0002,
-            0x0058,
-            0x0042,
-        ],
-    );
-    on_zeros(
-        b"A, B and C not used, outside",
-        &[
-            0x0040,
-            0x0100,
-            0x004A,
-            0x0020,
-            0x004E,
-            0x0020,
-            0x0052,
-            0x0020,
-            0x0058,
-            0x0041,
-        ],
-    );
-    on_zeros(
-        b"D not used, outside",
-        &[0x0040, 0x0E00, 0x0056, 0x0020, 0x0058, 0x0041],
-    );
+    pointed(b"A outside", 0x0F00, 0, 0x20, 0, 0, 0, 0x41);
+    pointed(b"B outside", 0x0F00, 0, 0, 0x20, 0, 0, 0x41);
+    pointed(b"C outside", 0x0F00, 0, 0, 0, 0x20, 0, 0x41);
+    pointed(b"D outside", 0x0F00, 0, 0, 0, 0, 0x20, 0x41);
+    pointed(b"A and D outside", 0x0900, 0, 0x20, 0, 0, 0x20, 0x41);
+    pointed(b"D word 1, A word 2", 0x0900, 0, 0x1C, 0, 0, 0x1E, 0x43);
+    pointed(b"D row 0, A row 1", 0x0900, 0, 0x1E, 0, 0, 0x20, 0x81);
+    pointed(b"C word 0, B word 1", 0x0F00, 0, 0, 0x1E, 0x20, 0, 0x42);
+    pointed(b"A goes round", 0x0900, 2, 0, 0, 0, 0x02, 0x42);
+    pointed(b"A, B, C not used", 0x0100, 0, 0x20, 0x20, 0x20, 0, 0x41);
+    pointed(b"D not used", 0x0E00, 0, 0, 0, 0, 0x20, 0x41);
 }
 
 // A blit of size 0000, which is 1,024 by 64 words, and a store.

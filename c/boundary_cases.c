@@ -1,4 +1,4 @@
-/* The calls of the boundary test. What each must give is written out from paper 01; the runs and foldings are also
+/* The calls of the boundary test. What each must give is written out from papers 01 and 02; the runs and foldings are also
  * those whose results the programs `runs` and `folds` print. */
 #include "boundary.h"
 
@@ -45,9 +45,6 @@ static void blits_done(void)
     blit("P10, the pointer goes round", "1111 2222*262143",
          "01FF 0000 0000 0000  0 0 0 0 0 0 7 FFFE  0 0 0 0  0 0 0  1", 0x0042, 0, 2, "FFFF 2222*262142 FFFF",
          "01FF 0000 0000 0000  0 0 0 0 0 0 0 2  0 0 0 0  0 0 0  0");
-    blit("a copy that overlaps", "1 2 3 4",
-         "09F0 0000 FFFF FFFF  0 0 0 0 0 0 0 2  0 0 0 0  0 0 0  0", 0x0043, 0, 3, "1 1 1 1",
-         "09F0 0000 FFFF FFFF  0 0 0 0 0 6 0 8  0 0 0 0  0 0 1  0");
     blit("the modulo after the last row", ZEROS,
          "01FF 0000 0000 0000  0 0 0 0 0 0 0 0  0 0 0 4  0 0 0  1", 0x0081, 0, 2, "FFFF 0 0 FFFF 0000*12",
          "01FF 0000 0000 0000  0 0 0 0 0 0 0 C  0 0 0 4  0 0 0  0");
@@ -58,6 +55,44 @@ static void blits_done(void)
     blit("no channel in use, words not zero", "1234",
          "00FF 0000 0000 0000  7 FFFE 7 FFFE 7 FFFE 7 FFFE  0 0 0 0  0 0 0  1", 0x0041, 0, 0, SAME,
          "00FF 0000 0000 0000  7 FFFE 7 FFFE 7 FFFE 7 FFFE  0 0 0 0  0 0 0  0");
+}
+
+/* D over a source: a word is stored once the next word's sources are fetched, and the last at the end. */
+static void blits_overlapping(void)
+{
+    blit("one word on", "1 2 3 4",
+         "09F0 0000 FFFF FFFF  0 0 0 0 0 0 0 2  0 0 0 0  0 0 0  0", 0x0043, 0, 3, "1 1 2 3",
+         "09F0 0000 FFFF FFFF  0 0 0 0 0 6 0 8  0 0 0 0  0 0 3  0");
+    blit("one word on, five words", "1 2 3 4 5 6",
+         "09F0 0000 FFFF FFFF  0 0 0 0 0 0 0 2  0 0 0 0  0 0 0  0", 0x0045, 0, 5, "1 1 2 3 4 5",
+         "09F0 0000 FFFF FFFF  0 0 0 0 0 A 0 C  0 0 0 0  0 0 5  0");
+    blit("two words on", "1 2 3 4 5 6 7 8",
+         "09F0 0000 FFFF FFFF  0 0 0 0 0 0 0 4  0 0 0 0  0 0 0  0", 0x0046, 0, 6, "1 2 1 2 1 2 1 2",
+         "09F0 0000 FFFF FFFF  0 0 0 0 0 C 0 10  0 0 0 0  0 0 2  0");
+    blit("one word on, descending", "1 2 3 4",
+         "09F0 0002 FFFF FFFF  0 0 0 0 0 6 0 4  0 0 0 0  0 0 0  0", 0x0043, 0, 3, "2 3 4 4",
+         "09F0 0002 FFFF FFFF  0 0 0 0 0 0 7 FFFE  0 0 0 0  0 0 2  0");
+    blit("one word on, three rows of one word", "1 2 3 4",
+         "09F0 0000 FFFF FFFF  0 0 0 0 0 0 0 2  0 0 0 0  0 0 0  0", 0x00C1, 0, 3, "1 1 2 3",
+         "09F0 0000 FFFF FFFF  0 0 0 0 0 6 0 8  0 0 0 0  0 0 3  0");
+    blit("one word on, through B", "1 2 3 4",
+         "05CC 0000 FFFF FFFF  0 0 0 0 0 0 0 2  0 0 0 0  0 0 0  0", 0x0043, 0, 3, "1 1 2 3",
+         "05CC 0000 FFFF FFFF  0 0 0 6 0 0 0 8  0 0 0 0  0 3 0  0");
+    blit("one word on, through C", "1 2 3 4",
+         "03AA 0000 FFFF FFFF  0 0 0 0 0 0 0 2  0 0 0 0  0 0 0  0", 0x0043, 0, 3, "1 1 2 3",
+         "03AA 0000 FFFF FFFF  0 6 0 0 0 0 0 8  0 0 0 0  3 0 0  0");
+    blit("one word on, inclusive fill", "0000 0100 0010 0408",
+         "09F0 000A FFFF FFFF  0 0 0 0 0 6 0 4  0 0 0 0  0 0 0  0", 0x0043, 0, 3, "01FF FFF0 07F8 0408",
+         "09F0 000A FFFF FFFF  0 0 0 0 0 0 7 FFFE  0 0 0 0  0 0 100  0");
+    blit("a row's last word on the next row's first source", "1 2 3 4 5 6 7 8",
+         "09F0 0000 FFFF FFFF  0 0 0 0 0 0 0 6  0 0 4 0  0 0 0  0", 0x0082, 0, 4, "1 2 3 1 2 5 6 8",
+         "09F0 0000 FFFF FFFF  0 0 0 0 0 10 0 E  0 0 4 0  0 0 6  0");
+    blit("at the source's own place", "1 2 3 4",
+         "09F0 0000 FFFF FFFF  0 0 0 0 0 0 0 0  0 0 0 0  0 0 0  0", 0x0043, 0, 3, SAME,
+         "09F0 0000 FFFF FFFF  0 0 0 0 0 6 0 6  0 0 0 0  0 0 3  0");
+    blit("round the top, one word on", "1 2 0000*262140 3 4",
+         "09F0 0000 FFFF FFFF  0 0 0 0 7 FFFC 7 FFFE  0 0 0 0  0 0 0  0", 0x0043, 0, 3, "4 1 0000*262140 3 3",
+         "09F0 0000 FFFF FFFF  0 0 0 0 0 2 0 4  0 0 0 0  0 0 1  0");
 }
 
 static void blits_refused(void)
@@ -110,6 +145,7 @@ static void channels_outside(void)
 void blits(void)
 {
     blits_done();
+    blits_overlapping();
     blits_refused();
     channels_outside();
 }

@@ -13,7 +13,10 @@ enum {
     OUT_ROOM = 40000
 };
 
-enum { POINTERS = 262144, REGISTERS = 19, FILE_WORDS = 20, USE_D = 0x0100 };
+enum { POINTERS = 262144, REGISTERS = 19, FILE_WORDS = 20 };
+
+/* Channels C, B, A and D have the numbers 0 to 3, in the order of the file. */
+enum { D_CHANNEL = 3, FIRST_POINTER = 4, FIRST_MODULO = 12, USE_C = 0x0200, USE_D = 0x0100 };
 
 enum call { BLIT, RUN, FOLD };
 

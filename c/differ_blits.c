@@ -1,4 +1,5 @@
-/* The blits of the differential test: register files whose blits lie in memory, often against its edge. */
+/* The blits of the differential test: register files whose blits lie in memory, often against its edge, and whose D
+ * often lies over a source. */
 #include <string.h>
 
 #include "differ.h"
@@ -98,24 +99,39 @@ static uint16_t pick_con1(bool risk)
     return con1;
 }
 
-/* A channel's modulo and pointer: mostly all its words lie inside memory, often against an edge of it. */
-static void place_channel(struct plan *plan, int pointer, int modulo, uint32_t n, bool risk)
+/* How far a channel's words lie from its first one, by half its modulo. */
+struct reach {
+    int32_t lowest, highest;
+};
+
+static struct reach reach_of(const struct plan *plan, int32_t half)
 {
-    int32_t width = plan->width, rows = plan->height - 1, lowest, highest, half, start;
+    int32_t width = plan->width, last_row = (int32_t)(plan->height - 1) * (width + half);
+    struct reach up = {last_row < 0 ? last_row : 0, (last_row < 0 ? 0 : last_row) + width - 1};
+    struct reach down = {-up.highest, -up.lowest};
+    return plan->file[1] >> 1 & 1 ? down : up;
+}
+
+static void set_pointer(struct plan *plan, int pointer, uint32_t word)
+{
+    uint32_t address = word % POINTERS * 2;
+    plan->file[pointer] = address >> 16;
+    plan->file[pointer + 1] = address & 0xFFFF;
+}
+
+/* A channel's modulo and pointer: mostly all its words lie inside memory, often against an edge of it. */
+static void place_channel(struct plan *plan, int channel, uint32_t n, bool risk)
+{
+    int32_t width = plan->width, lowest, highest, half, start;
     for (uint32_t tries = 0; ; tries++) {
         half = tries > 3 ? -width : one_in(3) ? 0 : one_in(8) ? -2 * width : (int32_t)below(9) - 4;
         if (one_in(40))
             half = (int32_t)below(32768) - 16384;
-        int32_t reach = rows * (width + half);
-        lowest = reach < 0 ? reach : 0;
-        highest = (reach < 0 ? 0 : reach) + width - 1;
+        struct reach reach = reach_of(plan, half);
+        lowest = reach.lowest;
+        highest = reach.highest;
         if (tries > 4 || highest - lowest < (int32_t)n)
             break;
-    }
-    if (plan->file[1] >> 1 & 1) {
-        int32_t swap = lowest;
-        lowest = -highest;
-        highest = -swap;
     }
     int32_t room = (int32_t)n - (highest - lowest);
     if (n == POINTERS)
@@ -128,10 +144,24 @@ static void place_channel(struct plan *plan, int pointer, int modulo, uint32_t n
         start = -lowest + (int32_t)(one_in(4) ? 0 : one_in(4) ? (uint32_t)room - 1 : below(room));
     if (risk && one_in(8))
         start = random64() % POINTERS;
-    uint32_t address = (uint32_t)start % POINTERS * 2;
-    plan->file[pointer] = address >> 16;
-    plan->file[pointer + 1] = address & 0xFFFF;
-    plan->file[modulo] = (uint32_t)half * 2;
+    set_pointer(plan, FIRST_POINTER + 2 * channel, start);
+    plan->file[FIRST_MODULO + channel] = (uint32_t)half * 2;
+}
+
+/* D over a used source: two words before it to three after it, with the source's modulo or its own. A place from which
+ * D would leave memory is left alone. */
+static void lay_over(struct plan *plan, uint32_t n)
+{
+    int source = below(D_CHANNEL);
+    uint16_t modulo = plan->file[FIRST_MODULO + (one_in(4) ? D_CHANNEL : source)];
+    struct reach reach = reach_of(plan, (int16_t)modulo / 2);
+    int32_t start = ((uint32_t)plan->file[FIRST_POINTER + 2 * source] << 16 | plan->file[FIRST_POINTER + 2 * source + 1]) / 2;
+    start += (int32_t)below(6) - 2;
+    if (start + reach.lowest < 0 || start + reach.highest >= (int32_t)n)
+        return;
+    set_pointer(plan, FIRST_POINTER + 2 * D_CHANNEL, start);
+    plan->file[FIRST_MODULO + D_CHANNEL] = modulo;
+    plan->file[0] |= USE_D | USE_C << source;
 }
 
 void make_plan(struct plan *plan, uint32_t n, bool settled, bool risk)
@@ -141,8 +171,10 @@ void make_plan(struct plan *plan, uint32_t n, bool settled, bool risk)
     plan->file[1] = pick_con1(risk);
     plan->file[2] = random_word();
     plan->file[3] = random_word();
-    for (int channel = 0; channel < 4; channel++)
-        place_channel(plan, 4 + 2 * channel, 12 + channel, n, risk);
+    for (int channel = 0; channel <= D_CHANNEL; channel++)
+        place_channel(plan, channel, n, risk);
+    if (!settled && one_in(2))
+        lay_over(plan, n);
     for (int i = 16; i < REGISTERS; i++)
         plan->file[i] = random_word();
     plan->file[19] = below(2);

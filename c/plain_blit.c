@@ -1,4 +1,4 @@
-/* The area blit of paper 01, word by word. */
+/* The area blit of paper 01, word by word, with the order of fetches and stores of paper 02's W2. */
 #include "plain.h"
 #include "plain_parts.h"
 
@@ -157,11 +157,17 @@ uint32_t plain_blit_refusal(const uint16_t *file, size_t ram_words, uint16_t siz
     return refusal(&blit, file[BLTCON1], ram_words);
 }
 
-static uint16_t fetched(struct source *source, const uint16_t *ram)
+static void fetch(struct source *source, const uint16_t *ram)
 {
     if (source->channel.used)
         source->data = ram[source->channel.at];
-    return source->data;
+}
+
+static void fetch_sources(struct blit *blit, const uint16_t *ram)
+{
+    fetch(&blit->a, ram);
+    fetch(&blit->b, ram);
+    fetch(&blit->c, ram);
 }
 
 /* The pair has 32 bits and n is at most 15, so a shift by nought is a shift like the others. */
@@ -195,12 +201,12 @@ static uint16_t filled(struct blit *blit, uint16_t word)
     return result;
 }
 
-/* The blit's next word: fetched, masked, shifted, combined and filled. */
-static uint16_t next_word(struct blit *blit, const uint16_t *ram, bool first, bool last)
+/* The blit's next word, from the sources as fetched: masked, shifted, combined and filled. */
+static uint16_t next_word(struct blit *blit, bool first, bool last)
 {
-    uint16_t a = fetched(&blit->a, ram);
-    uint16_t b = fetched(&blit->b, ram);
-    uint16_t c = fetched(&blit->c, ram);
+    uint16_t a = blit->a.data;
+    uint16_t b = blit->b.data;
+    uint16_t c = blit->c.data;
     if (first)
         a &= blit->first_mask;
     if (last)
@@ -215,24 +221,27 @@ static uint16_t next_word(struct blit *blit, const uint16_t *ram, bool first, bo
     return word;
 }
 
-/* Does the words in their order. They are stored in memory, or listed instead where there is a list.
- * Gives whether all were zero. */
+/* Does the words in their order: the next word's sources, in the next row too, are fetched before a word is stored.
+ * Words are stored in memory, or listed instead where there is a list. Gives whether all were zero. */
 static bool do_words(struct blit *blit, uint16_t *ram, struct store *list)
 {
     uint16_t ones = 0;
+    fetch_sources(blit, ram);
     for (uint32_t row = 0; row < blit->height; row++)
         for (uint32_t column = 0; column < blit->width; column++) {
             bool last = column + 1 == blit->width;
-            uint16_t word = next_word(blit, ram, column == 0, last);
-            ones |= word;
-            if (list)
-                *list++ = (struct store){blit->d.at, word};
-            else if (blit->d.used)
-                ram[blit->d.at] = word;
+            struct store store = {blit->d.at, next_word(blit, column == 0, last)};
+            ones |= store.word;
             move(&blit->a.channel, last);
             move(&blit->b.channel, last);
             move(&blit->c.channel, last);
             move(&blit->d, last);
+            if (!last || row + 1 < blit->height)
+                fetch_sources(blit, ram);
+            if (list)
+                *list++ = store;
+            else if (blit->d.used)
+                ram[store.at] = store.word;
         }
     return ones == 0;
 }

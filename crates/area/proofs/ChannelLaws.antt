@@ -9,28 +9,13 @@ use Rattle.word.specs.Repeat.{repeated}
 use Rattle.word.specs.Pointer.{moved, passed}
 use Rattle.word.proofs.RepeatLaws.{repeated-keeps}
 use Rattle.area.specs.declared.types.Setup.{Setup}
-use Rattle.area.specs.declared.types.Pointers.{Pointers}
-use Rattle.area.specs.Flow.{State, state}
+use Rattle.area.specs.Flow.{State}
 use Rattle.area.specs.Fetch.{fetch}
 use Rattle.area.specs.Finish.{finish}
-use Rattle.area.specs.Store.{store}
+use Rattle.area.specs.Store.{wait, storePending}
 use Rattle.area.specs.Move.{stepped, moveOn, turned, rowEnd}
-use Rattle.area.specs.Rows.{finishedWord, storedWord, oneWord, words, rowStart, oneRow, rows}
-
--- a store moves no pointer, and changes memory at D's pointer if D is used
-store-keeps-pointers : (used : Bool) (word : ℕ) (now : State) → store used word now .flow .pointers ≡ now .flow .pointers
-unfolding store
-store-keeps-pointers true word now = refl
-store-keeps-pointers false word now = refl
-
-store-of-used : (used : Bool) (word : ℕ) (now : State) → used ≡ true
-    → store used word now .memory ≡ set (now .memory) (now .flow .pointers .d .word) word
-unfolding store
-store-of-used used word now uses = rw uses
-
-store-of-unused : (used : Bool) (word : ℕ) (now : State) → used ≡ false → store used word now .memory ≡ now .memory
-unfolding store
-store-of-unused used word now idle = rw idle
+use Rattle.area.specs.Rows.{finishedWord, storedBefore, oneWord, words, rowStart, oneRow, rows}
+use Rattle.area.proofs.StoreLaws.{memoryWith-of-used, memoryWith-of-unused}
 
 stepped-of-used : (direction : Direction) (used : Bool) (pointer : Pointer) → used ≡ true → stepped direction used pointer ≡ moved direction pointer
 unfolding stepped
@@ -41,39 +26,34 @@ turned-of-used : (direction : Direction) (used : Bool) (modulo : ℕ) (pointer :
 unfolding turned
 turned-of-used direction used modulo pointer uses = rw uses
 
--- the pointers after a word, as it stores them
-storedWord-keeps-pointers : (setup : Setup) (width left : ℕ) (now : State) → storedWord setup width left now .flow .pointers ≡ now .flow .pointers
-unfolding storedWord finishedWord finish fetch
-storedWord-keeps-pointers setup width left now =
-    store-keeps-pointers (setup .uses .d) (finishedWord setup width left now .word)
-    (state (now .memory) (finishedWord setup width left now .flow))
-
+-- memory with the pending word, after a word
 pub oneWord-stores : (setup : Setup) (width left : ℕ) (now : State) → setup .uses .d ≡ true
-    → oneWord setup width left now .memory ≡ set (now .memory) (now .flow .pointers .d .word) (finishedWord setup width left now .word)
-unfolding oneWord storedWord finishedWord finish fetch
+    → storePending (oneWord setup width left now) .memory
+    ≡ set (storePending now .memory) (now .flow .pointers .d .word) (finishedWord setup width left now .word)
+unfolding oneWord storedBefore storePending wait moveOn finishedWord finish fetch
 oneWord-stores setup width left now uses =
-    store-of-used (setup .uses .d) (finishedWord setup width left now .word)
-    (state (now .memory) (finishedWord setup width left now .flow)) uses
+    memoryWith-of-used (setup .uses .d) (now .flow .pointers .d .word) (finishedWord setup width left now .word) (storePending now .memory) uses
 
-pub oneWord-without-d : (setup : Setup) (width left : ℕ) (now : State) → setup .uses .d ≡ false → oneWord setup width left now .memory ≡ now .memory
-unfolding oneWord storedWord
+oneWord-without-d : (setup : Setup) (width left : ℕ) (now : State) → setup .uses .d ≡ false
+    → storePending (oneWord setup width left now) .memory ≡ storePending now .memory
+unfolding oneWord storedBefore storePending wait moveOn finishedWord finish fetch
 oneWord-without-d setup width left now idle =
-    store-of-unused (setup .uses .d) (finishedWord setup width left now .word)
-    (state (now .memory) (finishedWord setup width left now .flow)) idle
+    memoryWith-of-unused (setup .uses .d) (now .flow .pointers .d .word) (finishedWord setup width left now .word) (storePending now .memory) idle
+
+-- the word before it is stored
+pub oneWord-memory : (setup : Setup) (width left : ℕ) (now : State) → oneWord setup width left now .memory ≡ storePending now .memory
+unfolding oneWord storedBefore storePending finishedWord finish fetch
+oneWord-memory setup width left now = refl
 
 pub oneWord-moves-a : (setup : Setup) (width left : ℕ) (now : State) → setup .uses .a ≡ true
     → oneWord setup width left now .flow .pointers .a ≡ moved (setup .direction) (now .flow .pointers .a)
-unfolding oneWord moveOn
-oneWord-moves-a setup width left now uses =
-    stepped-of-used (setup .direction) (setup .uses .a) (storedWord setup width left now .flow .pointers .a) uses
-    ∙ ap (λ (at : Pointers). moved (setup .direction) (at .a)) (storedWord-keeps-pointers setup width left now)
+unfolding oneWord storedBefore storePending wait moveOn finishedWord finish fetch
+oneWord-moves-a setup width left now uses = stepped-of-used (setup .direction) (setup .uses .a) (now .flow .pointers .a) uses
 
 pub oneWord-moves-d : (setup : Setup) (width left : ℕ) (now : State) → setup .uses .d ≡ true
     → oneWord setup width left now .flow .pointers .d ≡ moved (setup .direction) (now .flow .pointers .d)
-unfolding oneWord moveOn
-oneWord-moves-d setup width left now uses =
-    stepped-of-used (setup .direction) (setup .uses .d) (storedWord setup width left now .flow .pointers .d) uses
-    ∙ ap (λ (at : Pointers). moved (setup .direction) (at .d)) (storedWord-keeps-pointers setup width left now)
+unfolding oneWord storedBefore storePending wait moveOn finishedWord finish fetch
+oneWord-moves-d setup width left now uses = stepped-of-used (setup .direction) (setup .uses .d) (now .flow .pointers .d) uses
 
 -- D's pointer through a row's words, and to the next row
 pub words-move-d : (setup : Setup) (width left : ℕ) (now : State) → setup .uses .d ≡ true
@@ -93,10 +73,11 @@ oneRow-moves-d setup width now uses =
     ∙ ap (passed (setup .direction) (setup .modulos .d)) (words-move-d setup width width (rowStart setup now) uses)
 
 -- without D no memory changes
-pub rows-without-d : (setup : Setup) (width left : ℕ) (now : State) → setup .uses .d ≡ false → rows setup width left now .memory ≡ now .memory
-unfolding oneRow rowStart
+pub rows-without-d : (setup : Setup) (width left : ℕ) (now : State) → setup .uses .d ≡ false
+    → storePending (rows setup width left now) .memory ≡ storePending now .memory
+unfolding oneRow rowStart rowEnd storePending
 rows-without-d setup width left now idle =
-    repeated-keeps (λ _. oneRow setup width) (λ (end : State). end .memory)
+    repeated-keeps (λ _. oneRow setup width) (λ (end : State). storePending end .memory)
     (λ _ here.
-    repeated-keeps (oneWord setup width) (λ (end : State). end .memory) (λ k before. oneWord-without-d setup width k before idle) width (rowStart setup here))
+    repeated-keeps (oneWord setup width) (λ (end : State). storePending end .memory) (λ k before. oneWord-without-d setup width k before idle) width (rowStart setup here))
     left now

@@ -1,5 +1,5 @@
 -- Laws of a copying set-up: use A and D, function F0, shift 0, no fill, both masks all ones.
-use mathlib.Core.Path.{_≡_, refl, _∙_}
+use mathlib.Core.Path.{_≡_}
 use Prim.Native.Nat.{ℕ, _+_, _<_}
 use mathlib.Core.Bool.{Bool, true, false}
 use mathlib.Core.List.{List}
@@ -17,17 +17,12 @@ use Rattle.word.proofs.MaskLaws.{masked-by-ones}
 use Rattle.word.proofs.ShiftLaws.{shifted-by-zero}
 use Rattle.word.proofs.LogicLaws.{logic-of-f0}
 use Rattle.area.specs.declared.types.Setup.{Setup}
-use Rattle.area.specs.Flow.{State, state}
+use Rattle.area.specs.Flow.{State}
 use Rattle.area.specs.Fetch.{fetched, fetch}
 use Rattle.area.specs.Finish.{maskedA, result, final, finish}
-use Rattle.area.specs.Store.{store}
+use Rattle.area.specs.Store.{wait, storePending}
 use Rattle.area.specs.Move.{moveOn}
-use Rattle.area.specs.Rows.{finishedWord, storedWord, oneWord}
-
-store-keeps-earlier : (used : Bool) (word : ℕ) (now : State) → store used word now .flow .earlier .a ≡ now .flow .earlier .a
-unfolding store
-store-keeps-earlier true word now = refl
-store-keeps-earlier false word now = refl
+use Rattle.area.specs.Rows.{finishedWord, storedBefore, oneWord}
 
 pub record Copying (setup : Setup) : Type 0 where
   pub a : setup .uses .a ≡ true
@@ -73,8 +68,5 @@ module _ (setup : Setup) (copying : Copying setup) (width left : ℕ) (now : Sta
 
   -- the copied word is the next one's earlier word
   pub oneWord-hands-on : oneWord setup width left now .flow .earlier .a ≡ getD (now .memory) (now .flow .pointers .a .word) 0
-  unfolding oneWord moveOn storedWord finishedWord finish
-  oneWord-hands-on =
-      store-keeps-earlier (setup .uses .d) (finishedWord setup width left now .word)
-      (state (now .memory) (finishedWord setup width left now .flow))
-      ∙ maskedA-copies
+  unfolding oneWord storedBefore storePending wait moveOn finishedWord finish
+  oneWord-hands-on = maskedA-copies

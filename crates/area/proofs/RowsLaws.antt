@@ -1,5 +1,5 @@
 -- Laws of words and rows: how a word is put together from its parts, and how many words are stored.
-use mathlib.Core.Path.{_≡_, refl, ap}
+use mathlib.Core.Path.{_≡_, refl, ap, _∙_}
 use Prim.Native.Nat.{ℕ, zero, suc, _+_, _*_, _-_, _<_, _≤_}
 use mathlib.Core.Bool.{Bool}
 use mathlib.Core.List.{List}
@@ -8,41 +8,72 @@ use lib.Dec.{eqb}
 use lib.ListN.{length}
 use Rattle.word.specs.Repeat.{repeated}
 use Rattle.word.proofs.RepeatLaws.{repeated-turn, repeated-keeps}
+use Rattle.word.specs.declared.types.Direction.{Direction}
 use Rattle.area.specs.declared.types.Uses.{Uses}
+use Rattle.area.specs.declared.types.Pointers.{Pointers}
 use Rattle.area.specs.declared.types.Setup.{Setup}
 use Rattle.area.specs.declared.types.Flow.{Flow}
 use Rattle.area.specs.declared.types.Finished.{Finished}
 use Rattle.area.specs.Flow.{State, state}
-use Rattle.area.specs.With.{withCarry}
+use Rattle.area.specs.With.{withPointers, withCarry}
 use Rattle.area.specs.Fetch.{fetch}
-use Rattle.area.specs.Finish.{finish}
-use Rattle.area.specs.Store.{store}
-use Rattle.area.specs.Move.{moveOn, rowEnd}
-use Rattle.area.specs.Rows.{finishedWord, storedWord, oneWord, words, rowStart, oneRow, rows}
-use Rattle.area.proofs.StoreLaws.{store-counts, store-keeps-length}
+use Rattle.area.specs.Finish.{maskedA, result, final, finish}
+use Rattle.area.specs.Store.{wait, storePending}
+use Rattle.area.specs.Move.{stepped, moveOn, rowEnd}
+use Rattle.area.specs.Rows.{finishedWord, storedBefore, oneWord, words, rowStart, oneRow, rows, areaBlit}
+use Rattle.area.proofs.StoreLaws.{memoryWith-keeps-length, countWith-le, storePending-keeps-length}
+
+-- the sources fetched, and their pointers moved on
+abbrev pub fetchedOn : Direction → Uses → (memory : List ℕ) → Flow → Flow
+fetchedOn direction uses memory flow =
+    withPointers
+    (record {
+      a = stepped direction (uses .a) (flow .pointers .a);
+      b = stepped direction (uses .b) (flow .pointers .b);
+      c = stepped direction (uses .c) (flow .pointers .c);
+      d = flow .pointers .d;
+    })
+    (fetch uses memory flow)
+
+-- a word is finished the same wherever the pointers stand
+pub finish-anywhere : (setup : Setup) (first last : Bool) (pointers : Pointers) (flow : Flow)
+    → finish setup first last (withPointers pointers flow)
+    ≡ (record { word = finish setup first last flow .word; flow = withPointers pointers (finish setup first last flow .flow) })
+unfolding finish final result maskedA
+finish-anywhere setup first last pointers flow = refl
 
 -- the count of a finished word is that before it
-pub finished-room : (setup : Setup) (uses : Uses) (first last : Bool) (memory : List ℕ) (flow fetched : Flow) (made : Finished)
-    → fetched ≡ fetch uses memory flow → made ≡ finish setup first last fetched
+pub finished-room : (setup : Setup) (direction : Direction) (uses : Uses) (first last : Bool) (memory : List ℕ) (flow fetched : Flow) (made : Finished)
+    → fetched ≡ fetchedOn direction uses memory flow → made ≡ finish setup first last fetched
     → flow .stored < 4294967295 → made .flow .stored < 4294967295
 unfolding fetch finish
-finished-room setup uses first last memory flow fetched made fetches finishes room = rw (finishes, fetches) room
+finished-room setup direction uses first last memory flow fetched made fetches finishes room = rw (finishes, fetches) room
 
-pub oneWord-of-parts : (setup : Setup) (width left : ℕ) (memory after : List ℕ) (flow fetched stored end : Flow) (made : Finished)
-    → fetched ≡ fetch (setup .uses) memory flow
+pub oneWord-of-parts : (setup : Setup) (width left : ℕ) (memory after : List ℕ) (flow fetched stored waiting end : Flow) (made : Finished)
+    → fetched ≡ fetchedOn (setup .direction) (setup .uses) memory flow
     → made ≡ finish setup (eqb (left + 1) width) (eqb left 0) fetched
-    → state after stored ≡ store (setup .uses .d) (made .word) (state memory (made .flow))
-    → end ≡ moveOn (setup .direction) (setup .uses) stored
+    → state after stored ≡ storePending (state memory (made .flow))
+    → waiting ≡ wait (setup .uses .d) (made .word) stored
+    → end
+    ≡ withPointers
+    (record {
+      a = waiting .pointers .a;
+      b = waiting .pointers .b;
+      c = waiting .pointers .c;
+      d = stepped (setup .direction) (setup .uses .d) (waiting .pointers .d);
+    })
+    waiting
     → state after end ≡ oneWord setup width left (state memory flow)
-unfolding oneWord storedWord finishedWord
-oneWord-of-parts setup width left memory after flow fetched stored end made fetches finishes stores moves =
-    rw (← fetches, ← finishes, ← stores, moves)
+unfolding oneWord storedBefore storePending finishedWord wait moveOn finish final result maskedA fetch
+oneWord-of-parts setup width left memory after flow fetched stored waiting end made fetches finishes stores waits moves =
+    let memory-is : after ≡ storePending (state memory (made .flow)) .memory = ap (λ (now : State). now .memory) stores in
+    let flow-is : stored ≡ storePending (state memory (made .flow)) .flow = ap (λ (now : State). now .flow) stores in
+    rw (moves, waits, memory-is, flow-is, finishes, fetches)
 
 pub oneWord-counts : (setup : Setup) (width left : ℕ) (now : State) → oneWord setup width left now .flow .stored ≤ now .flow .stored + 1
-unfolding oneWord storedWord finishedWord moveOn finish fetch
+unfolding oneWord storedBefore storePending wait moveOn finishedWord finish fetch
 oneWord-counts setup width left now =
-    store-counts (setup .uses .d) (finishedWord setup width left now .word)
-    (state (now .memory) (finishedWord setup width left now .flow))
+    countWith-le (now .flow .pending .waits) (now .flow .pending .place) (now .flow .pending .word) (now .flow .stored)
 
 pub words-count : (setup : Setup) (width left : ℕ) (now : State) → words setup width left now .flow .stored ≤ now .flow .stored + left
 unfolding repeated
@@ -97,21 +128,34 @@ module _ (setup : Setup) (width left : ℕ) (memory after : List ℕ) (flow end 
       (oneRow-counts setup width (state memory flow)) in
       omega arith
 
--- all rows store at most 64 words each
-pub rows-count : (setup : Setup) (width left : ℕ) (now : State) → width ≤ 64
+-- all rows store at most 64 words each, so that there is room for the last
+rows-count : (setup : Setup) (width left : ℕ) (now : State) → width ≤ 64
     → rows setup width left now .flow .stored ≤ now .flow .stored + left * 64
 unfolding repeated
 rows-count setup width zero now narrow = omega arith
 rows-count setup width (suc left) now narrow =
     omega (arith, rows-count setup width left (oneRow setup width now) narrow, oneRow-counts setup width now)
 
+pub rows-leave-room : (setup : Setup) (width left : ℕ) (memory after : List ℕ) (flow end : Flow) → width ≤ 64
+    → state after end ≡ rows setup width left (state memory flow) → flow .stored + left * 64 < 4294967295 → end .stored < 4294967295
+rows-leave-room setup width left memory after flow end narrow does room =
+    let count : end .stored ≤ flow .stored + left * 64 =
+    rw (ap (λ (end : State). end .flow .stored) does) (rows-count setup width left (state memory flow) narrow) in
+    omega arith
+
+pub areaBlit-of-parts : (setup : Setup) (width left : ℕ) (memory after last : List ℕ) (flow end stored : Flow)
+    → state after end ≡ rows setup width left (state memory flow)
+    → state last stored ≡ storePending (state after end)
+    → state last stored ≡ areaBlit setup width left (state memory flow)
+unfolding areaBlit
+areaBlit-of-parts setup width left memory after last flow end stored does stores = rw (← does) stores
+
 -- memory keeps its length
 pub oneWord-keeps-length : (setup : Setup) (width left : ℕ) (now : State)
     → length (oneWord setup width left now .memory) ≡ length (now .memory)
-unfolding oneWord storedWord
+unfolding oneWord storedBefore storePending finishedWord finish fetch
 oneWord-keeps-length setup width left now =
-    store-keeps-length (setup .uses .d) (finishedWord setup width left now .word)
-    (state (now .memory) (finishedWord setup width left now .flow))
+    memoryWith-keeps-length (now .flow .pending .waits) (now .flow .pending .place) (now .flow .pending .word) (now .memory)
 
 pub oneRow-keeps-length : (setup : Setup) (width : ℕ) (now : State)
     → length (oneRow setup width now .memory) ≡ length (now .memory)
@@ -119,7 +163,12 @@ unfolding oneRow rowStart
 oneRow-keeps-length setup width now =
     repeated-keeps (oneWord setup width) (λ (end : State). length (end .memory)) (oneWord-keeps-length setup width) width (rowStart setup now)
 
-pub rows-keep-length : (setup : Setup) (width left : ℕ) (now : State)
+rows-keep-length : (setup : Setup) (width left : ℕ) (now : State)
     → length (rows setup width left now .memory) ≡ length (now .memory)
 rows-keep-length setup width left now =
     repeated-keeps (λ _. oneRow setup width) (λ (end : State). length (end .memory)) (λ _. oneRow-keeps-length setup width) left now
+
+pub areaBlit-keeps-length : (setup : Setup) (width left : ℕ) (now : State)
+    → length (areaBlit setup width left now .memory) ≡ length (now .memory)
+unfolding areaBlit
+areaBlit-keeps-length setup width left now = storePending-keeps-length (rows setup width left now) ∙ rows-keep-length setup width left now

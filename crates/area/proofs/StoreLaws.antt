@@ -1,27 +1,49 @@
--- Laws of the store.
+-- Laws of the pending word and its store.
 use mathlib.Core.Path.{_≡_, refl}
 use Prim.Native.Nat.{ℕ, _+_, _≤_}
 use mathlib.Core.Bool.{Bool, true, false}
-use mathlib.Core.List.{List}
+use mathlib.Core.List.{List, []}
 use native.Mathlib.Omega.{arith}
 use lib.ListN.{length, set, length-set}
+use Rattle.area.specs.declared.types.Pending.{Pending}
 use Rattle.area.specs.declared.types.Flow.{Flow}
-use Rattle.area.specs.Flow.{State, state}
-use Rattle.area.specs.With.{withStored}
-use Rattle.area.specs.Store.{store}
+use Rattle.area.specs.Flow.{State, state, nothing}
+use Rattle.area.specs.With.{withStores}
+use Rattle.area.specs.Store.{memoryWith, countWith, storePending}
 
-pub store-when-used : (used : Bool) (word : ℕ) (memory after : List ℕ) (flow : Flow)
-    → used ≡ true → after ≡ set memory (flow .pointers .d .word) word
-    → state after (withStored (flow .stored + 1) flow) ≡ store used word (state memory flow)
-unfolding store
-store-when-used used word memory after flow uses stores = rw (uses, stores)
+pub storePending-of-parts : (memory after : List ℕ) (flow end : Flow) (none : Pending) (count : ℕ)
+    → after ≡ memoryWith (flow .pending) memory → count ≡ countWith (flow .pending) (flow .stored) → none ≡ nothing → end ≡ withStores count none flow
+    → state after end ≡ storePending (state memory flow)
+unfolding storePending
+storePending-of-parts memory after flow end none count stores counts is ends = rw (stores, ends, counts, is)
 
-pub store-counts : (used : Bool) (word : ℕ) (now : State) → store used word now .flow .stored ≤ now .flow .stored + 1
-unfolding store
-store-counts true word now = omega arith
-store-counts false word now = omega arith
+-- a word that waits if D is used: memory and count with it
+pub memoryWith-of-used : (used : Bool) (place word : ℕ) (memory : List ℕ) → used ≡ true
+    → memoryWith (record { waits = used; place = place; word = word }) memory ≡ set memory place word
+unfolding memoryWith
+memoryWith-of-used used place word memory uses = rw uses
 
-pub store-keeps-length : (used : Bool) (word : ℕ) (now : State) → length (store used word now .memory) ≡ length (now .memory)
-unfolding store
-store-keeps-length true word now = length-set (now .memory) (now .flow .pointers .d .word) word
-store-keeps-length false word now = refl
+pub memoryWith-of-unused : (used : Bool) (place word : ℕ) (memory : List ℕ) → used ≡ false
+    → memoryWith (record { waits = used; place = place; word = word }) memory ≡ memory
+unfolding memoryWith
+memoryWith-of-unused used place word memory idle = rw idle
+
+pub memoryWith-keeps-length : (waits : Bool) (place word : ℕ) (memory : List ℕ)
+    → length (memoryWith (record { waits = waits; place = place; word = word }) memory) ≡ length memory
+unfolding memoryWith
+memoryWith-keeps-length true place word memory = length-set memory place word
+memoryWith-keeps-length false place word memory = refl
+
+pub memoryWith-of-empty : (waits : Bool) (place word : ℕ) → memoryWith (record { waits = waits; place = place; word = word }) [] ≡ []
+unfolding memoryWith
+memoryWith-of-empty true place word = refl
+memoryWith-of-empty false place word = refl
+
+pub countWith-le : (waits : Bool) (place word stored : ℕ) → countWith (record { waits = waits; place = place; word = word }) stored ≤ stored + 1
+unfolding countWith
+countWith-le true place word stored = omega arith
+countWith-le false place word stored = omega arith
+
+pub storePending-keeps-length : (now : State) → length (storePending now .memory) ≡ length (now .memory)
+unfolding storePending
+storePending-keeps-length now = memoryWith-keeps-length (now .flow .pending .waits) (now .flow .pending .place) (now .flow .pending .word) (now .memory)

@@ -1,6 +1,6 @@
 -- Paper 01, "The area blit": what changes as a blit goes on, how it starts, and memory beside it.
 use Prim.Native.Nat.{ℕ, _+_}
-use mathlib.Core.Bool.{true}
+use mathlib.Core.Bool.{true, false}
 use mathlib.Core.List.{List}
 use lib.ListN.{getD}
 use Rattle.word.specs.declared.types.Pointer.{Pointer}
@@ -8,6 +8,7 @@ use Rattle.word.specs.Pointer.{pointer}
 use Rattle.file.specs.Places.{pointerA, pointerB, pointerC, pointerD, sourceA, sourceB, sourceC}
 use Rattle.area.specs.declared.types.Pointers.{Pointers}
 use Rattle.area.specs.declared.types.Sources.{Sources}
+use Rattle.area.specs.declared.types.Pending.{Pending}
 use Rattle.area.specs.declared.types.Flow.{Flow}
 
 -- the pointer whose high half stands at a place of the file
@@ -27,6 +28,10 @@ pointers file =
 unfoldable pub sources : (file : List ℕ) → Sources
 sources file = record { a = getD file sourceA 0; b = getD file sourceB 0; c = getD file sourceC 0 }
 
+-- no word waits to be stored
+abbrev pub nothing : Pending
+nothing = record { waits = false; place = 0; word = 0 }
+
 -- "The earlier word is zero at the blit's start"
 unfoldable pub start : (file : List ℕ) → Flow
 start file =
@@ -37,6 +42,7 @@ start file =
       carry = 0;
       allzero = true;
       stored = 0;
+      pending = nothing;
     }
 
 -- memory and the flow

@@ -1,4 +1,4 @@
--- Paper 01, "The area blit": "Words go row by row."
+-- Paper 01, "The area blit": "Words go row by row." Paper 02, W2: the order of fetches and stores.
 use Prim.Native.Nat.{ℕ, _+_}
 use lib.Dec.{eqb}
 use Rattle.word.specs.Repeat.{repeated}
@@ -7,7 +7,7 @@ use Rattle.area.specs.Flow.{State, state}
 use Rattle.area.specs.With.{withCarry}
 use Rattle.area.specs.Fetch.{fetch}
 use Rattle.area.specs.Finish.{finish}
-use Rattle.area.specs.Store.{store}
+use Rattle.area.specs.Store.{wait, storePending}
 use Rattle.area.specs.Move.{moveOn, rowEnd}
 use Rattle.area.specs.declared.types.Finished.{Finished}
 
@@ -16,16 +16,17 @@ unfoldable pub finishedWord : Setup → (width left : ℕ) → State → Finishe
 finishedWord setup width left now =
     finish setup (eqb (left + 1) width) (eqb left 0) (fetch (setup .uses) (now .memory) (now .flow))
 
--- "One word is finished, and stored if D is used, before the next is fetched." The order is said here and nowhere else.
-unfoldable pub storedWord : Setup → (width left : ℕ) → State → State
-storedWord setup width left now =
-    store (setup .uses .d) (finishedWord setup width left now .word)
-    (state (now .memory) (finishedWord setup width left now .flow))
+-- "the result of a word is stored only after the sources of the next word have been fetched": this word's sources are
+-- fetched, then the word before it is stored. The order is said here and nowhere else.
+unfoldable pub storedBefore : Setup → (width left : ℕ) → State → State
+storedBefore setup width left now = storePending (state (now .memory) (finishedWord setup width left now .flow))
 
+-- this word waits in its turn, and the pointers move on
 unfoldable pub oneWord : Setup → (width left : ℕ) → State → State
 oneWord setup width left now =
-    state (storedWord setup width left now .memory)
-    (moveOn (setup .direction) (setup .uses) (storedWord setup width left now .flow))
+    state (storedBefore setup width left now .memory)
+    (moveOn (setup .direction) (setup .uses)
+    (wait (setup .uses .d) (finishedWord setup width left now .word) (storedBefore setup width left now .flow)))
 
 -- the words of a row of which so many are left
 abbrev pub words : Setup → (width left : ℕ) → State → State
@@ -43,3 +44,7 @@ oneRow setup width now =
 -- the rows of which so many are left
 abbrev pub rows : Setup → (width left : ℕ) → State → State
 rows setup width left now = repeated (λ _. oneRow setup width) left now
+
+-- "This holds across rows; the last result is stored at the end."
+unfoldable pub areaBlit : Setup → (width height : ℕ) → State → State
+areaBlit setup width height now = storePending (rows setup width height now)

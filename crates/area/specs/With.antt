@@ -4,6 +4,7 @@ use mathlib.Core.Bool.{Bool}
 use Rattle.area.specs.declared.types.Pointers.{Pointers}
 use Rattle.area.specs.declared.types.Sources.{Sources}
 use Rattle.area.specs.declared.types.Earlier.{Earlier}
+use Rattle.area.specs.declared.types.Pending.{Pending}
 use Rattle.area.specs.declared.types.Flow.{Flow}
 
 abbrev pub withPointers : Pointers → Flow → Flow
@@ -15,6 +16,7 @@ withPointers new flow =
       carry = flow .carry;
       allzero = flow .allzero;
       stored = flow .stored;
+      pending = flow .pending;
     }
 
 abbrev pub withSources : Sources → Flow → Flow
@@ -26,6 +28,7 @@ withSources new flow =
       carry = flow .carry;
       allzero = flow .allzero;
       stored = flow .stored;
+      pending = flow .pending;
     }
 
 abbrev pub withEarlier : Earlier → Flow → Flow
@@ -37,6 +40,7 @@ withEarlier new flow =
       carry = flow .carry;
       allzero = flow .allzero;
       stored = flow .stored;
+      pending = flow .pending;
     }
 
 abbrev pub withCarry : ℕ → Flow → Flow
@@ -48,6 +52,7 @@ withCarry new flow =
       carry = new;
       allzero = flow .allzero;
       stored = flow .stored;
+      pending = flow .pending;
     }
 
 abbrev pub withAllzero : Bool → Flow → Flow
@@ -59,15 +64,17 @@ withAllzero new flow =
       carry = flow .carry;
       allzero = new;
       stored = flow .stored;
+      pending = flow .pending;
     }
 
-abbrev pub withStored : ℕ → Flow → Flow
-withStored new flow =
+abbrev pub withStores : ℕ → Pending → Flow → Flow
+withStores stored pending flow =
     record {
       pointers = flow .pointers;
       sources = flow .sources;
       earlier = flow .earlier;
       carry = flow .carry;
       allzero = flow .allzero;
-      stored = new;
+      stored = stored;
+      pending = pending;
     }

@@ -1,32 +1,80 @@
-// The fetch of one word's sources.
+// The fetch of one word's sources, and their pointers' moves.
 ghost use mathlib.Core.Path.{_≡_};
+ghost use Rattle.area.specs.With.{withPointers};
 ghost use Rattle.area.specs.Fetch.{fetched, fetch};
+ghost use Rattle.area.specs.Move.{stepped};
+use crate::types::Earlier;
 use crate::types::Flow;
+use crate::types::Pointers;
 use crate::types::Sources;
 use crate::types::Uses;
+use word::types::Direction;
 use word::types::Pointer;
 
-fn fetched(used: bool, ram: &[u16], pointer: Pointer, source: u16) -> u16
-    ensures { λ word. ⌜ word ≡ fetched used (now (ram .entry)) pointer source ⌝ }
-{
-    if used {
-        return word::memory::read(ram, pointer.word);
-    }
-    source
+// What a source gives, and its pointer moved on.
+pub struct Given {
+    pub word: u16,
+    pub pointer: Pointer,
 }
 
-pub fn fetch(ram: &[u16], uses: Uses, flow: Flow) -> Flow
-    ensures { λ after. ⌜ after ≡ fetch uses (now (ram .entry)) flow ⌝ }
+fn fetched(used: bool, ram: &[u16], direction: Direction, pointer: Pointer, source: u16) -> Given
+    ensures { λ got. ⌜ (got .word ≡ fetched used (now (ram .entry)) pointer source)
+        × (got .pointer ≡ stepped direction used pointer) ⌝ }
 {
-    let pointers = flow.pointers;
-    let earlier = flow.earlier;
-    let at_a = pointers.a;
-    let at_b = pointers.b;
-    let at_c = pointers.c;
-    let a = fetched(uses.a, ram, at_a, flow.sources.a);
-    let b = fetched(uses.b, ram, at_b, flow.sources.b);
-    let c = fetched(uses.c, ram, at_c, flow.sources.c);
-    let sources = Sources { a, b, c };
+    if used {
+        let word = word::memory::read(ram, pointer.word);
+        let next = pointer.moved(direction);
+        return Given {
+            word,
+            pointer: next,
+        };
+    }
+    Given {
+        word: source,
+        pointer,
+    }
+}
+
+// A source is fetched and its pointer moved on under one test of its use. D's pointer stays until its word waits.
+pub fn fetch(ram: &[u16], direction: Direction, uses: Uses, flow: Flow) -> Flow
+    ensures { λ after. ⌜
+        after
+        ≡ withPointers
+        (record {
+          a = stepped direction (uses .a) (flow .pointers .a);
+          b = stepped direction (uses .b) (flow .pointers .b);
+          c = stepped direction (uses .c) (flow .pointers .c);
+          d = flow .pointers .d;
+        })
+        (fetch uses (now (ram .entry)) flow) ⌝ }
+{
+    let from = flow.pointers;
+    let from_a = from.a;
+    let from_b = from.b;
+    let from_c = from.c;
+    let a = fetched(uses.a, ram, direction, from_a, flow.sources.a);
+    let b = fetched(uses.b, ram, direction, from_b, flow.sources.b);
+    let c = fetched(uses.c, ram, direction, from_c, flow.sources.c);
+    let to_a = a.pointer;
+    let to_b = b.pointer;
+    let to_c = c.pointer;
+    let d = from.d;
+    let pointers = Pointers {
+        a: to_a,
+        b: to_b,
+        c: to_c,
+        d,
+    };
+    let sources = Sources {
+        a: a.word,
+        b: b.word,
+        c: c.word,
+    };
+    let earlier = Earlier {
+        a: flow.earlier.a,
+        b: flow.earlier.b,
+    };
+    let pending = flow.pending;
     Flow {
         pointers,
         sources,
@@ -34,5 +82,6 @@ pub fn fetch(ram: &[u16], uses: Uses, flow: Flow) -> Flow
         carry: flow.carry,
         allzero: flow.allzero,
         stored: flow.stored,
+        pending,
     }
 }

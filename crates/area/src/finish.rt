@@ -37,6 +37,7 @@ pub fn finish(setup: Setup, first: bool, last: bool, flow: Flow) -> Finished
     let fill = setup.fill;
     let pointers = flow.pointers;
     let sources = flow.sources;
+    let pending = flow.pending;
     let masked = masked_a(setup, first, last, flow);
     let filled = word::fill::filled(fill, flow.carry, result(setup, masked, flow));
     let earlier = Earlier {
@@ -50,6 +51,7 @@ pub fn finish(setup: Setup, first: bool, last: bool, flow: Flow) -> Finished
         carry: filled.carry,
         allzero: flow.allzero & (filled.word == 0),
         stored: flow.stored,
+        pending,
     };
     Finished {
         word: filled.word,

@@ -1,9 +1,10 @@
 // What changes as a blit goes on, as it starts from the register file.
 ghost use mathlib.Core.Path.{_≡_};
 ghost use Prim.Native.Nat.{_<_};
-ghost use Rattle.area.specs.Flow.{pointerAt, pointers, sources, start};
+ghost use Rattle.area.specs.Flow.{pointerAt, pointers, sources, nothing, start};
 use crate::types::Earlier;
 use crate::types::Flow;
+use crate::types::Pending;
 use crate::types::Pointers;
 use crate::types::Sources;
 use word::types::Pointer;
@@ -36,12 +37,24 @@ fn sources(file: &[u16]) -> Sources
     Sources { a, b, c }
 }
 
+// No word waits to be stored.
+pub fn nothing() -> Pending
+    ensures { λ pending. ⌜ pending ≡ nothing ⌝ }
+{
+    Pending {
+        waits: false,
+        place: 0,
+        word: 0,
+    }
+}
+
 pub fn start(file: &[u16]) -> Flow
     ensures { λ flow. ⌜ flow ≡ start (now (file .entry)) ⌝ }
 {
     let pointers = pointers(file);
     let sources = sources(file);
     let earlier = Earlier { a: 0, b: 0 };
+    let pending = nothing();
     Flow {
         pointers,
         sources,
@@ -49,5 +62,6 @@ pub fn start(file: &[u16]) -> Flow
         carry: 0,
         allzero: true,
         stored: 0,
+        pending,
     }
 }

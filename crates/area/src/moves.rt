@@ -1,12 +1,35 @@
 // The moves of the used channels' pointers, after a word and at a row's end.
 ghost use mathlib.Core.Path.{_≡_};
-ghost use Rattle.area.specs.Move.{stepped, moveOn, turned, rowEnd};
+ghost use Rattle.area.specs.With.{withPointers};
+ghost use Rattle.area.specs.Move.{stepped, turned, rowEnd};
+use crate::types::Earlier;
 use crate::types::Flow;
 use crate::types::Modulos;
 use crate::types::Pointers;
 use crate::types::Uses;
 use word::types::Direction;
 use word::types::Pointer;
+
+// The flow with other pointers.
+fn with_pointers(pointers: Pointers, flow: Flow) -> Flow
+    ensures { λ after. ⌜ after ≡ withPointers pointers flow ⌝ }
+{
+    let sources = flow.sources;
+    let earlier = Earlier {
+        a: flow.earlier.a,
+        b: flow.earlier.b,
+    };
+    let pending = flow.pending;
+    Flow {
+        pointers,
+        sources,
+        earlier,
+        carry: flow.carry,
+        allzero: flow.allzero,
+        stored: flow.stored,
+        pending,
+    }
+}
 
 fn stepped(direction: Direction, used: bool, pointer: Pointer) -> Pointer
     ensures { λ next. ⌜ next ≡ stepped direction used pointer ⌝ }
@@ -17,29 +40,26 @@ fn stepped(direction: Direction, used: bool, pointer: Pointer) -> Pointer
     pointer
 }
 
-pub fn move_on(direction: Direction, uses: Uses, flow: Flow) -> Flow
-    ensures { λ after. ⌜ after ≡ moveOn direction uses flow ⌝ }
+// D's pointer alone; the sources' have moved as they were fetched.
+pub fn move_d(direction: Direction, used: bool, flow: Flow) -> Flow
+    ensures { λ after. ⌜
+        after
+        ≡ withPointers
+        (record {
+          a = flow .pointers .a;
+          b = flow .pointers .b;
+          c = flow .pointers .c;
+          d = stepped direction used (flow .pointers .d);
+        })
+        flow ⌝ }
 {
-    let sources = flow.sources;
-    let earlier = flow.earlier;
     let from = flow.pointers;
-    let from_a = from.a;
-    let from_b = from.b;
-    let from_c = from.c;
+    let a = from.a;
+    let b = from.b;
+    let c = from.c;
     let from_d = from.d;
-    let a = stepped(direction, uses.a, from_a);
-    let b = stepped(direction, uses.b, from_b);
-    let c = stepped(direction, uses.c, from_c);
-    let d = stepped(direction, uses.d, from_d);
-    let pointers = Pointers { a, b, c, d };
-    Flow {
-        pointers,
-        sources,
-        earlier,
-        carry: flow.carry,
-        allzero: flow.allzero,
-        stored: flow.stored,
-    }
+    let d = stepped(direction, used, from_d);
+    with_pointers(Pointers { a, b, c, d }, flow)
 }
 
 fn turned(direction: Direction, used: bool, modulo: u32, pointer: Pointer) -> Pointer
@@ -54,8 +74,6 @@ fn turned(direction: Direction, used: bool, modulo: u32, pointer: Pointer) -> Po
 pub fn row_end(direction: Direction, uses: Uses, modulos: Modulos, flow: Flow) -> Flow
     ensures { λ after. ⌜ after ≡ rowEnd direction uses modulos flow ⌝ }
 {
-    let sources = flow.sources;
-    let earlier = flow.earlier;
     let from = flow.pointers;
     let from_a = from.a;
     let from_b = from.b;
@@ -65,13 +83,5 @@ pub fn row_end(direction: Direction, uses: Uses, modulos: Modulos, flow: Flow) -
     let b = turned(direction, uses.b, modulos.b, from_b);
     let c = turned(direction, uses.c, modulos.c, from_c);
     let d = turned(direction, uses.d, modulos.d, from_d);
-    let pointers = Pointers { a, b, c, d };
-    Flow {
-        pointers,
-        sources,
-        earlier,
-        carry: flow.carry,
-        allzero: flow.allzero,
-        stored: flow.stored,
-    }
+    with_pointers(Pointers { a, b, c, d }, flow)
 }

@@ -1,13 +1,15 @@
-// Words row by row.
+// Words row by row, each stored after the next one's fetches.
 ghost use mathlib.Core.Path.{_≡_};
 ghost use Prim.Native.Nat.{_+_, _*_, _<_, _≤_};
 ghost use Rattle.area.specs.Flow.{state};
 ghost use Rattle.area.specs.With.{withCarry};
-ghost use Rattle.area.specs.Rows.{oneWord, words, rowStart, rows};
+ghost use Rattle.area.specs.Rows.{oneWord, words, rowStart, rows, areaBlit};
+use crate::types::Earlier;
 use crate::types::Flow;
 use crate::types::Setup;
 
-// One word: fetched, finished, stored, and the pointers moved on. So many of its row are left after it.
+// One word: its sources are fetched, then the word before it is stored, and this one waits; the pointers move on. So
+// many of its row are left after it.
 pub fn one_word(ram: &mut [u16], setup: Setup, width: u32, left: u32, flow: Flow) -> Flow
     requires { ⌜ (setup .shifts .a < 16) × (setup .shifts .b < 16)
         × (flow .stored < 4294967295) × (left < 4294967295) ⌝ }
@@ -17,11 +19,12 @@ pub fn one_word(ram: &mut [u16], setup: Setup, width: u32, left: u32, flow: Flow
 {
     let uses = setup.uses;
     let direction = setup.direction;
-    let fetched = crate::fetch::fetch(ram, uses, flow);
+    let fetched = crate::fetch::fetch(ram, direction, uses, flow);
     let made = crate::finish::finish(setup, left + 1 == width, left == 0, fetched);
     let finished = made.flow;
-    let after = crate::store::store(ram, uses.d, made.word, finished);
-    crate::moves::move_on(direction, uses, after)
+    let stored = crate::store::store_pending(ram, finished);
+    let waiting = crate::store::wait(uses.d, made.word, stored);
+    crate::moves::move_d(direction, uses.d, waiting)
 }
 
 // The words of a row.
@@ -46,7 +49,11 @@ pub fn row_start(setup: Setup, flow: Flow) -> Flow
 {
     let pointers = flow.pointers;
     let sources = flow.sources;
-    let earlier = flow.earlier;
+    let earlier = Earlier {
+        a: flow.earlier.a,
+        b: flow.earlier.b,
+    };
+    let pending = flow.pending;
     Flow {
         pointers,
         sources,
@@ -54,6 +61,7 @@ pub fn row_start(setup: Setup, flow: Flow) -> Flow
         carry: setup.carry,
         allzero: flow.allzero,
         stored: flow.stored,
+        pending,
     }
 }
 
@@ -107,4 +115,16 @@ pub fn rows(ram: &mut [u16], setup: Setup, width: u32, height: u32, flow: Flow) 
         here = rest.flow;
     }
     here
+}
+
+// All rows, and the last word stored at the end.
+pub fn area_blit(ram: &mut [u16], setup: Setup, width: u32, height: u32, flow: Flow) -> Flow
+    requires { ⌜ (setup .shifts .a < 16) × (setup .shifts .b < 16)
+        × (width ≤ 64) × (flow .stored + height * 64 < 4294967295) ⌝ }
+    ensures { λ after. ⌜
+        state (now (ram .exit)) after
+        ≡ areaBlit setup width height (state (now (ram .entry)) flow) ⌝ }
+{
+    let end = rows(ram, setup, width, height, flow);
+    crate::store::store_pending(ram, end)
 }

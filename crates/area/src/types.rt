@@ -58,10 +58,18 @@ pub struct Sources {
     pub c: u16,
 }
 
-// The earlier word of A, as masked, and of B.
+// The earlier word of A, as masked, and of B. A flow made of another copies them one by one, so that each has a register
+// of its own.
 pub struct Earlier {
     pub a: u16,
     pub b: u16,
+}
+
+// The final word that waits to be stored, and the place it is for. Nothing is pending where none waits.
+pub struct Pending {
+    pub waits: bool,
+    pub place: u32,
+    pub word: u16,
 }
 
 // What a blit changes as it goes, memory aside. The carry is the fill's.
@@ -72,6 +80,7 @@ pub struct Flow {
     pub carry: u16,
     pub allzero: bool,
     pub stored: u32,
+    pub pending: Pending,
 }
 
 // A finished word, and the flow after it.

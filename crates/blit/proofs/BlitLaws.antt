@@ -3,6 +3,7 @@ use mathlib.Core.Path.{_≡_, refl}
 use Prim.Native.Nat.{ℕ, _+_, _*_, _<_, _≤_}
 use mathlib.Core.Bool.{Bool, true, false}
 use mathlib.Core.List.{List}
+use native.Mathlib.Nat.{mul-one, mul-zero}
 use native.Mathlib.Omega.{arith}
 use lib.Dec.{eqb}
 use lib.ListN.{length, set, length-set}
@@ -10,7 +11,7 @@ use Rattle.word.specs.declared.types.Pointer.{Pointer}
 use Rattle.word.specs.Pointer.{high, low}
 use Rattle.word.specs.Size.{height, width}
 use Rattle.word.proofs.ChoiceLaws.{if-either}
-use Rattle.word.proofs.SizeLaws.{height-le, width-le}
+use Rattle.word.proofs.SizeLaws.{height-le, words-le}
 use Rattle.file.specs.Places.{flag}
 use Rattle.area.specs.declared.types.Setup.{Setup}
 use Rattle.area.specs.declared.types.Flow.{Flow}
@@ -22,8 +23,10 @@ use Rattle.blit.specs.declared.types.Answer.{Answer}
 use Rattle.blit.specs.declared.types.Answer.the-variants.{Done, Refused}
 use Rattle.area.specs.Setup.{shifts, setup}
 use Rattle.area.specs.Flow.{State, state, start}
-use Rattle.area.specs.Rows.{rows}
-use Rattle.area.proofs.RowsLaws.{rows-count, rows-keep-length}
+use Rattle.area.specs.Store.{storePending, countWith}
+use Rattle.area.specs.Rows.{areaBlit}
+use Rattle.area.proofs.RowsLaws.{areaBlit-keeps-length}
+use Rattle.area.proofs.CountLaws.{each, rows-count-all}
 use Rattle.blit.specs.Refusal.{stepRefusal, refusal, refusalNumber, verdictNumber}
 use Rattle.blit.specs.WriteBack.{putPointer, putPointers, putSource, putSources, putFlag}
 use Rattle.blit.specs.Blit.{Outcome, finished, done, refused, answered, blitStep, blit, left}
@@ -53,14 +56,14 @@ unfolding setup shifts
 setup-shifts-b file set same = rw same (omega arith)
 
 -- a blit starts with none stored and has at most 1,024 rows
-pub start-room : (file : List ℕ) (size rows : ℕ) (flow : Flow) → flow ≡ start file → rows ≡ height size
-    → flow .stored + rows * 64 < 4294967296
+pub start-room : (file : List ℕ) (size rows most : ℕ) (flow : Flow) → flow ≡ start file → rows ≡ height size → 65536 < most
+    → flow .stored + rows * 64 < most
 unfolding start
-start-room file size rows flow starts tall = rw (starts, tall) (omega (arith, height-le size))
+start-room file size rows most flow starts tall room = rw (starts, tall) (omega (arith, height-le size))
 
 pub done-of-parts : (size wide tall : ℕ) (memory after file one two three : List ℕ) (set : Setup) (flow end : Flow)
     → set ≡ setup file → flow ≡ start file → wide ≡ width size → tall ≡ height size
-    → state after end ≡ rows set wide tall (state memory flow)
+    → state after end ≡ areaBlit set wide tall (state memory flow)
     → one ≡ putPointers (set .uses) (end .pointers) file
     → two ≡ putSources (set .uses) (end .sources) one
     → three ≡ putFlag (end .allzero) two
@@ -133,7 +136,7 @@ pub answered-keeps-memory-length : (number : ℕ) (memory file : List ℕ) (size
 unfolding done refused finished
 answered-keeps-memory-length number memory file size =
     answered-either (λ (end : Outcome). length (end .memory) ≡ length memory) number memory file size
-    (rows-keep-length (setup file) (width size) (height size) (state memory (start file))) refl
+    (areaBlit-keeps-length (setup file) (width size) (height size) (state memory (start file))) refl
 
 pub answered-keeps-file-length : (number : ℕ) (memory file : List ℕ) (size : ℕ)
     → length (answered number memory file size .file) ≡ length file
@@ -143,11 +146,16 @@ answered-keeps-file-length number memory file size =
     (done-keeps-length file (finished memory file size)) refl
 
 -- a blit stores at most 1,024 rows of 64 words
+words-each-le : (size : ℕ) (used : Bool) → height size * (width size * each used) ≤ 65536
+unfolding each
+words-each-le size true = rw (mul-one (width size)) (words-le size)
+words-each-le size false = rw (mul-zero (width size), mul-zero (height size)) (omega arith)
+
 pub answered-counts : (number : ℕ) (memory file : List ℕ) (size : ℕ) → answered number memory file size .stored ≤ 65536
-unfolding done refused finished start
+unfolding done refused finished start areaBlit storePending countWith
 answered-counts number memory file size =
     answered-either (λ (end : Outcome). end .stored ≤ 65536) number memory file size
-    (omega (arith, rows-count (setup file) (width size) (height size) (state memory (start file)) (width-le size), height-le size))
+    (omega (arith, rows-count-all (setup file) (width size) (height size) (state memory (start file)), words-each-le size (setup file .uses .d)))
     (omega arith)
 
 -- the same of a job's blit

@@ -1,6 +1,6 @@
--- A copy of one row: each word is the one at A's pointer, and no store of the row comes to a word of A that is still to be fetched.
+-- A copy of one row: each word is the one at A's pointer, and no store of the row comes before the fetch of its word by A.
 use mathlib.Core.Path.{_≡_, refl, sym, ap, _∙_}
-use Prim.Native.Nat.{ℕ, zero, suc, _<_, _≤_}
+use Prim.Native.Nat.{ℕ, zero, suc, _+_, _<_, _≤_}
 use native.Mathlib.Nat.{zero-lt-suc, not-suc-le-zero}
 use native.Mathlib.Decide.{decLt}
 use native.Mathlib.Omega.{arith}
@@ -23,8 +23,11 @@ use Rattle.file.specs.Places.{pointerD}
 use Rattle.area.specs.declared.types.Setup.{Setup}
 use Rattle.area.specs.Setup.{con1, uses, shifts, direction, fill, masks, setup}
 use Rattle.area.specs.Flow.{State, state, pointers, start}
-use Rattle.area.specs.Rows.{oneWord, words, rowStart, oneRow, rows}
-use Rattle.area.proofs.ChannelLaws.{oneWord-stores, oneWord-moves-a, oneWord-moves-d}
+use Rattle.area.specs.Store.{memoryWith, storePending}
+use Rattle.area.specs.Move.{rowEnd}
+use Rattle.area.specs.Rows.{oneWord, words, rowStart, oneRow, rows, areaBlit}
+use Rattle.area.proofs.StoreLaws.{storePending-keeps-length}
+use Rattle.area.proofs.ChannelLaws.{oneWord-stores, oneWord-memory, oneWord-moves-a, oneWord-moves-d}
 use Rattle.area.proofs.CopyLaws.{Copying, finishedWord-copies, oneWord-hands-on}
 use Rattle.area.specs.declared.types.Pointers.{Pointers}
 use Rattle.blit.specs.Touch.{rowTouches, touches, among, leaves}
@@ -72,49 +75,55 @@ set-keeps-words memory at word all small place = by-place (eqb at place) refl (d
     by-place true same (no outside) = rw (set-out memory at word (omega arith)) (all place)
 
 module _ (setup : Setup) (copying : Copying setup) (width : ℕ) where
-  -- a row's words, of which so many are left, are copied
-  row-copies : (left : ℕ) (now : State)
-      → left ≤ 64
+  -- a row's words, of which so many are left, are copied: the pending word is for no word that A still comes to, but the first
+  row-copies : (left : ℕ) (now : State) → left ≤ 64
       → ((place : ℕ) → getD (now .memory) place 0 < 65536)
+      → ((place : ℕ) → getD (storePending now .memory) place 0 < 65536)
       → now .flow .earlier .a < 65536
       → now .flow .pointers .d .word < pointerEnd
       → ((j : ℕ) → j < left → spot (setup .direction) j (now .flow .pointers .d) < length (now .memory))
-      → ((i j : ℕ) → i < left → j < left → spot (setup .direction) i (now .flow .pointers .a) ≡ spot (setup .direction) j (now .flow .pointers .d) → ⊥)
+      → ((i : ℕ) → 0 < i → i < left
+      → getD (storePending now .memory) (spot (setup .direction) i (now .flow .pointers .a)) 0 ≡ getD (now .memory) (spot (setup .direction) i (now .flow .pointers .a)) 0)
+      → ((i j : ℕ) → i < left → j + 1 < i → spot (setup .direction) i (now .flow .pointers .a) ≡ spot (setup .direction) j (now .flow .pointers .d) → ⊥)
       → (i : ℕ) → i < left
-      → getD (words setup width left now .memory) (spot (setup .direction) i (now .flow .pointers .d)) 0
+      → getD (storePending (words setup width left now) .memory) (spot (setup .direction) i (now .flow .pointers .d)) 0
       ≡ getD (now .memory) (spot (setup .direction) i (now .flow .pointers .a)) 0
   unfolding repeated
-  row-copies zero now few all before small inside apart i within = absurd (not-suc-le-zero within)
-  row-copies (suc left) now few all before small inside apart i within =
+  row-copies zero now few all all-next before small inside unmoved apart i within = absurd (not-suc-le-zero within)
+  row-copies (suc left) now few all all-next before small inside unmoved apart i within =
       let next : State = oneWord setup width left now in
+      let stored : List ℕ = storePending now .memory in
       let a : Pointer = now .flow .pointers .a in
       let d : Pointer = now .flow .pointers .d in
       let word : ℕ = getD (now .memory) (a .word) 0 in
-      let stores : next .memory ≡ set (now .memory) (d .word) word =
+      let stores : storePending next .memory ≡ set stored (d .word) word =
       oneWord-stores setup width left now (copying .d)
-      ∙ ap (set (now .memory) (d .word)) (finishedWord-copies setup copying width left now (all (a .word)) before) in
+      ∙ ap (set stored (d .word)) (finishedWord-copies setup copying width left now (all (a .word)) before) in
+      let memory : next .memory ≡ stored = oneWord-memory setup width left now in
       let to-a : next .flow .pointers .a ≡ moved (setup .direction) a = oneWord-moves-a setup width left now (copying .a) in
       let to-d : next .flow .pointers .d ≡ moved (setup .direction) d = oneWord-moves-d setup width left now (copying .d) in
-      let elsewhere : getD (words setup width left next .memory) (d .word) 0 ≡ getD (next .memory) (d .word) 0 =
+      let elsewhere : getD (storePending (words setup width left next) .memory) (d .word) 0 ≡ getD (storePending next .memory) (d .word) 0 =
       words-change-no-other setup (copying .d) width (d .word) left next
       (among-of-none (setup .direction) (d .word) left (next .flow .pointers .d)
       (λ j short. rw to-d (spot-moves-on (setup .direction) j d small (omega arith)))) in
-      first-or-later left (λ i. getD (words setup width left next .memory) (spot (setup .direction) i d) 0 ≡ getD (now .memory) (spot (setup .direction) i a) 0)
+      first-or-later left (λ i. getD (storePending (words setup width left next) .memory) (spot (setup .direction) i d) 0 ≡ getD (now .memory) (spot (setup .direction) i a) 0)
       (elsewhere
       ∙ ap (λ (memory : List ℕ). getD memory (d .word) 0) stores
-      ∙ getD-set-same (now .memory) (d .word) word 0 (inside 0 (zero-lt-suc left)))
+      ∙ getD-set-same stored (d .word) word 0 (rw (storePending-keeps-length now) (inside 0 (zero-lt-suc left))))
       (λ i short.
-      ap (λ (at : Pointer). getD (words setup width left next .memory) (spot (setup .direction) i at) 0) (sym to-d)
+      ap (λ (at : Pointer). getD (storePending (words setup width left next) .memory) (spot (setup .direction) i at) 0) (sym to-d)
       ∙ row-copies left next (omega arith)
-      (λ place. rw stores (set-keeps-words (now .memory) (d .word) word all (all (a .word)) place))
+      (λ place. rw memory (all-next place))
+      (λ place. rw stores (set-keeps-words stored (d .word) word all-next (all (a .word)) place))
       (rw (oneWord-hands-on setup copying width left now (all (a .word)) before) (all (a .word)))
       (rw to-d (moved-lt (setup .direction) d))
-      (λ j few. rw (to-d, stores, length-set) (inside (suc j) (omega arith)))
+      (λ j few. rw (to-d, memory, storePending-keeps-length now) (inside (suc j) (omega arith)))
+      (λ j later few. rw (stores, memory, to-a) (getD-set-other stored (d .word) (spot (setup .direction) (suc j) a) word 0 (apart (suc j) 0 (omega arith) (omega arith))))
       (λ i j this other. rw (to-a, to-d) (apart (suc i) (suc j) (omega arith) (omega arith)))
       i short
-      ∙ ap (λ (memory : List ℕ). getD memory (spot (setup .direction) i (next .flow .pointers .a)) 0) stores
-      ∙ ap (λ (at : Pointer). getD (set (now .memory) (d .word) word) (spot (setup .direction) i at) 0) to-a
-      ∙ getD-set-other (now .memory) (d .word) (spot (setup .direction) (suc i) a) word 0 (apart (suc i) 0 (omega arith) (zero-lt-suc left)))
+      ∙ ap (λ (memory : List ℕ). getD memory (spot (setup .direction) i (next .flow .pointers .a)) 0) memory
+      ∙ ap (λ (at : Pointer). getD stored (spot (setup .direction) i at) 0) to-a
+      ∙ unmoved (suc i) (zero-lt-suc i) (omega arith))
       i within
 
 -- the words of a row that doesn't leave memory lie inside
@@ -168,31 +177,32 @@ setup-copies way file copies =
 
 -- the rows of a lawful blit
 blit-of-lawful : (memory file : List ℕ) (size : ℕ) → refusal (length memory) file size ≡ 0
-    → blit memory file size .memory ≡ rows (setup file) (width size) (height size) (state memory (start file)) .memory
-unfolding blit answered done finished
+    → blit memory file size .memory ≡ storePending (rows (setup file) (width size) (height size) (state memory (start file))) .memory
+unfolding blit answered done finished areaBlit
 blit-of-lawful memory file size lawful = rw lawful
 
-one-row-is-words : (set : Setup) (wide tall : ℕ) (now : State) → tall ≡ 1 → rows set wide tall now .memory ≡ words set wide wide (rowStart set now) .memory
-unfolding repeated oneRow
+one-row-is-words : (set : Setup) (wide tall : ℕ) (now : State) → tall ≡ 1
+    → storePending (rows set wide tall now) .memory ≡ storePending (words set wide wide (rowStart set now)) .memory
+unfolding repeated oneRow rowEnd storePending
 one-row-is-words set wide tall now one = rw one
 
 -- the theorem over the set-up's own direction
 blit-copies : (memory file : List ℕ) (size : ℕ)
     → ((at : ℕ) → getD memory at 0 < 65536) → Copying (setup file) → height size ≡ 1 → refusal (length memory) file size ≡ 0
-    → ((i j : ℕ) → i < width size → j < width size
+    → ((i j : ℕ) → i < width size → j + 1 < i
     → spot (setup file .direction) i (start file .pointers .a) ≡ spot (setup file .direction) j (start file .pointers .d) → ⊥)
     → (i : ℕ) → i < width size
     → getD (blit memory file size .memory) (spot (setup file .direction) i (start file .pointers .d)) 0
     ≡ getD memory (spot (setup file .direction) i (start file .pointers .a)) 0
-unfolding start rowStart pointers
+unfolding start rowStart pointers storePending memoryWith
 blit-copies memory file size all copying one lawful apart i within =
     let begin : State = rowStart (setup file) (state memory (start file)) in
     ap (λ (after : List ℕ). getD after (spot (setup file .direction) i (start file .pointers .d)) 0)
     (blit-of-lawful memory file size lawful ∙ one-row-is-words (setup file) (width size) (height size) (state memory (start file)) one)
-    ∙ row-copies (setup file) copying (width size) (width size) begin (width-le size) all (zero-lt-suc 65535) (pointerAt-lt file pointerD)
+    ∙ row-copies (setup file) copying (width size) (width size) begin (width-le size) all all (zero-lt-suc 65535) (pointerAt-lt file pointerD)
     (spot-inside (setup file .direction) (length memory) (width size) (start file .pointers .d)
     (d-inside (length memory) size (setup file) (pointers file) (copying .d) one (refusal-of-none (length memory) file size lawful)))
-    apart i within
+    (λ i later few. refl) apart i within
 
 pub copy-of-one-row : CopyOfOneRow
 copy-of-one-row way memory file size all copies one lawful apart i within =

@@ -1,4 +1,4 @@
--- A blit changes no word that D doesn't touch: each word stores at D's pointer, which goes where the list of touched words goes.
+-- A blit changes no word that D doesn't touch: each word is for D's pointer, which goes where the list of touched words goes.
 use mathlib.Core.Path.{_≡_, refl, sym, ap, _∙_}
 use Prim.Native.Nat.{ℕ, zero, suc}
 use mathlib.Core.Bool.{Bool, true, false, _||_, or-assoc}
@@ -15,7 +15,9 @@ use Rattle.word.proofs.ChoiceLaws.{or-left, or-right}
 use Rattle.area.specs.declared.types.Setup.{Setup}
 use Rattle.area.specs.Setup.{setup}
 use Rattle.area.specs.Flow.{State, state, start}
-use Rattle.area.specs.Rows.{finishedWord, oneWord, words, rowStart, oneRow, rows}
+use Rattle.area.specs.Store.{memoryWith, storePending}
+use Rattle.area.specs.Move.{rowEnd}
+use Rattle.area.specs.Rows.{finishedWord, oneWord, words, rowStart, oneRow, rows, areaBlit}
 use Rattle.area.proofs.ChannelLaws.{oneWord-stores, oneWord-moves-d, oneRow-moves-d, rows-without-d}
 use Rattle.blit.specs.Touch.{rowTouches, afterRow, touches, among}
 use Rattle.blit.specs.Refusal.{refusal}
@@ -32,7 +34,7 @@ among-of-append word (touched ∷ first) rest =
 
 module _ (setup : Setup) (uses : setup .uses .d ≡ true) (width word : ℕ) where
   pub words-change-no-other : (left : ℕ) (now : State) → among word (rowTouches (setup .direction) left (now .flow .pointers .d)) ≡ false
-      → getD (words setup width left now .memory) word 0 ≡ getD (now .memory) word 0
+      → getD (storePending (words setup width left now) .memory) word 0 ≡ getD (storePending now .memory) word 0
   unfolding repeated rowTouches among
   words-change-no-other zero now apart = refl
   words-change-no-other (suc left) now apart =
@@ -45,17 +47,17 @@ module _ (setup : Setup) (uses : setup .uses .d ≡ true) (width word : ℕ) whe
       ∙ or-right (eqb (at .word) word) rest apart in
       words-change-no-other left next later
       ∙ ap (λ (memory : List ℕ). getD memory word 0) (oneWord-stores setup width left now uses)
-      ∙ getD-set-other (now .memory) (at .word) word (finishedWord setup width left now .word) 0
+      ∙ getD-set-other (storePending now .memory) (at .word) word (finishedWord setup width left now .word) 0
       (λ same. eqb-false (at .word) word here (sym same))
 
   row-changes-no-other : (now : State) → among word (rowTouches (setup .direction) width (now .flow .pointers .d)) ≡ false
-      → getD (oneRow setup width now .memory) word 0 ≡ getD (now .memory) word 0
-  unfolding oneRow rowStart
+      → getD (storePending (oneRow setup width now) .memory) word 0 ≡ getD (storePending now .memory) word 0
+  unfolding oneRow rowStart rowEnd storePending
   row-changes-no-other now apart = words-change-no-other width (rowStart setup now) apart
 
   rows-change-no-other : (left : ℕ) (now : State)
       → among word (touches (setup .direction) width (setup .modulos .d) left (now .flow .pointers .d)) ≡ false
-      → getD (rows setup width left now .memory) word 0 ≡ getD (now .memory) word 0
+      → getD (storePending (rows setup width left now) .memory) word 0 ≡ getD (storePending now .memory) word 0
   unfolding repeated touches afterRow
   rows-change-no-other zero now apart = refl
   rows-change-no-other (suc left) now apart =
@@ -71,20 +73,20 @@ module _ (setup : Setup) (uses : setup .uses .d ≡ true) (width word : ℕ) whe
 -- D used or not
 rows-change-no-word : (setup : Setup) (width word left : ℕ) (now : State) (used : Bool) → setup .uses .d ≡ used
     → among word (touches (setup .direction) width (setup .modulos .d) left (now .flow .pointers .d)) ≡ false
-    → getD (rows setup width left now .memory) word 0 ≡ getD (now .memory) word 0
+    → getD (storePending (rows setup width left now) .memory) word 0 ≡ getD (storePending now .memory) word 0
 rows-change-no-word setup width word left now true uses apart = rows-change-no-other setup uses width word left now apart
 rows-change-no-word setup width word left now false idle apart =
     ap (λ (memory : List ℕ). getD memory word 0) (rows-without-d setup width left now idle)
 
 pub only-d-changes : OnlyDChanges
-unfolding blit done refused finished
+unfolding blit done refused finished areaBlit storePending memoryWith start
 only-d-changes memory file size word apart =
     answered-either (λ (end : Outcome). getD (end .memory) word 0 ≡ getD memory word 0) (refusal (length memory) file size) memory file size
     (rows-change-no-word (setup file) (width size) word (height size) (state memory (start file)) (setup file .uses .d) refl apart)
     refl
 
 pub without-d-nothing-changes : WithoutDNothingChanges
-unfolding blit done refused finished
+unfolding blit done refused finished areaBlit storePending memoryWith start
 without-d-nothing-changes memory file size idle =
     answered-either (λ (end : Outcome). end .memory ≡ memory) (refusal (length memory) file size) memory file size
     (rows-without-d (setup file) (width size) (height size) (state memory (start file)) idle) refl

@@ -9,7 +9,7 @@ use Rattle.blit.specs.declared.types.Answer.{Answer}
 use Rattle.blit.specs.declared.types.Answer.the-variants.{Done, Refused}
 use Rattle.area.specs.Setup.{setup}
 use Rattle.area.specs.Flow.{State, state, start}
-use Rattle.area.specs.Rows.{rows}
+use Rattle.area.specs.Rows.{areaBlit}
 use Rattle.blit.specs.WriteBack.{putPointers, putSources, putFlag}
 use Rattle.blit.specs.Refusal.{stepRefusal, refusal, refusalNumber}
 
@@ -20,9 +20,9 @@ pub record Outcome : Type 0 where
   pub memory : List ℕ
   pub file : List ℕ
 
--- the blit, all rows done
+-- the blit, all rows done and the last word stored
 unfoldable pub finished : (memory file : List ℕ) → (size : ℕ) → State
-finished memory file size = rows (setup file) (width size) (height size) (state memory (start file))
+finished memory file size = areaBlit (setup file) (width size) (height size) (state memory (start file))
 
 -- a blit that is done
 unfoldable pub done : (file : List ℕ) → State → Outcome

@@ -1,6 +1,6 @@
--- The shift of nought on memory: a copy of one row, between parts that don't overlap, leaves at D exactly the words
--- that stood at A.
-use Prim.Native.Nat.{ℕ, _<_}
+-- The shift of nought on memory: a copy of one row leaves at D exactly the words that stood at A, unless D lies on a
+-- word that A comes to two or more words later. One word later is fetched before the store, and is copied.
+use Prim.Native.Nat.{ℕ, _+_, _<_}
 use mathlib.Core.Path.{_≡_}
 use mathlib.Core.List.{List}
 use lib.ListN.{length, getD}
@@ -39,7 +39,7 @@ CopyOfOneRow =
     → Copies direction file
     → height size ≡ 1
     → refusal (length memory) file size ≡ 0
-    → ((i j : ℕ) → i < width size → j < width size
+    → ((i j : ℕ) → i < width size → j + 1 < i
     → spot direction i (start file .pointers .a) ≡ spot direction j (start file .pointers .d) → ⊥)
     → (i : ℕ) → i < width size
     → getD (blit memory file size .memory) (spot direction i (start file .pointers .d)) 0

@@ -1,4 +1,5 @@
--- Paper 01, "Examples": one list, computed on the left, as the paper prints it on the right.
+-- Paper 01, "Examples", and paper 02's example of W2: one list, computed on the left, as the papers print it on the
+-- right.
 use Prim.Native.Nat.{ℕ}
 use mathlib.Core.Path.{_≡_}
 use mathlib.Core.Bool.{true}
@@ -11,6 +12,7 @@ use Rattle.word.specs.Mask.{masked}
 use Rattle.word.specs.Shift.{shifted}
 use Rattle.word.specs.Logic.{logic}
 use Rattle.word.specs.Fill.{exclusive, inclusive}
+use Rattle.blit.specs.Blit.{blit}
 use Rattle.folder.specs.Fold.{fold}
 
 pub record Example : Type 0 where
@@ -30,6 +32,11 @@ shiftedWords direction n earlier (this ∷ rest) = shifted direction n earlier t
 abbrev pub clearing : List ℕ
 clearing =
     0x0040 ∷ 0x0100 ∷ 0x0042 ∷ 0x0000 ∷ 0x0054 ∷ 0x0000 ∷ 0x0056 ∷ 0x0010 ∷ 0x0066 ∷ 0x0000 ∷ 0x0058 ∷ 0x0042 ∷ []
+
+-- a register file that copies from word 0 on to an address: use A and D, function F0, both masks all ones
+abbrev pub copying : (to : ℕ) → List ℕ
+copying to =
+    0x09F0 ∷ 0x0000 ∷ 0xFFFF ∷ 0xFFFF ∷ 0 ∷ 0 ∷ 0 ∷ 0 ∷ 0 ∷ 0 ∷ 0 ∷ to ∷ 0 ∷ 0 ∷ 0 ∷ 0 ∷ 0 ∷ 0 ∷ 0 ∷ 0 ∷ []
 
 unfoldable pub examples : List Example
 examples =
@@ -59,9 +66,15 @@ examples =
     ∷ 0x8000 ∷ 0x0010 ∷ 0x0000 ∷ 0x8000 ∷ 0x0012 ∷ 0x0000 ∷ 0x0054 ∷ 0x0000 ∷ 0x0056 ∷ 0x0014 ∷ 0xC001 ∷ [])
     -- P12: the same with N = 9: copied whole
     ∷ fold 9 clearing is clearing
+    -- W2: memory 1, 2, 3, 4, three words from word 0 to word 1; in one row, and in three
+    ∷ blit (1 ∷ 2 ∷ 3 ∷ 4 ∷ []) (copying 2) 0x0043 .memory is (1 ∷ 1 ∷ 2 ∷ 3 ∷ [])
+    ∷ blit (1 ∷ 2 ∷ 3 ∷ 4 ∷ []) (copying 2) 0x00C1 .memory is (1 ∷ 1 ∷ 2 ∷ 3 ∷ [])
+    -- and six words from word 0 to word 2: a store is seen by the fetch after the next
+    ∷ blit (1 ∷ 2 ∷ 3 ∷ 4 ∷ 5 ∷ 6 ∷ 7 ∷ 8 ∷ []) (copying 4) 0x0046 .memory
+    is (1 ∷ 2 ∷ 1 ∷ 2 ∷ 1 ∷ 2 ∷ 1 ∷ 2 ∷ [])
     ∷ []
 
--- every example gives what the paper says
+-- every example gives what the papers say
 abbrev pub ExamplesHold : Type 0
 ExamplesHold =
     map (λ (example : Example). example .gives) examples

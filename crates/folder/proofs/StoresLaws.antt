@@ -21,7 +21,7 @@ use Rattle.area.specs.Fetch.{fetch}
 use Rattle.area.specs.Finish.{finish}
 use Rattle.area.specs.Move.{rowEnd}
 use Rattle.area.specs.Rows.{finishedWord, oneWord, words, rowStart, oneRow, rows}
-use Rattle.area.proofs.RowsLaws.{oneRow-counts}
+use Rattle.area.proofs.RowsLaws.{fetchedOn, finish-anywhere, oneRow-counts}
 use Rattle.settled.specs.Words.{storeWords, pointerWords, flagWords, rowStores, blitStores, settledEnd, settledWords}
 use Rattle.word.specs.Laid.{laid}
 use Rattle.settled.proofs.LearnLaws.{none-is-empty}
@@ -29,11 +29,13 @@ use Rattle.folder.proofs.PieceLaws.{rowStores-length, blitStores-length
 use Rattle.word.proofs.LaidLaws.{laid-of-append}
 
 pub finishedWord-of-parts : (setup : Setup) (width left : ℕ) (flow fetched : Flow) (made : Finished)
-    → fetched ≡ fetch (setup .uses) [] flow
+    → fetched ≡ fetchedOn (setup .direction) (setup .uses) [] flow
     → made ≡ finish setup (eqb (left + 1) width) (eqb left 0) fetched
     → made .word ≡ finishedWord setup width left (state [] flow) .word
 unfolding finishedWord
-finishedWord-of-parts setup width left flow fetched made fetches finishes = rw (finishes, fetches)
+finishedWord-of-parts setup width left flow fetched made fetches finishes =
+    rw (finishes, fetches)
+    (ap (λ (made : Finished). made .word) (finish-anywhere setup (eqb (left + 1) width) (eqb left 0) _ (fetch (setup .uses) [] flow)))
 
 pub oneWord-of-empty : (setup : Setup) (width left : ℕ) (flow after : Flow) (memory : List ℕ)
     → length memory ≡ 0 → state memory after ≡ oneWord setup width left (state [] flow)

@@ -16,7 +16,8 @@ fn finished_word(setup: Setup, width: u32, left: u32, flow: Flow) -> u16
 {
     let none: [u16; 0] = [];
     let uses = setup.uses;
-    let fetched = area::fetch::fetch(&none, uses, flow);
+    let direction = setup.direction;
+    let fetched = area::fetch::fetch(&none, direction, uses, flow);
     let made = area::finish::finish(setup, left + 1 == width, left == 0, fetched);
     made.word
 }

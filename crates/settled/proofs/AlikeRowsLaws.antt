@@ -12,31 +12,28 @@ use Rattle.area.specs.declared.types.Uses.{Uses}
 use Rattle.area.specs.declared.types.Setup.{Setup}
 use Rattle.area.specs.declared.types.Flow.{Flow}
 use Rattle.area.specs.declared.types.Finished.{Finished}
-use Rattle.area.specs.Flow.{State, state}
-use Rattle.area.specs.With.{withCarry, withStored}
+use Rattle.area.specs.Flow.{State, state, nothing}
+use Rattle.area.specs.With.{withCarry, withStores}
 use Rattle.area.specs.Finish.{finish}
-use Rattle.area.specs.Store.{store}
+use Rattle.area.specs.Store.{wait, countWith, storePending}
 use Rattle.area.specs.Move.{stepped, moveOn, turned, rowEnd}
-use Rattle.area.specs.Rows.{finishedWord, storedWord, oneWord, words, rowStart, oneRow, rows}
+use Rattle.area.specs.Rows.{finishedWord, storedBefore, oneWord, words, rowStart, oneRow, rows}
 use Rattle.settled.specs.Words.{storeWords, rowStores, blitStores}
 use Rattle.settled.proofs.OnlyDLaws.{OnlyD, finishedWord-without-memory, oneWord-of-empty, oneRow-of-empty}
 use Rattle.settled.proofs.AlikeLaws.{AlikeSetup, AlikeFlow, final-alike, finish-alike}
 
 -- the flow after a word of a blit that uses D alone
-store-of-used-flow : (used : Bool) (word : ℕ) (memory : List ℕ) (flow : Flow) → used ≡ true
-    → store used word (state memory flow) .flow ≡ withStored (flow .stored + 1) flow
-unfolding store
-store-of-used-flow used word memory flow uses = rw uses
-
 oneWord-flow-is : (setup : Setup) → OnlyD (setup .uses) → (width left : ℕ) (flow : Flow)
     → oneWord setup width left (state [] flow) .flow
     ≡ moveOn (setup .direction) (setup .uses)
-    (withStored (finish setup (eqb (left + 1) width) (eqb left 0) flow .flow .stored + 1) (finish setup (eqb (left + 1) width) (eqb left 0) flow .flow))
-unfolding oneWord storedWord
+    (wait (setup .uses .d) (finish setup (eqb (left + 1) width) (eqb left 0) flow .word)
+    (withStores (countWith (flow .pending) (flow .stored)) nothing (finish setup (eqb (left + 1) width) (eqb left 0) flow .flow)))
+unfolding oneWord storedBefore storePending finish
 oneWord-flow-is setup only width left flow =
-    ap (moveOn (setup .direction) (setup .uses))
-    (store-of-used-flow (setup .uses .d) (finishedWord setup width left (state [] flow) .word) [] (finishedWord setup width left (state [] flow) .flow) (only .d)
-    ∙ ap (λ (made : Finished). withStored (made .flow .stored + 1) (made .flow)) (finishedWord-without-memory setup only width left [] flow))
+    ap (λ (made : Finished).
+    moveOn (setup .direction) (setup .uses)
+    (wait (setup .uses .d) (made .word) (withStores (countWith (made .flow .pending) (made .flow .stored)) nothing (made .flow))))
+    (finishedWord-without-memory setup only width left [] flow)
 
 stepped-alike : (direction direction′ : Direction) (used used′ : Bool) (at at′ : Pointer)
     → direction ≡ direction′ → used ≡ used′ → at ≡ at′ → stepped direction used at ≡ stepped direction′ used′ at′
@@ -69,7 +66,7 @@ module _ (this other : Setup) (setups : AlikeSetup this other) (only : OnlyD (th
 
   oneWord-alike : (left : ℕ) (flow flow′ : Flow) → AlikeFlow (this .function) flow flow′
       → AlikeFlow (this .function) (oneWord this width left (state [] flow) .flow) (oneWord other width left (state [] flow′) .flow)
-  unfolding moveOn
+  unfolding moveOn wait
   oneWord-alike left flow flow′ flows =
       let done = finish-alike this other setups (eqb (left + 1) width) (eqb left 0) flow flow′ flows in
       rw (oneWord-flow-is this only width left flow, oneWord-flow-is other only′ width left flow′)

@@ -4,7 +4,7 @@ use Prim.Native.Nat.{ℕ, _+_, _*_}
 use mathlib.Core.Bool.{Bool, true, false}
 use mathlib.Core.List.{List, [], _++_, append-assoc}
 use lib.ListN.{length, set}
-use native.Mathlib.Nat.{zero-add}
+use native.Mathlib.Nat.{zero-add, mul-one}
 use Rattle.word.specs.declared.types.Pointer.{Pointer}
 use Rattle.word.specs.Choice.{if_then_else_}
 use Rattle.word.specs.Pointer.{high, low}
@@ -15,7 +15,9 @@ use Rattle.area.specs.declared.types.Pointers.{Pointers}
 use Rattle.area.specs.declared.types.Sources.{Sources}
 use Rattle.area.specs.Setup.{setup}
 use Rattle.area.specs.Flow.{State, state, pointers, start}
-use Rattle.area.specs.Rows.{rows}
+use Rattle.area.specs.Store.{memoryWith, countWith, storePending}
+use Rattle.area.specs.Rows.{rows, areaBlit}
+use Rattle.area.proofs.CountLaws.{each, each-of-used, rows-count-all}
 use Rattle.blit.specs.Refusal.{stepRefusal}
 use Rattle.blit.specs.WriteBack.{putPointer, putPointers, putSource, putSources, putFlag}
 use Rattle.blit.specs.Blit.{Outcome, finished, done, answered, blitStep}
@@ -23,7 +25,7 @@ use Rattle.blit.proofs.RefusalLaws.{stepRefusal-of-none, leaving-of-d, pointerA
 use Rattle.runner.specs.Run.{machine, after, runFrom}
 use Rattle.settled.specs.Words.{pointerWords, flagWords, blitStores, settledEnd, settledWords}
 use Rattle.settled.proofs.StoreLaws.{run-of-end}
-use Rattle.settled.proofs.OnlyDLaws.{OnlyD, rows-of-empty, rows-count-all}
+use Rattle.settled.proofs.OnlyDLaws.{OnlyD, rows-of-empty}
 use Rattle.settled.proofs.RunLaws.{afterRows, run-of-rows}
 
 -- what a blit that uses D alone writes back: D's pointer
@@ -70,19 +72,28 @@ after-done memory file stored count end only counts =
 unfoldable pub afterSettled : (at size : ℕ) → ℕ
 afterSettled at size = afterRows (width size) (height size) at + 1 + 1 + 1 + 1 + 1
 
+-- a blit that uses D alone counts every word
+counts-of-only-d : (memory file : List ℕ) (size : ℕ) → OnlyD (setup file .uses) → finished memory file size .flow .stored ≡ height size * width size
+unfolding finished areaBlit start storePending countWith
+counts-of-only-d memory file size only =
+    rows-count-all (setup file) (width size) (height size) (state memory (start file))
+    ∙ zero-add (height size * (width size * each (setup file .uses .d)))
+    ∙ ap (λ (one : ℕ). height size * (width size * one)) (each-of-used (setup file .uses .d) (only .d))
+    ∙ ap (λ (wide : ℕ). height size * wide) (mul-one (width size))
+
 -- a settled blit's words, made of the very file they are run on, and the run after them
 pub settledWords-run : (at size : ℕ) (more memory file : List ℕ) (stored : ℕ)
     → OnlyD (setup file .uses) → stepRefusal (length memory) file size ≡ 0
     → runFrom at (settledWords file size ++ more) (machine memory file stored)
     ≡ runFrom (afterSettled at size) more (after (machine memory file stored) (blitStep memory file size))
-unfolding settledWords settledEnd start pointers finished afterSettled
+unfolding settledWords settledEnd start pointers finished areaBlit storePending memoryWith afterSettled
 settledWords-run at size more memory file stored only lawful =
     let end : State = finished memory file size in
     let stores : List ℕ = blitStores (setup file) (width size) (height size) (state [] (start file)) in
-    let ends : rows (setup file) (width size) (height size) (state [] (start file)) ≡ state [] (end .flow) =
+    let last : State = rows (setup file) (width size) (height size) (state memory (start file)) in
+    let ends : rows (setup file) (width size) (height size) (state [] (start file)) ≡ state [] (last .flow) =
     rows-of-empty (setup file) only (width size) (height size) memory (start file) in
-    let counts : end .flow .stored ≡ height size * width size =
-    rows-count-all (setup file) only (width size) (height size) (state memory (start file)) ∙ zero-add (height size * width size) in
+    let counts : end .flow .stored ≡ height size * width size = counts-of-only-d memory file size only in
     let stays = leaving-of-d (length memory) size (setup file) (pointers file) (only .d) (stepRefusal-of-none (length memory) file size lawful) in
     ap (λ (last : State). runFrom at ((stores ++ (pointerWords (last .flow .pointers .d) ++ flagWords (last .flow .allzero))) ++ more) (machine memory file stored)) ends
     ∙ ap (λ (words : List ℕ). runFrom at words (machine memory file stored))
@@ -104,7 +115,7 @@ pub blitStep-file : (memory file : List ℕ) (size : ℕ) → OnlyD (setup file 
     → blitStep memory file size .file
     ≡ set (set (set file pointerD (high (settledEnd file size .flow .pointers .d))) (pointerD + 1) (low (settledEnd file size .flow .pointers .d)))
     flag (if settledEnd file size .flow .allzero then 1 else 0)
-unfolding settledEnd done finished putFlag
+unfolding settledEnd done finished areaBlit storePending putFlag
 blitStep-file memory file size only lawful =
     let ends = rows-of-empty (setup file) only (width size) (height size) memory (start file) in
     ap (λ (outcome : Outcome). outcome .file) (blitStep-of-lawful memory file size lawful)

@@ -39,7 +39,7 @@ pointerWords pointer = 0x0054 ∷ high pointer ∷ 0x0056 ∷ low pointer ∷ []
 abbrev pub flagWords : (allzero : Bool) → List ℕ
 flagWords allzero = (if allzero then 0xC001 else 0xC000) ∷ []
 
--- a blit's end without a memory
+-- the end of a blit's rows, without a memory
 unfoldable pub settledEnd : (file : List ℕ) → (size : ℕ) → State
 settledEnd file size = rows (setup file) (width size) (height size) (state [] (start file))
 

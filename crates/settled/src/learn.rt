@@ -94,7 +94,7 @@ pub fn moved_d(known: Knowledge, pointer: Pointer) -> Knowledge
     half.with(11, Known::Is(pointer.low()))
 }
 
-// The end of a settled blit, which has no use of a memory.
+// The end of a settled blit's rows, which have no use of a memory.
 pub fn settled_end(file: &[u16], size: u16) -> Flow
     ensures { λ end. ⌜ state [] end ≡ settledEnd (now (file .entry)) size ⌝ }
 {

@@ -254,13 +254,17 @@ fn hundred() {
     show::line();
 }
 
-// A copy of three words onto the next word: each word is stored before the next is fetched.
-fn overlap() {
-    let mut ram = [1u16, 2, 3, 4];
-    let mut file = registers(0x09F0, 0, 0, 0, 0, 2);
-    show::text(b"overlap     ");
-    run(&mut ram, &mut file, 0x0043);
-    show::words(&ram, 0, 4);
+// Words 1 to 8 with D over a source: a word is stored once the next word's sources are fetched, in the next row too.
+fn overlap(con0: u16, con1: u16, from: u16, to: u16, modulo: u16, size: u16) {
+    let mut ram = [1u16, 2, 3, 4, 5, 6, 7, 8];
+    let mut file = registers(con0, con1, from, from, from, to);
+    file[14] = modulo;
+    show::text(b"overlap");
+    show::hex(con0);
+    run(&mut ram, &mut file, size);
+    show::words(&ram, 0, 8);
+    show::text(b" data");
+    show::words(&file, 16, 3);
     show::line();
 }
 
@@ -281,5 +285,13 @@ fn main() {
     section_up();
     section_down();
     hundred();
-    overlap();
+    overlap(0x09F0, 0, 0, 2, 0, 0x0043);
+    overlap(0x09F0, 0, 0, 2, 0, 0x0045);
+    overlap(0x09F0, 0, 0, 4, 0, 0x0046);
+    overlap(0x09F0, 2, 6, 4, 0, 0x0043);
+    overlap(0x09F0, 0, 0, 2, 0, 0x00C1);
+    overlap(0x05CC, 0, 0, 2, 0, 0x0043);
+    overlap(0x03AA, 0, 0, 2, 0, 0x0043);
+    overlap(0x09F0, 0x000A, 6, 4, 0, 0x0043);
+    overlap(0x09F0, 0, 0, 6, 4, 0x0082);
 }

@@ -9,16 +9,17 @@ use Rattle.word.specs.Repeat.{repeated}
 use Rattle.word.specs.Choice.{given}
 use Rattle.word.specs.Pointer.{pointer, half, moved, passed}
 use Rattle.word.specs.Fill.{filled}
-use Rattle.file.specs.File.{registers, placeIn, place, isRegister, keptBits, kept}
+use Rattle.file.specs.File.{registers, placeIn, place, isRegister, keptBits, kept, accepted}
 use Rattle.area.specs.Setup.{uses, shifts, direction, fill, masks, modulos, setup}
 use Rattle.area.specs.Flow.{pointerAt, pointers, sources, start}
 use Rattle.area.specs.Fetch.{fetched, fetch}
 use Rattle.area.specs.Finish.{maskedA, result, final, finish}
-use Rattle.area.specs.Store.{store}
+use Rattle.area.specs.Store.{wait, memoryWith, countWith, storePending}
 use Rattle.area.specs.Move.{stepped, moveOn, turned, rowEnd}
-use Rattle.area.specs.Rows.{finishedWord, storedWord, oneWord, rowStart, oneRow}
+use Rattle.area.specs.Rows.{finishedWord, storedBefore, oneWord, rowStart, oneRow, areaBlit}
 use Rattle.blit.specs.Touch.{rowTouches, afterRow, touches, leaves, channelLeaves}
-use Rattle.blit.specs.Refusal.{bothFills, fillUpward, stepRefusal}
+use Rattle.blit.specs.Refusal.{memorySize, bothFills, fillUpward, stepRefusal, refusal}
+use Rattle.blit.specs.Blit.{finished, done, answered, blit}
 use Rattle.job.specs.Kind.{kind}
 use Rattle.job.specs.Step.{operands, found, begun, front}
 use Rattle.job.specs.Steps.{following, stepsFrom}
@@ -37,7 +38,8 @@ returns : tie.Need-returns
 unfolding fold foldFrom foldSteps piece learnedAfter folded learned settled controlsKnown onlyDUsed sourcesKnown written forgotten forgetUsed forgetPointer forgetSource mayUse movedD
     settledWords settledEnd blitStores rowStores numbers number isKnown counts changes stepsFrom following front begun found operands kind place placeIn isRegister registers kept keptBits
     stepRefusal given bothFills fillUpward channelLeaves leaves touches rowTouches afterRow repeated setup uses shifts direction fill masks modulos start pointers pointerAt sources pointer half moved passed
-    oneWord storedWord finishedWord finish final result maskedA fetch fetched store moveOn stepped rowStart oneRow rowEnd turned filled examples ofBits height width maskedWhen masked logic carry exclusive inclusive
+    blit answered done finished areaBlit refusal memorySize accepted storePending memoryWith countWith wait
+    oneWord storedBefore finishedWord finish final result maskedA fetch fetched moveOn stepped rowStart oneRow rowEnd turned filled examples ofBits height width maskedWhen masked logic carry exclusive inclusive
 returns c = refl
 
 pub examples-hold-spec : {M : Type 1} → statement M

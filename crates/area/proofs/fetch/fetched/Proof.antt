@@ -1,6 +1,7 @@
 -- `area::fetch::fetched` meets its contract, used or not.
 use Rattle.word.proofs.ChoiceLaws.{if-when-true, if-when-false}
 use Rattle.area.specs.Fetch.{fetched}
+use Rattle.area.specs.Move.{stepped}
 use borrow.Author.Needs.{needs}
 use Rattle.area.proofs.fetch.fetched.Statement.{statement}
 use Rattle.area.proofs.fetch.fetched.Tie as tie
@@ -8,13 +9,16 @@ use Rattle.area.proofs.fetch.fetched.Tie as tie
 read-requires : tie.Need-read-requires
 read-requires c κs = search needs
 
+moved-requires : tie.Need-moved-requires
+moved-requires c κs = search needs
+
 returns : tie.Need-returns
-unfolding fetched
-returns c = search (needs, if-when-true)
+unfolding fetched stepped
+returns c = (search (needs, if-when-true), search (needs, if-when-true))
 
 returns-2 : tie.Need-returns-2
-unfolding fetched
-returns-2 c = search (needs, if-when-false)
+unfolding fetched stepped
+returns-2 c = (search (needs, if-when-false), search (needs, if-when-false))
 
 pub fetched-spec : {M : Type 1} → statement M
-fetched-spec = tie.close (tie.spec read-requires returns returns-2)
+fetched-spec = tie.close (tie.spec read-requires moved-requires returns returns-2)

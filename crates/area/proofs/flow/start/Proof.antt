@@ -10,9 +10,12 @@ pointers-requires c κs = search needs
 sources-requires : tie.Need-sources-requires
 sources-requires c κs = search needs
 
+nothing-requires : tie.Need-nothing-requires
+nothing-requires c κs = search needs
+
 returns : tie.Need-returns
 unfolding start
 returns c = cc
 
 pub start-spec : {M : Type 1} → statement M
-start-spec = tie.close (tie.spec pointers-requires sources-requires returns)
+start-spec = tie.close (tie.spec pointers-requires sources-requires nothing-requires returns)

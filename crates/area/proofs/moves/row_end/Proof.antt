@@ -16,6 +16,9 @@ turned-requires-3 c κs = search needs
 turned-requires-4 : tie.Need-turned-requires-4
 turned-requires-4 c κs = search needs
 
+with-pointers-requires : tie.Need-with-pointers-requires
+with-pointers-requires c κs = search needs
+
 returns : tie.Need-returns
 unfolding rowEnd
 returns c = cc
@@ -23,4 +26,10 @@ returns c = cc
 pub row-end-spec : {M : Type 1} → statement M
 row-end-spec =
     tie.close
-    (tie.spec turned-requires turned-requires-2 turned-requires-3 turned-requires-4 returns)
+    (tie.spec
+    turned-requires
+    turned-requires-2
+    turned-requires-3
+    turned-requires-4
+    with-pointers-requires
+    returns)

@@ -1,4 +1,4 @@
--- `area::rows::one_word` meets its contract: its four calls are the definition's parts, in their order.
+-- `area::rows::one_word` meets its contract: its five calls are the definition's parts; the sources' pointers move as they are fetched.
 use Rattle.area.proofs.RowsLaws.{finished-room, oneWord-of-parts}
 use borrow.Author.Needs.{needs}
 use Rattle.area.proofs.rows.one_word.Statement.{statement}
@@ -13,11 +13,14 @@ add-finish c = search needs
 finish-requires : tie.Need-finish-requires
 finish-requires c κs = search needs
 
-store-requires : tie.Need-store-requires
-store-requires c κs = search finished-room
+store-pending-requires : tie.Need-store-pending-requires
+store-pending-requires c κs = search finished-room
 
-move-on-requires : tie.Need-move-on-requires
-move-on-requires c κs = search needs
+wait-requires : tie.Need-wait-requires
+wait-requires c κs = search needs
+
+move-d-requires : tie.Need-move-d-requires
+move-d-requires c κs = search needs
 
 same-length : tie.Need-same-length
 same-length c = search needs
@@ -32,7 +35,8 @@ one-word-spec =
     fetch-requires
     add-finish
     finish-requires
-    store-requires
-    move-on-requires
+    store-pending-requires
+    wait-requires
+    move-d-requires
     same-length
     returns)

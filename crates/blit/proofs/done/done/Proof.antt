@@ -17,8 +17,8 @@ width-requires c κs = search needs
 height-requires : tie.Need-height-requires
 height-requires c κs = search needs
 
-rows-requires : tie.Need-rows-requires
-rows-requires c κs = search (needs, setup-shifts-a, setup-shifts-b, width-is-few, start-room)
+area-blit-requires : tie.Need-area-blit-requires
+area-blit-requires c κs = search (needs, setup-shifts-a, setup-shifts-b, width-is-few, start-room)
 
 put-pointers-requires : tie.Need-put-pointers-requires
 put-pointers-requires c κs = search needs
@@ -46,7 +46,7 @@ done-spec =
     start-requires
     width-requires
     height-requires
-    rows-requires
+    area-blit-requires
     put-pointers-requires
     put-sources-requires
     put-flag-requires

@@ -1,0 +1,65 @@
+-- Every word is counted if D is used: a blit's count is its words, or none.
+use mathlib.Core.Path.{_≡_, refl, sym, ap, _∙_}
+use Prim.Native.Nat.{ℕ, zero, suc, _+_, _*_}
+use native.Mathlib.Nat.{suc-mul}
+use native.Mathlib.Omega.{arith}
+use mathlib.Core.Bool.{Bool, true, false}
+use Rattle.word.specs.Choice.{if_then_else_}
+use Rattle.word.specs.Repeat.{repeated}
+use Rattle.area.specs.declared.types.Setup.{Setup}
+use Rattle.area.specs.Flow.{State}
+use Rattle.area.specs.Fetch.{fetch}
+use Rattle.area.specs.Finish.{finish}
+use Rattle.area.specs.Move.{moveOn, rowEnd}
+use Rattle.area.specs.Store.{wait, countWith, storePending}
+use Rattle.area.specs.Rows.{finishedWord, storedBefore, oneWord, words, rowStart, oneRow, rows}
+
+-- what one word adds to the count
+unfoldable pub each : (used : Bool) → ℕ
+each used = if used then 1 else 0
+
+pub each-of-used : (used : Bool) → used ≡ true → each used ≡ 1
+unfolding each
+each-of-used used uses = rw uses
+
+countWith-is : (used : Bool) (place word stored : ℕ) → countWith (record { waits = used; place = place; word = word }) stored ≡ stored + each used
+unfolding countWith each
+countWith-is true place word stored = refl
+countWith-is false place word stored = omega arith
+
+sums : (a b c : ℕ) → a + b + c ≡ a + (c + b)
+sums a b c = omega arith
+
+-- so many turns, each adding the same
+more : (before turn left step after : ℕ) → turn ≡ before + step → after ≡ turn + left * step → after ≡ before + suc left * step
+more before turn left step after one rest =
+    rest
+    ∙ ap (λ (here : ℕ). here + left * step) one
+    ∙ sums before step (left * step)
+    ∙ ap (λ (all : ℕ). before + all) (sym (suc-mul left step))
+
+none : (before step : ℕ) → before ≡ before + zero * step
+none before step = omega arith
+
+module _ (setup : Setup) (width : ℕ) where
+  word-counts : (left : ℕ) (now : State) → storePending (oneWord setup width left now) .flow .stored ≡ storePending now .flow .stored + each (setup .uses .d)
+  unfolding oneWord storedBefore storePending wait moveOn finishedWord finish fetch
+  word-counts left now =
+      countWith-is (setup .uses .d) (now .flow .pointers .d .word) (finishedWord setup width left now .word) (countWith (now .flow .pending) (now .flow .stored))
+
+  words-count-all : (left : ℕ) (now : State) → storePending (words setup width left now) .flow .stored ≡ storePending now .flow .stored + left * each (setup .uses .d)
+  unfolding repeated
+  words-count-all zero now = none (storePending now .flow .stored) (each (setup .uses .d))
+  words-count-all (suc left) now =
+      more _ _ left (each (setup .uses .d)) _ (word-counts left now) (words-count-all left (oneWord setup width left now))
+
+  row-counts : (now : State) → storePending (oneRow setup width now) .flow .stored ≡ storePending now .flow .stored + width * each (setup .uses .d)
+  unfolding oneRow rowStart rowEnd storePending
+  row-counts now = words-count-all width (rowStart setup now)
+
+  pub rows-count-all : (left : ℕ) (now : State)
+      → storePending (rows setup width left now) .flow .stored ≡ storePending now .flow .stored + left * (width * each (setup .uses .d))
+  unfolding repeated
+  rows-count-all zero now = none (storePending now .flow .stored) (width * each (setup .uses .d))
+  rows-count-all (suc left) now =
+      more _ _ left (width * each (setup .uses .d)) _ (row-counts now) (rows-count-all left (oneRow setup width now))

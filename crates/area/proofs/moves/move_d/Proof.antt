@@ -1,0 +1,16 @@
+-- `area::moves::move_d` meets its contract: D's pointer alone has moved.
+use borrow.Author.Needs.{needs}
+use Rattle.area.proofs.moves.move_d.Statement.{statement}
+use Rattle.area.proofs.moves.move_d.Tie as tie
+
+stepped-requires : tie.Need-stepped-requires
+stepped-requires c κs = search needs
+
+with-pointers-requires : tie.Need-with-pointers-requires
+with-pointers-requires c κs = search needs
+
+returns : tie.Need-returns
+returns c = cc
+
+pub move-d-spec : {M : Type 1} → statement M
+move-d-spec = tie.close (tie.spec stepped-requires with-pointers-requires returns)

@@ -1,0 +1,15 @@
+-- `area::store::wait` meets its contract: another pending word, all else as it was.
+use Rattle.area.specs.Store.{wait}
+use borrow.Author.Needs.{needs}
+use Rattle.area.proofs.store.wait.Statement.{statement}
+use Rattle.area.proofs.store.wait.Tie as tie
+
+with-stores-requires : tie.Need-with-stores-requires
+with-stores-requires c κs = search needs
+
+returns : tie.Need-returns
+unfolding wait
+returns c = search needs
+
+pub wait-spec : {M : Type 1} → statement M
+wait-spec = tie.close (tie.spec with-stores-requires returns)

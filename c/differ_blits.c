@@ -148,16 +148,17 @@ static void place_channel(struct plan *plan, int channel, uint32_t n, bool risk)
     plan->file[FIRST_MODULO + channel] = (uint32_t)half * 2;
 }
 
-/* D over a used source: two words before it to three after it, with the source's modulo or its own. A place from which
- * D would leave memory is left alone. */
+/* D over a used source: two words behind it to three ahead of it as the blit goes, often one ahead, with the source's
+ * modulo or its own. A place from which D would leave memory is left alone. */
 static void lay_over(struct plan *plan, uint32_t n)
 {
     int source = below(D_CHANNEL);
     uint16_t modulo = plan->file[FIRST_MODULO + (one_in(4) ? D_CHANNEL : source)];
     struct reach reach = reach_of(plan, (int16_t)modulo / 2);
     int32_t start = ((uint32_t)plan->file[FIRST_POINTER + 2 * source] << 16 | plan->file[FIRST_POINTER + 2 * source + 1]) / 2;
-    start += (int32_t)below(6) - 2;
-    if (start + reach.lowest < 0 || start + reach.highest >= (int32_t)n)
+    int32_t ahead = one_in(2) ? 1 : (int32_t)below(6) - 2;
+    start += plan->file[1] >> 1 & 1 ? -ahead : ahead;
+    if (n < POINTERS && (start + reach.lowest < 0 || start + reach.highest >= (int32_t)n))
         return;
     set_pointer(plan, FIRST_POINTER + 2 * D_CHANNEL, start);
     plan->file[FIRST_MODULO + D_CHANNEL] = modulo;

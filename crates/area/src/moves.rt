@@ -1,4 +1,4 @@
-// The moves of the used channels' pointers, after a word and at a row's end.
+// The moves of D's pointer after a word, and of every used channel's at a row's end. The sources' move as they are fetched.
 ghost use mathlib.Core.Path.{_≡_};
 ghost use Rattle.area.specs.With.{withPointers};
 ghost use Rattle.area.specs.Move.{stepped, turned, rowEnd};

@@ -1,7 +1,7 @@
 -- Rows of set-ups and flows that agree on what counts give the same stores, and flows that agree again.
 use mathlib.Core.Path.{_≡_, refl, sym, ap, ap₂, subst, _∙_}
 use Prim.Native.Nat.{ℕ, zero, suc, _+_}
-use mathlib.Core.Bool.{Bool, true}
+use mathlib.Core.Bool.{Bool}
 use mathlib.Core.List.{List, [], _++_}
 use lib.Dec.{eqb}
 use Rattle.word.specs.declared.types.Direction.{Direction}

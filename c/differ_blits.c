@@ -119,6 +119,11 @@ static void set_pointer(struct plan *plan, int pointer, uint32_t word)
     plan->file[pointer + 1] = address & 0xFFFF;
 }
 
+static int32_t word_at(const struct plan *plan, int pointer)
+{
+    return ((uint32_t)plan->file[pointer] << 16 | plan->file[pointer + 1]) / 2;
+}
+
 /* A channel's modulo and pointer: mostly all its words lie inside memory, often against an edge of it. */
 static void place_channel(struct plan *plan, int channel, uint32_t n, bool risk)
 {
@@ -155,9 +160,8 @@ static void lay_over(struct plan *plan, uint32_t n)
     int source = below(D_CHANNEL);
     uint16_t modulo = plan->file[FIRST_MODULO + (one_in(4) ? D_CHANNEL : source)];
     struct reach reach = reach_of(plan, (int16_t)modulo / 2);
-    int32_t start = ((uint32_t)plan->file[FIRST_POINTER + 2 * source] << 16 | plan->file[FIRST_POINTER + 2 * source + 1]) / 2;
     int32_t ahead = one_in(2) ? 1 : (int32_t)below(6) - 2;
-    start += plan->file[1] >> 1 & 1 ? -ahead : ahead;
+    int32_t start = word_at(plan, FIRST_POINTER + 2 * source) + (plan->file[1] >> 1 & 1 ? -ahead : ahead);
     if (n < POINTERS && (start + reach.lowest < 0 || start + reach.highest >= (int32_t)n))
         return;
     set_pointer(plan, FIRST_POINTER + 2 * D_CHANNEL, start);

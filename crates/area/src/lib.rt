@@ -5,5 +5,5 @@ pub mod flow;
 pub mod moves;
 pub mod rows;
 pub mod setup;
-mod store;
+pub mod store;
 pub mod types;

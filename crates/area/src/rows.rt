@@ -82,7 +82,7 @@ pub struct Rest {
 }
 
 // Does one or more of the rows left and says how many are left after that.
-fn some_rows(ram: &mut [u16], setup: Setup, width: u32, left: u32, flow: Flow) -> Rest
+pub fn some_rows(ram: &mut [u16], setup: Setup, width: u32, left: u32, flow: Flow) -> Rest
     requires { ⌜ (setup .shifts .a < 16) × (setup .shifts .b < 16)
         × (0 < left) × (width ≤ 64) × (flow .stored + left * 64 < 4294967296) ⌝ }
     ensures { λ rest. ⌜ (rest .left < left) × (rest .flow .stored + rest .left * 64 < 4294967296)

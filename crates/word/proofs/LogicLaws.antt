@@ -1,12 +1,12 @@
 -- Laws of the logic function: picking one of two words bit by bit, `y ^ (s & (y ^ x))`, and the tree of seven picks that computes it.
-use mathlib.Core.Path.{_≡_, refl, sym, ap}
+use mathlib.Core.Path.{_≡_, refl, sym, ap, ap₂, _∙_}
 use Prim.Native.Nat.{ℕ, zero, suc, _+_, _*_, _/_, _%_, _^_, _<_}
 use native.Mathlib.Nat.{div-one}
 use native.Mathlib.Omega.{arith}
 use lib.Bits.{bitAnd, bitXor, and-lt, xor-lt, xor-zero-r}
 use Rattle.word.specs.Word.{bit}
 use Rattle.word.specs.Logic.{logic}
-use Rattle.word.proofs.WordLaws.{bit-lt, bit-of-and, bit-of-xor, bit-of-spread, ofBits-is-unique, bit-cases}
+use Rattle.word.proofs.WordLaws.{bit-lt, bit-of-and, bit-of-xor, bit-of-spread, bit-of-ofBits, bits-are-enough, ofBits-lt, ofBits-is-unique, bit-cases}
 
 -- this where the bits of by are 1, other where they are 0
 unfoldable pub picked : (by this other : ℕ) → ℕ
@@ -66,6 +66,31 @@ unfolding logic
 logic-is-tree f a b c ha hb hc =
     ofBits-is-unique (λ i. bit f (4 * bit a i + 2 * bit b i + bit c i)) 16 _ (search (picked-lt, spread-lt))
     (λ i h. simp (bit-of-picked, bit-of-spread) (tree-of-bits f (bit a i) (bit b i) (bit c i) (bit-lt a i) (bit-lt b i) (bit-lt c i)))
+
+-- A picks, bit by bit, what the function gives with A all ones, or with A nought
+bit-of-logic : (f a b c i : ℕ) → i < 16 → bit (logic f a b c) i ≡ bit f (4 * bit a i + 2 * bit b i + bit c i)
+unfolding logic
+bit-of-logic f a b c i inside = bit-of-ofBits (λ i. bit f (4 * bit a i + 2 * bit b i + bit c i)) 16 (λ i. bit-lt f (4 * bit a i + 2 * bit b i + bit c i)) i inside
+
+pub logic-lt : (f a b c : ℕ) → logic f a b c < 2 ^ 16
+unfolding logic
+logic-lt f a b c = ofBits-lt (λ i. bit f (4 * bit a i + 2 * bit b i + bit c i)) 16 (λ i. bit-lt f (4 * bit a i + 2 * bit b i + bit c i))
+
+chosen-by-a : (f a b c : ℕ) → a < 2 → chosen a (bit f (4 * 1 + 2 * b + c)) (bit f (4 * 0 + 2 * b + c)) ≡ bit f (4 * a + 2 * b + c)
+unfolding chosen
+chosen-by-a f a b c small = bit-cases (λ a. chosen a (bit f (4 * 1 + 2 * b + c)) (bit f (4 * 0 + 2 * b + c)) ≡ bit f (4 * a + 2 * b + c)) refl refl a small
+
+pub logic-by-a : (f a b c : ℕ) → a < 2 ^ 16 → picked a (logic f 65535 b c) (logic f 0 b c) ≡ logic f a b c
+logic-by-a f a b c small =
+    bits-are-enough 16 (picked a (logic f 65535 b c) (logic f 0 b c)) (logic f a b c)
+    (picked-lt a (logic f 65535 b c) (logic f 0 b c) small (logic-lt f 65535 b c) (logic-lt f 0 b c)) (logic-lt f a b c)
+    (λ i inside.
+    bit-of-picked a (logic f 65535 b c) (logic f 0 b c) i
+    ∙ ap₂ (chosen (bit a i))
+    (bit-of-logic f 65535 b c i inside ∙ ap (λ (one : ℕ). bit f (4 * one + 2 * bit b i + bit c i)) (bit-of-spread 1 i inside))
+    (bit-of-logic f 0 b c i inside ∙ ap (λ (none : ℕ). bit f (4 * none + 2 * bit b i + bit c i)) (bit-of-spread 0 i inside))
+    ∙ chosen-by-a f (bit a i) (bit b i) (bit c i) (bit-lt a i)
+    ∙ sym (bit-of-logic f a b c i inside))
 
 -- function F0 gives A
 f0-of-bits : (a b c : ℕ) → a < 2 → b < 2 → c < 2 → a ≡ bit 0xF0 (4 * a + 2 * b + c)

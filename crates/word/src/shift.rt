@@ -5,7 +5,7 @@ ghost use Rattle.word.specs.declared.types.Direction;
 ghost use Rattle.word.specs.Shift.{shifted};
 use crate::types::Direction;
 
-fn ascending(n: u32, earlier: u16, this: u16) -> u16
+pub fn ascending(n: u32, earlier: u16, this: u16) -> u16
     requires { ⌜ n < 16 ⌝ }
     ensures { λ kept. ⌜ kept ≡ shifted Direction.Ascending n earlier this ⌝ }
 {
@@ -13,7 +13,7 @@ fn ascending(n: u32, earlier: u16, this: u16) -> u16
     ((pair >> n) % 65536) as u16
 }
 
-fn descending(n: u32, earlier: u16, this: u16) -> u16
+pub fn descending(n: u32, earlier: u16, this: u16) -> u16
     requires { ⌜ n < 16 ⌝ }
     ensures { λ kept. ⌜ kept ≡ shifted Direction.Descending n earlier this ⌝ }
 {

@@ -1,0 +1,232 @@
+-- A straight loop's words are the definition's: where a channel stands so many words into a row, and a turn of the loop.
+use mathlib.Core.Path.{_≡_, refl, sym, ap, ap₂, _∙_}
+use mathlib.Core.Logic.{_≢_}
+use Prim.Native.Nat.{ℕ, zero, suc, _+_, _-_, _*_, _%_, _<_, _≤_}
+use native.Mathlib.Nat.{mod-eq-of-lt}
+use native.Mathlib.Omega.{arith}
+use mathlib.Core.Bool.{Bool, true, false, _&&_}
+use mathlib.Core.List.{List}
+use lib.Dec.{T, eqb, eqb→eq, eqb·suc-zero}
+use lib.Bits.{bitOr, or-zero-l, or-add-and, and-le-r}
+use lib.ListN.{getD, set}
+use Rattle.word.specs.declared.types.Direction.{Direction}
+use Rattle.word.specs.declared.types.Direction.the-variants.{Ascending, Descending}
+use Rattle.word.specs.declared.types.Pointer.{Pointer}
+use Rattle.word.specs.Repeat.{repeated}
+use Rattle.word.specs.Pointer.{moved}
+use Rattle.area.specs.declared.types.Setup.{Setup}
+use Rattle.area.specs.declared.types.Sources.{Sources}
+use Rattle.area.specs.declared.types.Flow.{Flow}
+use Rattle.area.specs.Flow.{State, state}
+use Rattle.area.specs.Fetch.{fetched, fetch}
+use Rattle.area.specs.Finish.{maskedA, result, final, finish}
+use Rattle.area.specs.Store.{wait, memoryWith, countWith, storePending}
+use Rattle.area.specs.Move.{stepped, moveOn}
+use Rattle.area.specs.Rows.{finishedWord, storedBefore, oneWord, words}
+use Rattle.straight.specs.declared.types.Line.{Line}
+use Rattle.straight.specs.declared.types.Ended.{Ended}
+use Rattle.straight.specs.Line.{place, gone, given, maskedOf, finalOf, nextLine, endedWord, opened, along, ended}
+use Rattle.straight.specs.Fits.{Inside, Apart, SourceFits, SourcesFit, Fits, ClearOf, Clear}
+use Rattle.straight.proofs.FitsLaws.{untrue}
+use Rattle.straight.proofs.EarlyLaws.{words-early}
+
+-- a used channel stands where a row that doesn't go round has its word i
+gone-up : (i width n : ℕ) (pointer : Pointer) → pointer .word + width ≤ n → n ≤ 262144 → i < width
+    → gone Ascending true i pointer .word ≡ pointer .word + i
+unfolding gone stepped moved
+gone-up zero width n pointer inside most few = omega arith
+gone-up (suc i) width n pointer inside most few =
+    ap (λ (word : ℕ). (word + 1) % 262144) (gone-up i width n pointer inside most (omega arith)) ∙ on (omega arith)
+  where
+    on : pointer .word + i + 1 < 262144 → (pointer .word + i + 1) % 262144 ≡ pointer .word + suc i
+    on small = mod-eq-of-lt small ∙ omega arith
+
+gone-down : (i width n : ℕ) (pointer : Pointer) → pointer .word < n → width ≤ pointer .word + 1 → n ≤ 262144 → i < width
+    → gone Descending true i pointer .word ≡ pointer .word - i
+unfolding gone stepped moved
+gone-down zero width n pointer inside room most few = omega arith
+gone-down (suc i) width n pointer inside room most few =
+    ap (λ (word : ℕ). (word + 262143) % 262144) (gone-down i width n pointer inside room most (omega arith)) ∙ on (omega arith) (omega arith)
+  where
+    on : pointer .word < 262144 → suc i ≤ pointer .word → (pointer .word - i + 262143) % 262144 ≡ pointer .word - suc i
+    on small enough = omega arith
+
+gone-at : (direction : Direction) (i width n : ℕ) (pointer : Pointer) → Inside n direction width (pointer .word) → n ≤ 262144 → i < width
+    → gone direction true i pointer .word ≡ place direction (pointer .word) i
+gone-at Ascending i width n pointer inside most few = gone-up i width n pointer inside most few
+gone-at Descending i width n pointer inside most few = gone-down i width n pointer (inside .0) (inside .1) most few
+
+-- a word is nought with the others before it
+or-nought : (any word : ℕ) → (eqb any 0 && eqb word 0) ≡ eqb (bitOr any word) 0
+or-nought zero word = ap (λ (all : ℕ). eqb all 0) (sym (or-zero-l word))
+or-nought (suc any) word =
+    ap (λ (none : Bool). none && eqb word 0) (eqb·suc-zero any)
+    ∙ over (bitOr (suc any) word) (omega (arith, or-add-and (suc any) word, and-le-r (suc any) word))
+  where
+    over : (all : ℕ) → 0 < all → false ≡ eqb all 0
+    over zero more = absurd (omega arith)
+    over (suc all) more = sym (eqb·suc-zero all)
+
+still-nought : (allzero : Bool) (any word : ℕ) → ((allzero && eqb any 0) && eqb word 0) ≡ (allzero && eqb (bitOr any word) 0)
+still-nought true any word = or-nought any word
+still-nought false any word = refl
+
+-- a word of a straight row, its sources given: it waits, all before it stored
+module _ (setup : Setup) (width left : ℕ) (base : Flow) (i : ℕ) (memory : List ℕ) (line : Line) (sources : Sources)
+    (gives-a : fetched (setup .uses .a) memory (gone (setup .direction) (setup .uses .a) i (base .pointers .a)) (line .sources .a) ≡ sources .a)
+    (gives-b : fetched (setup .uses .b) memory (gone (setup .direction) (setup .uses .b) i (base .pointers .b)) (line .sources .b) ≡ sources .b)
+    (gives-c : fetched (setup .uses .c) memory (gone (setup .direction) (setup .uses .c) i (base .pointers .c)) (line .sources .c) ≡ sources .c) where
+  abbrev waiting : Flow
+  waiting =
+      record {
+        pointers = along setup base (suc i) (nextLine setup (eqb (left + 1) width) (eqb left 0) sources line) .pointers;
+        sources = sources;
+        earlier = nextLine setup (eqb (left + 1) width) (eqb left 0) sources line .earlier;
+        carry = nextLine setup (eqb (left + 1) width) (eqb left 0) sources line .carry;
+        allzero = base .allzero && eqb (nextLine setup (eqb (left + 1) width) (eqb left 0) sources line .any) 0;
+        stored = base .stored + i;
+        pending =
+            record {
+              waits = setup .uses .d;
+              place = gone (setup .direction) (setup .uses .d) i (base .pointers .d) .word;
+              word = finalOf setup (eqb (left + 1) width) (eqb left 0) sources line .word;
+            };
+      }
+
+  along-waits : oneWord setup width left (state memory (along setup base i line)) ≡ state memory waiting
+  unfolding oneWord storedBefore storePending finishedWord wait moveOn finish final result maskedA fetch memoryWith countWith along gone nextLine finalOf
+  along-waits = rw (gives-a, gives-b, gives-c, still-nought (base .allzero) (line .any) (finalOf setup (eqb (left + 1) width) (eqb left 0) sources line .word))
+
+  -- stored at once, where D is used
+  along-stores : setup .uses .d ≡ true
+      → storePending (oneWord setup width left (state memory (along setup base i line)))
+      ≡ state
+      (set memory (gone (setup .direction) (setup .uses .d) i (base .pointers .d) .word) (finalOf setup (eqb (left + 1) width) (eqb left 0) sources line .word))
+      (along setup base (suc i) (nextLine setup (eqb (left + 1) width) (eqb left 0) sources line))
+  unfolding storePending memoryWith countWith along nextLine
+  along-stores uses = ap storePending along-waits ∙ rw (uses, more (base .stored) i)
+    where
+      more : (stored words : ℕ) → stored + words + 1 ≡ stored + suc words
+      more stored words = omega arith
+
+-- what a source gives, by its place
+given-at : (direction : Direction) (used : Bool) (width n i d : ℕ) (memory : List ℕ) (pointer : Pointer) (source : ℕ)
+    → SourceFits n direction used width d (pointer .word) → n ≤ 262144 → i < width
+    → fetched used memory (gone direction used i pointer) source ≡ given used memory (place direction (pointer .word) i) source
+unfolding fetched given
+given-at direction true width n i d memory pointer source fits most few =
+    ap (λ (place : ℕ). getD memory place 0) (gone-at direction i width n pointer (fits refl .0) most few)
+given-at direction false width n i d memory pointer source fits most few = refl
+
+place-at : (direction : Direction) (used : Bool) (width n i : ℕ) (pointer : Pointer) → used ≡ true
+    → Inside n direction width (pointer .word) → n ≤ 262144 → i < width
+    → gone direction used i pointer .word ≡ place direction (pointer .word) i
+place-at direction used width n i pointer uses inside most few = rw uses (gone-at direction i width n pointer inside most few)
+
+-- the next word of a source isn't where this word of D is
+next-apart : (direction : Direction) (width n i d from : ℕ) → Inside n direction width d → Inside n direction width from
+    → Apart direction d from → suc i < width → place direction from (suc i) ≢ place direction d i
+next-apart Ascending width n i d from insideD inside apart few same = apart (omega arith)
+next-apart Descending width n i d from insideD inside apart few same = apart (omega arith)
+
+next-clear : (direction : Direction) (usedD used : Bool) (width n i word : ℕ) (d from : Pointer) → usedD ≡ true
+    → Inside n direction width (d .word) → SourceFits n direction used width (d .word) (from .word) → n ≤ 262144 → suc i < width
+    → ClearOf used (record { waits = usedD; place = gone direction usedD i d .word; word = word }) (gone direction used (suc i) from .word)
+next-clear direction usedD used width n i word d from usesD inside fits most few uses waits same =
+    next-apart direction width n i (d .word) (from .word) inside (fits uses .0) (fits uses .1) few
+    (sym (place-at direction used width n (suc i) from uses (fits uses .0) most few)
+    ∙ same
+    ∙ place-at direction usedD width n i d usesD inside most (omega arith))
+
+pub differs : (x y : ℕ) → x ≢ y → eqb x y ≡ false
+differs x y apart = none (eqb x y) (λ is. apart (eqb→eq x y is))
+  where
+    none : (test : Bool) → (T test → ⊥) → test ≡ false
+    none true not = absurd (not tt)
+    none false not = refl
+
+more-words : (setup : Setup) (width left : ℕ) (now : State) → 0 < left → Clear (setup .uses) (now .flow .pending) (now .flow .pointers)
+    → words setup width left (storePending now) ≡ words setup width left now
+more-words setup width zero now more clear = absurd (omega arith)
+more-words setup width (suc left) now more clear = words-early setup width left now clear
+
+-- a turn of a straight loop, not the row's last: the word is stored at once, and the row goes on as it would
+module _ (n width i : ℕ) (setup : Setup) (base : Flow) (memory : List ℕ) (line after : Line) (a b c word : ℕ) (first : Bool)
+    (fits : Fits n setup width (base .pointers)) (more : suc i < width)
+    (gives-a : a ≡ given (setup .uses .a) memory (place (setup .direction) (base .pointers .a .word) i) (line .sources .a))
+    (gives-b : b ≡ given (setup .uses .b) memory (place (setup .direction) (base .pointers .b .word) i) (line .sources .b))
+    (gives-c : c ≡ given (setup .uses .c) memory (place (setup .direction) (base .pointers .c .word) i) (line .sources .c))
+    (is-first : eqb (width - i) width ≡ first)
+    (finishes : word ≡ finalOf setup first false (record { a = a; b = b; c = c }) line .word)
+    (hands : after ≡ nextLine setup first false (record { a = a; b = b; c = c }) line) where
+  abbrev left : ℕ
+  left = width - suc i
+
+  abbrev sources : Sources
+  sources = record { a = a; b = b; c = c }
+
+  abbrev stored : State
+  stored = state (set memory (place (setup .direction) (base .pointers .d .word) i) word) (along setup base (suc i) after)
+
+  fetches-a : fetched (setup .uses .a) memory (gone (setup .direction) (setup .uses .a) i (base .pointers .a)) (line .sources .a) ≡ a
+  unfolding Fits SourcesFit
+  fetches-a = given-at (setup .direction) (setup .uses .a) width n i (base .pointers .d .word) memory (base .pointers .a) (line .sources .a) (fits .3 .0) (fits .0) (omega arith) ∙ sym gives-a
+
+  fetches-b : fetched (setup .uses .b) memory (gone (setup .direction) (setup .uses .b) i (base .pointers .b)) (line .sources .b) ≡ b
+  unfolding Fits SourcesFit
+  fetches-b = given-at (setup .direction) (setup .uses .b) width n i (base .pointers .d .word) memory (base .pointers .b) (line .sources .b) (fits .3 .1) (fits .0) (omega arith) ∙ sym gives-b
+
+  fetches-c : fetched (setup .uses .c) memory (gone (setup .direction) (setup .uses .c) i (base .pointers .c)) (line .sources .c) ≡ c
+  unfolding Fits SourcesFit
+  fetches-c = given-at (setup .direction) (setup .uses .c) width n i (base .pointers .d .word) memory (base .pointers .c) (line .sources .c) (fits .3 .2) (fits .0) (omega arith) ∙ sym gives-c
+
+  stores : storePending (oneWord setup width left (state memory (along setup base i line))) ≡ stored
+  unfolding Fits
+  stores =
+      let is : eqb (left + 1) width ≡ first = ap (λ (words : ℕ). eqb words width) (omega arith) ∙ is-first in
+      let not-last : eqb left 0 ≡ false = differs left 0 (λ none. absurd (omega arith)) in
+      along-stores setup width left base i memory line sources fetches-a fetches-b fetches-c (fits .1)
+      ∙ rw (is, not-last, finishes, hands, place-at (setup .direction) (setup .uses .d) width n i (base .pointers .d) (fits .1) (fits .2) (fits .0) (omega arith))
+
+  abbrev waits : Flow
+  waits = waiting setup width left base i memory line sources fetches-a fetches-b fetches-c
+
+  waits-clear : Clear (setup .uses) (waits .pending) (waits .pointers)
+  unfolding Fits SourcesFit Clear along
+  waits-clear =
+      (next-clear (setup .direction) (setup .uses .d) (setup .uses .a) width n i (waits .pending .word) (base .pointers .d) (base .pointers .a) (fits .1) (fits .2) (fits .3 .0) (fits .0) more,
+      next-clear (setup .direction) (setup .uses .d) (setup .uses .b) width n i (waits .pending .word) (base .pointers .d) (base .pointers .b) (fits .1) (fits .2) (fits .3 .1) (fits .0) more,
+      next-clear (setup .direction) (setup .uses .d) (setup .uses .c) width n i (waits .pending .word) (base .pointers .d) (base .pointers .c) (fits .1) (fits .2) (fits .3 .2) (fits .0) more)
+
+  turned : words setup width left stored ≡ words setup width (suc left) (state memory (along setup base i line))
+  unfolding repeated
+  turned =
+      let one : oneWord setup width left (state memory (along setup base i line)) ≡ state memory waits =
+          along-waits setup width left base i memory line sources fetches-a fetches-b fetches-c in
+      sym (ap (words setup width left) stores)
+      ∙ ap (λ (now : State). words setup width left (storePending now)) one
+      ∙ more-words setup width left (state memory waits) (omega arith) waits-clear
+      ∙ sym (ap (words setup width left) one)
+
+  pub straight-turn : words setup width (width - suc i) (state (set memory (place (setup .direction) (base .pointers .d .word) i) word) (along setup base (suc i) after))
+      ≡ words setup width (width - i) (state memory (along setup base i line))
+  straight-turn =
+      let left-is : width - i ≡ suc (width - suc i) = omega arith in
+      rw left-is turned
+
+-- the last word is left
+pub one-left : (setup : Setup) (base : Flow) (memory : List ℕ) (line : Line) (last i : ℕ) (whole : State) → i ≤ last → last ≤ i
+    → words setup (last + 1) (last + 1 - i) (state memory (along setup base i line)) ≡ whole
+    → words setup (last + 1) 1 (state memory (along setup base last line)) ≡ whole
+one-left setup base memory line last i whole most least here =
+    let all : last ≡ i = omega arith in
+    let left : 1 ≡ last + 1 - i = omega arith in
+    ap (λ (left : ℕ). words setup (last + 1) left (state memory (along setup base last line))) left
+    ∙ ap (λ (done : ℕ). words setup (last + 1) (last + 1 - i) (state memory (along setup base done line))) all
+    ∙ here
+
+-- the first word is done
+pub one-done : (setup : Setup) (now : State) (last : ℕ) → words setup (last + 1) (last + 1 - 1) now ≡ words setup (last + 1) last now
+one-done setup now last =
+    let left : last + 1 - 1 ≡ last = omega arith in
+    rw left

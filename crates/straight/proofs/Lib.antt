@@ -1,0 +1,6 @@
+-- The laws of the straight loops.
+pub mod FitsLaws
+pub mod FoldLaws
+pub mod EarlyLaws
+pub mod AlongLaws
+pub mod AloneLaws

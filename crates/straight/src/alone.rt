@@ -1,0 +1,109 @@
+// Rows with A alone, B and C at rest: the first word, the words between in a loop of their own, the last word.
+ghost use mathlib.Core.Path.{_≡_};
+ghost use Prim.Native.Nat.{_+_, _<_, _≤_};
+ghost use lib.ListN.{length};
+ghost use Rattle.word.specs.declared.types.Direction.the-variants.{Ascending, Descending};
+ghost use Rattle.word.specs.declared.types.Fill.the-variants.{Off};
+ghost use Rattle.area.specs.Flow.{state};
+ghost use Rattle.area.specs.Rows.{words};
+ghost use Rattle.straight.specs.Line.{along};
+ghost use Rattle.straight.specs.Fits.{Fits};
+ghost use Rattle.straight.specs.Fold.{Folds, AtRest};
+ghost use Rattle.straight.specs.Sets.{Alone};
+use crate::types::Line;
+use crate::types::Two;
+use area::types::Flow;
+use area::types::Setup;
+use area::types::Sources;
+use word::types::Filled;
+
+fn up(ram: &mut [u16], setup: Setup, two: Two, last: u32, base: Flow, line: Line) -> Line
+    requires { ⌜ (setup .shifts .a < 16) × (1 ≤ last) × (last < 64) × Alone (setup .uses)
+        × (setup .direction ≡ Ascending) × (setup .fill ≡ Off)
+        × Fits (length (now ram)) setup (last + 1) (base .pointers)
+        × Folds setup two (line .sources .b) (line .sources .c) × (line .earlier .b ≡ line .sources .b) ⌝ }
+    ensures { λ after. ⌜ AtRest line after
+        × (words setup (last + 1) 1 (state (now (ram .exit)) (along setup base last after))
+        ≡ words setup (last + 1) last (state (now (ram .entry)) (along setup base 1 line))) ⌝ }
+{
+    let mut here = line;
+    let mut i = 1;
+    while i < last as usize {
+        let a = ram[base.pointers.a.word as usize + i];
+        let shifted = word::shift::ascending(setup.shifts.a, here.earlier.a, a);
+        let word = crate::fold::folded(two, shifted);
+        ram[base.pointers.d.word as usize + i] = word;
+        let made = Filled {
+            word,
+            carry: here.carry,
+        };
+        let sources = Sources {
+            a,
+            b: here.sources.b,
+            c: here.sources.c,
+        };
+        here = crate::words::handed_on(sources, a, made, here);
+        i = i + 1;
+    }
+    here
+}
+
+fn down(ram: &mut [u16], setup: Setup, two: Two, last: u32, base: Flow, line: Line) -> Line
+    requires { ⌜ (setup .shifts .a < 16) × (1 ≤ last) × (last < 64) × Alone (setup .uses)
+        × (setup .direction ≡ Descending) × (setup .fill ≡ Off)
+        × Fits (length (now ram)) setup (last + 1) (base .pointers)
+        × Folds setup two (line .sources .b) (line .sources .c) × (line .earlier .b ≡ line .sources .b) ⌝ }
+    ensures { λ after. ⌜ AtRest line after
+        × (words setup (last + 1) 1 (state (now (ram .exit)) (along setup base last after))
+        ≡ words setup (last + 1) last (state (now (ram .entry)) (along setup base 1 line))) ⌝ }
+{
+    let mut here = line;
+    let mut i = 1;
+    while i < last as usize {
+        let a = ram[base.pointers.a.word as usize - i];
+        let shifted = word::shift::descending(setup.shifts.a, here.earlier.a, a);
+        let word = crate::fold::folded(two, shifted);
+        ram[base.pointers.d.word as usize - i] = word;
+        let made = Filled {
+            word,
+            carry: here.carry,
+        };
+        let sources = Sources {
+            a,
+            b: here.sources.b,
+            c: here.sources.c,
+        };
+        here = crate::words::handed_on(sources, a, made, here);
+        i = i + 1;
+    }
+    here
+}
+
+fn filled(ram: &mut [u16], setup: Setup, two: Two, last: u32, base: Flow, line: Line) -> Line
+    requires { ⌜ (setup .shifts .a < 16) × (1 ≤ last) × (last < 64) × Alone (setup .uses)
+        × (setup .direction ≡ Descending)
+        × Fits (length (now ram)) setup (last + 1) (base .pointers)
+        × Folds setup two (line .sources .b) (line .sources .c) × (line .earlier .b ≡ line .sources .b) ⌝ }
+    ensures { λ after. ⌜ AtRest line after
+        × (words setup (last + 1) 1 (state (now (ram .exit)) (along setup base last after))
+        ≡ words setup (last + 1) last (state (now (ram .entry)) (along setup base 1 line))) ⌝ }
+{
+    let fill = setup.fill;
+    let mut here = line;
+    let mut i = 1;
+    while i < last as usize {
+        let a = ram[base.pointers.a.word as usize - i];
+        let shifted = word::shift::descending(setup.shifts.a, here.earlier.a, a);
+        let word = crate::fold::folded(two, shifted);
+        let made = word::fill::filled(fill, here.carry, word);
+        ram[base.pointers.d.word as usize - i] = made.word;
+        let sources = Sources {
+            a,
+            b: here.sources.b,
+            c: here.sources.c,
+        };
+        here = crate::words::handed_on(sources, a, made, here);
+        i = i + 1;
+    }
+    here
+}

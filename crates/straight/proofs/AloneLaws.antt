@@ -19,20 +19,12 @@ use Rattle.area.specs.Flow.{State, state}
 use Rattle.area.specs.Rows.{words}
 use Rattle.straight.specs.declared.types.Line.{Line}
 use Rattle.straight.specs.declared.types.Two.{Two}
-use Rattle.straight.specs.Line.{place, given, finalOf, nextLine, along}
+use Rattle.straight.specs.Line.{place, finalOf, nextLine, along}
 use Rattle.straight.specs.Fits.{Fits}
 use Rattle.straight.specs.Fold.{folded, Folds, Rests, AtRest}
 use Rattle.straight.specs.Sets.{Alone}
 use Rattle.straight.proofs.FoldLaws.{alone-final, alone-next}
-use Rattle.straight.proofs.AlongLaws.{differs, straight-turn}
-
-given-used : (used : Bool) (memory : List ℕ) (place source : ℕ) → used ≡ true → getD memory place 0 ≡ given used memory place source
-unfolding given
-given-used used memory place source uses = rw uses
-
-given-unused : (used : Bool) (memory : List ℕ) (place source : ℕ) → used ≡ false → source ≡ given used memory place source
-unfolding given
-given-unused used memory place source idle = rw idle
+use Rattle.straight.proofs.AlongLaws.{differs, given-used, given-unused, filled-off, straight-turn}
 
 -- a word of the middle of a row, in either direction, with any fill
 pub alone-turn : (n last i : ℕ) (setup : Setup) (base : Flow) (memory : List ℕ) (two : Two) (start line after : Line) (a shiftedA word : ℕ) (made : Filled) (whole : State)
@@ -67,10 +59,6 @@ alone-turn n last i setup base memory two start line after a shiftedA word made 
     (ap (λ (made : Filled). made .word) final)
     (alone-next setup two false false a a shiftedA word made line after folds rest refl shifts joins fills hands)
     ∙ here)
-
-filled-off : (fill : Rattle.word.specs.declared.types.Fill.Fill) (carry word : ℕ) → fill ≡ Off → record { word = word; carry = carry } ≡ filled fill carry word
-unfolding filled
-filled-off fill carry word off = rw off
 
 pub alone-up-turn : (n last i : ℕ) (setup : Setup) (base : Flow) (memory : List ℕ) (two : Two) (start line after : Line) (shiftedA word : ℕ) (whole : State)
     → setup .direction ≡ Ascending → setup .fill ≡ Off

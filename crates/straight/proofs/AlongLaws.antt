@@ -11,9 +11,12 @@ use lib.Bits.{bitOr, or-zero-l, or-add-and, and-le-r}
 use lib.ListN.{getD, set}
 use Rattle.word.specs.declared.types.Direction.{Direction}
 use Rattle.word.specs.declared.types.Direction.the-variants.{Ascending, Descending}
+use Rattle.word.specs.declared.types.Fill.{Fill}
+use Rattle.word.specs.declared.types.Fill.the-variants.{Off}
 use Rattle.word.specs.declared.types.Pointer.{Pointer}
 use Rattle.word.specs.Repeat.{repeated}
 use Rattle.word.specs.Pointer.{moved}
+use Rattle.word.specs.Fill.{filled}
 use Rattle.area.specs.declared.types.Setup.{Setup}
 use Rattle.area.specs.declared.types.Sources.{Sources}
 use Rattle.area.specs.declared.types.Flow.{Flow}
@@ -230,3 +233,37 @@ pub one-done : (setup : Setup) (now : State) (last : ℕ) → words setup (last 
 one-done setup now last =
     let left : last + 1 - 1 ≡ last = omega arith in
     rw left
+
+-- a source that is used, or not
+pub given-used : (used : Bool) (memory : List ℕ) (place source : ℕ) → used ≡ true → getD memory place 0 ≡ given used memory place source
+unfolding given
+given-used used memory place source uses = rw uses
+
+pub given-unused : (used : Bool) (memory : List ℕ) (place source : ℕ) → used ≡ false → source ≡ given used memory place source
+unfolding given
+given-unused used memory place source idle = rw idle
+
+pub filled-off : (fill : Fill) (carry word : ℕ) → fill ≡ Off → record { word = word; carry = carry } ≡ filled fill carry word
+unfolding filled
+filled-off fill carry word off = rw off
+
+
+-- a turn by a word's whole answer, in the middle of a row
+pub ended-turn : (n last i : ℕ) (setup : Setup) (base : Flow) (memory : List ℕ) (line : Line) (sources : Sources) (end : Ended) (whole : State)
+    → Fits n setup (last + 1) (base .pointers) → 1 ≤ i → i < last
+    → sources .a ≡ given (setup .uses .a) memory (place (setup .direction) (base .pointers .a .word) i) (line .sources .a)
+    → sources .b ≡ given (setup .uses .b) memory (place (setup .direction) (base .pointers .b .word) i) (line .sources .b)
+    → sources .c ≡ given (setup .uses .c) memory (place (setup .direction) (base .pointers .c .word) i) (line .sources .c)
+    → end ≡ endedWord setup false false sources line
+    → words setup (last + 1) (last + 1 - i) (state memory (along setup base i line)) ≡ whole
+    → words setup (last + 1) (last + 1 - (i + 1))
+    (state (set memory (place (setup .direction) (base .pointers .d .word) i) (end .word)) (along setup base (i + 1) (end .line)))
+    ≡ whole
+unfolding endedWord
+ended-turn n last i setup base memory line sources end whole fits some more gives-a gives-b gives-c ends here =
+    let on : i + 1 ≡ suc i = omega arith in
+    rw on
+    (straight-turn n (last + 1) i setup base memory line (end .line) (sources .a) (sources .b) (sources .c) (end .word) false fits (omega arith)
+    gives-a gives-b gives-c (differs (last + 1 - i) (last + 1) (λ same. absurd (omega arith)))
+    (ap (λ (end : Ended). end .word) ends) (ap (λ (end : Ended). end .line) ends)
+    ∙ here)

@@ -94,19 +94,30 @@ row-taken n width setup flow inside fit clear most uses is told sources clears b
     ((most, uses, is told, sources (and-left fit clear both)), clears (and-right fit clear both))
 
 -- the last word of each used channel's row lies inside
+inside-up-to : (n last from : ℕ) (direction : Direction) → direction ≡ Ascending → Inside n direction (last + 1) from → from + last < n
+inside-up-to n last from direction way inside =
+    let ends : Inside n Ascending (last + 1) from = subst (λ (direction : Direction). Inside n direction (last + 1) from) way inside in
+    omega arith
+
 pub up-to-d : (n last : ℕ) (setup : Setup) (pointers : Pointers) → Fits n setup (last + 1) pointers → setup .direction ≡ Ascending
     → pointers .d .word + last < n
 unfolding Fits
-up-to-d n last setup pointers fits way =
-    let inside : Inside n Ascending (last + 1) (pointers .d .word) = subst (λ (direction : Direction). Inside n direction (last + 1) (pointers .d .word)) way (fits .2) in
-    omega arith
+up-to-d n last setup pointers fits way = inside-up-to n last (pointers .d .word) (setup .direction) way (fits .2)
 
 pub up-to-a : (n last : ℕ) (setup : Setup) (pointers : Pointers) → Fits n setup (last + 1) pointers → setup .direction ≡ Ascending
     → setup .uses .a ≡ true → pointers .a .word + last < n
 unfolding Fits SourcesFit
-up-to-a n last setup pointers fits way uses =
-    let inside : Inside n Ascending (last + 1) (pointers .a .word) = subst (λ (direction : Direction). Inside n direction (last + 1) (pointers .a .word)) way (fits .3 .0 uses .0) in
-    omega arith
+up-to-a n last setup pointers fits way uses = inside-up-to n last (pointers .a .word) (setup .direction) way (fits .3 .0 uses .0)
+
+pub up-to-b : (n last : ℕ) (setup : Setup) (pointers : Pointers) → Fits n setup (last + 1) pointers → setup .direction ≡ Ascending
+    → setup .uses .b ≡ true → pointers .b .word + last < n
+unfolding Fits SourcesFit
+up-to-b n last setup pointers fits way uses = inside-up-to n last (pointers .b .word) (setup .direction) way (fits .3 .1 uses .0)
+
+pub up-to-c : (n last : ℕ) (setup : Setup) (pointers : Pointers) → Fits n setup (last + 1) pointers → setup .direction ≡ Ascending
+    → setup .uses .c ≡ true → pointers .c .word + last < n
+unfolding Fits SourcesFit
+up-to-c n last setup pointers fits way uses = inside-up-to n last (pointers .c .word) (setup .direction) way (fits .3 .2 uses .0)
 
 inside-down-to : (n last from : ℕ) (direction : Direction) → direction ≡ Descending → Inside n direction (last + 1) from → (from < n) × (last ≤ from)
 inside-down-to n last from direction way inside =

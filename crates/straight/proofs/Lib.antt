@@ -4,3 +4,5 @@ pub mod FoldLaws
 pub mod EarlyLaws
 pub mod AlongLaws
 pub mod AloneLaws
+pub mod SameLaws
+pub mod ThreeLaws

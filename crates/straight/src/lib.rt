@@ -2,5 +2,7 @@
 pub mod alone;
 pub mod fits;
 pub mod fold;
+pub mod same;
+pub mod three;
 pub mod types;
 pub mod words;

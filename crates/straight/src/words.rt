@@ -1,8 +1,9 @@
 // One word of a straight row, and what it hands on.
 ghost use mathlib.Core.Path.{_≡_};
-ghost use mathlib.Core.Bool.{true, false};
+ghost use mathlib.Core.Bool.{false};
 ghost use Prim.Native.Nat.{_<_};
 ghost use lib.Bits.{bitOr};
+ghost use Rattle.word.specs.declared.types.Direction.the-variants.{Ascending};
 ghost use Rattle.word.specs.declared.types.Fill.the-variants.{Off};
 ghost use Rattle.straight.specs.Line.{Reaches, place, maskedOf, opened, endedWord};
 ghost use Rattle.straight.specs.Fold.{Folds, Rests};
@@ -114,6 +115,25 @@ pub fn three_word(setup: Setup, first: bool, last: bool, sources: Sources, line:
     let b = word::shift::shifted(direction, setup.shifts.b, line.earlier.b, sources.b);
     let made = word::fill::filled(fill, line.carry, word::logic::logic(setup.function, a, b, sources.c));
     let after = handed_on(sources, masked, made, line);
+    Ended {
+        word: made.word,
+        line: after,
+    }
+}
+
+// A word between the first and the last of a row with three sources, upward and not filled.
+pub fn upward(setup: Setup, sources: Sources, line: Line) -> Ended
+    requires { ⌜ (setup .shifts .a < 16) × (setup .shifts .b < 16)
+        × (setup .direction ≡ Ascending) × (setup .fill ≡ Off) ⌝ }
+    ensures { λ end. ⌜ end ≡ endedWord setup false false sources line ⌝ }
+{
+    let a = word::shift::ascending(setup.shifts.a, line.earlier.a, sources.a);
+    let b = word::shift::ascending(setup.shifts.b, line.earlier.b, sources.b);
+    let made = Filled {
+        word: word::logic::logic(setup.function, a, b, sources.c),
+        carry: line.carry,
+    };
+    let after = handed_on(sources, sources.a, made, line);
     Ended {
         word: made.word,
         line: after,

@@ -74,14 +74,15 @@ pub fn evenly_inside(
         return false;
     }
     let end = reached(n);
+    let start = pointer.word;
     let words = stride(direction, width, modulo);
     if words < 131072 {
         let far = distance(rows, words);
-        return span_inside(end, direction, width, pointer.word, pointer.word + far);
+        return span_inside(end, direction, width, start, start + far);
     }
     let far = distance(rows, 262144 - words);
-    if pointer.word < far {
+    if start < far {
         return false;
     }
-    span_inside(end, direction, width, pointer.word - far, pointer.word)
+    span_inside(end, direction, width, start - far, start)
 }

@@ -28,8 +28,12 @@ add-span-inside c = search needs
 span-inside-requires : tie.Need-span-inside-requires
 span-inside-requires c κs = search needs
 
+-- the distance has its place, so that a wrong one is refused at it
 returns-4 : tie.Need-returns-4
-returns-4 c = search (needs, RowsInside-upward, c .span-inside .ensures)
+returns-4 c =
+    RowsInside-upward _ _ _ _ _ _ _ _ _ _ (search needs) (search needs) (search needs) (search needs) (search needs) (search needs)
+    (c .before .distance .ensures .0)
+    (c .span-inside .ensures)
 
 sub-distance : tie.Need-sub-distance
 sub-distance c = search needs

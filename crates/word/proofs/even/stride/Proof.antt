@@ -1,6 +1,6 @@
 -- `word::even::stride` meets its contract: a row's moves are one move, and its modulo another.
 use mathlib.Core.Path.{refl}
-use Rattle.word.proofs.EvenLaws.{stride-of-moves}
+use Rattle.word.proofs.StrideLaws.{stride-of-moves}
 use borrow.Author.Needs.{needs}
 use Rattle.word.proofs.even.stride.Statement.{statement}
 use Rattle.word.proofs.even.stride.Tie as tie

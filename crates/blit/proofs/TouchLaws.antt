@@ -1,18 +1,22 @@
 -- Laws of the words that a channel touches: a row tells for the rest.
-use mathlib.Core.Path.{_≡_, refl, sym, ap, _∙_}
-use Prim.Native.Nat.{ℕ, zero, suc, _-_, _<_, _≤_}
+use mathlib.Core.Path.{_≡_, refl, sym, ap, subst, _∙_}
+use Prim.Native.Nat.{ℕ, zero, suc, _+_, _-_, _<_, _≤_}
 use native.Mathlib.Numerals.{sub-one}
 use native.Mathlib.Omega.{arith}
 use mathlib.Core.Bool.{Bool, true, false, _||_, and-false, or-assoc}
 use mathlib.Core.List.{List, [], _∷_, _++_}
-use borrow.Author.Tests.{lt-leb}
+use borrow.Author.Tests.{le-ltb, lt-leb}
 use lib.Dec.{leb}
 use Rattle.word.specs.declared.types.Direction.{Direction}
+use Rattle.word.specs.declared.types.Direction.the-variants.{Ascending, Descending}
 use Rattle.word.specs.declared.types.Pointer.{Pointer}
 use Rattle.word.specs.Repeat.{repeated}
 use Rattle.word.specs.Pointer.{pointerEnd, moved, passed}
+use Rattle.word.specs.Even.{nextRow, RowInside, RowsInside}
+use Rattle.word.proofs.EvenLaws.{RowsInside-first, RowsInside-turn}
 use Rattle.word.proofs.PointerLaws.{moves-are-one, passed-lt, moved-lt}
 use Rattle.blit.specs.Touch.{rowTouches, afterRow, touches, leaves, channelLeaves}
+use Rattle.blit.proofs.RowTouchLaws.{leaves-upward, leaves-downward}
 
 pub afterRow-of-moves : (direction : Direction) (width modulo : ℕ) (pointer end next : Pointer) → pointer .word < pointerEnd → width ≤ 64
     → end ≡ passed direction width pointer → next ≡ passed direction modulo end
@@ -81,6 +85,28 @@ touches-stay n direction width modulo (suc left) pointer long small =
     ∙ rw (row-stays n direction width pointer long small)
     (touches-stay n direction width modulo left (afterRow direction width modulo pointer) long (afterRow-lt direction width modulo pointer))
 
+-- rows that lie inside leave nowhere
+row-inside-stays : (n : ℕ) (direction : Direction) (width : ℕ) (pointer : Pointer) → n < pointerEnd → pointer .word < pointerEnd → 1 ≤ width
+    → RowInside n direction width pointer → leaves n (rowTouches direction width pointer) ≡ false
+unfolding RowInside
+row-inside-stays n Ascending width pointer short small some inside =
+    sym (leaves-upward n width pointer short small some) ∙ le-ltb n (pointer .word + width) inside
+row-inside-stays n Descending width pointer short small some (first, round) =
+    sym (leaves-downward n width pointer short small some)
+    ∙ rw (lt-leb n (pointer .word) first) (le-ltb (pointer .word + 1) width round)
+
+pub touches-inside : (n : ℕ) (direction : Direction) (width modulo rows : ℕ) (pointer : Pointer)
+    → n < pointerEnd → pointer .word < pointerEnd → 1 ≤ width
+    → RowsInside n direction width modulo rows pointer → leaves n (touches direction width modulo rows pointer) ≡ false
+unfolding touches leaves afterRow nextRow
+touches-inside n direction width modulo zero pointer short small some inside = refl
+touches-inside n direction width modulo (suc left) pointer short small some inside =
+    leaves-of-append n (rowTouches direction width pointer) (touches direction width modulo left (afterRow direction width modulo pointer))
+    ∙ rw (row-inside-stays n direction width pointer short small some (RowsInside-first n direction width modulo (suc left) pointer (omega arith) inside))
+    (touches-inside n direction width modulo left (afterRow direction width modulo pointer) short (afterRow-lt direction width modulo pointer) some
+    (subst (λ (rest : ℕ). RowsInside n direction width modulo rest (afterRow direction width modulo pointer)) (sub-one (suc left))
+    (RowsInside-turn n direction width modulo (suc left) pointer (afterRow direction width modulo pointer) (omega arith) refl inside)))
+
 module _ (n : ℕ) (direction : Direction) (used : Bool) (width modulo rows : ℕ) (pointer : Pointer) where
   pub channelLeaves-when-used : (outside : Bool) → used ≡ true → outside ≡ leaves n (touches direction width modulo rows pointer)
       → outside ≡ channelLeaves n direction used width modulo rows pointer
@@ -91,6 +117,13 @@ module _ (n : ℕ) (direction : Direction) (used : Bool) (width modulo rows : �
       → false ≡ channelLeaves n direction used width modulo rows pointer
   unfolding channelLeaves
   channelLeaves-at-end long small = rw (touches-stay n direction width modulo rows pointer long small) (sym (and-false used))
+
+  pub channelLeaves-when-inside : (inside : Bool) → n < pointerEnd → pointer .word < pointerEnd → 1 ≤ width
+      → (inside ≡ true → RowsInside n direction width modulo rows pointer) → inside ≡ true
+      → false ≡ channelLeaves n direction used width modulo rows pointer
+  unfolding channelLeaves
+  channelLeaves-when-inside inside short small some promised holds =
+      rw (touches-inside n direction width modulo rows pointer short small some (promised holds)) (sym (and-false used))
 
   pub channelLeaves-when-unused : used ≡ false → false ≡ channelLeaves n direction used width modulo rows pointer
   unfolding channelLeaves

@@ -52,7 +52,7 @@ fn rows_leave(
     false
 }
 
-// Memory that a pointer can't leave is found inside at once.
+// Memory that a pointer can't leave is found inside at once, and so are rows whose first and last one lie inside.
 pub fn channel_leaves(
     n: usize,
     direction: Direction,
@@ -67,6 +67,9 @@ pub fn channel_leaves(
 {
     if used {
         if n < 262144 {
+            if word::even::evenly_inside(n, direction, width, modulo, rows, pointer) {
+                return false;
+            }
             return rows_leave(n as u32, direction, width, modulo, rows, pointer);
         }
         return false;

@@ -4,6 +4,8 @@ pub mod RepeatLaws
 pub mod WordLaws
 pub mod LaidLaws
 pub mod PointerLaws
+pub mod StrideLaws
+pub mod EvenLaws
 pub mod SizeLaws
 pub mod MaskLaws
 pub mod ShiftLaws

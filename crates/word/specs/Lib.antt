@@ -4,6 +4,7 @@ pub mod Repeat
 pub mod Word
 pub mod Laid
 pub mod Pointer
+pub mod Even
 pub mod Size
 pub mod Mask
 pub mod Shift

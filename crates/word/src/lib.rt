@@ -1,5 +1,6 @@
 // The leaves of the area blit: the moved pointer, a blit's size, and the mask, shift, logic function and fill of one
 // word.
+pub mod even;
 pub mod fill;
 pub mod logic;
 pub mod mask;

@@ -2,11 +2,11 @@
 use mathlib.Core.Path.{_≡_, refl, sym, ap, ap₂, _∙_}
 use mathlib.Core.Logic.{_≢_}
 use Prim.Native.Nat.{ℕ, zero, suc, _+_, _-_, _*_, _%_, _<_, _≤_}
-use native.Mathlib.Nat.{mod-eq-of-lt}
+use native.Mathlib.Nat.{add-zero, mod-eq-of-lt}
 use native.Mathlib.Omega.{arith}
 use mathlib.Core.Bool.{Bool, true, false, _&&_}
 use mathlib.Core.List.{List}
-use lib.Dec.{T, eqb, eqb→eq, eqb·suc-zero}
+use lib.Dec.{T, eqb, eqb→eq, eqb-refl, eqb·suc-zero}
 use lib.Bits.{bitOr, or-zero-l, or-add-and, and-le-r}
 use lib.ListN.{getD, set}
 use Rattle.word.specs.declared.types.Direction.{Direction}
@@ -20,7 +20,7 @@ use Rattle.word.specs.Fill.{filled}
 use Rattle.area.specs.declared.types.Setup.{Setup}
 use Rattle.area.specs.declared.types.Sources.{Sources}
 use Rattle.area.specs.declared.types.Flow.{Flow}
-use Rattle.area.specs.Flow.{State, state}
+use Rattle.area.specs.Flow.{State, state, nothing}
 use Rattle.area.specs.Fetch.{fetched, fetch}
 use Rattle.area.specs.Finish.{maskedA, result, final, finish}
 use Rattle.area.specs.Store.{wait, memoryWith, countWith, storePending}
@@ -267,3 +267,76 @@ ended-turn n last i setup base memory line sources end whole fits some more give
     gives-a gives-b gives-c (differs (last + 1 - i) (last + 1) (λ same. absurd (omega arith)))
     (ap (λ (end : Ended). end .word) ends) (ap (λ (end : Ended). end .line) ends)
     ∙ here)
+
+-- before its first word a row is what it began with
+opening : (setup : Setup) (base : Flow) → base .pending ≡ nothing → along setup base 0 (opened base) ≡ base
+unfolding along opened gone
+opening setup base none = rw (← none, and-true (base .allzero), add-zero (base .stored))
+  where
+    and-true : (test : Bool) → (test && true) ≡ test
+    and-true true = refl
+    and-true false = refl
+
+place-first : (direction : Direction) (from : ℕ) → place direction from 0 ≡ from
+place-first Ascending from = omega arith
+place-first Descending from = omega arith
+
+-- the first word of a row
+module _ (n last : ℕ) (setup : Setup) (base : Flow) (memory : List ℕ) (sources : Sources) (end : Ended)
+    (none : base .pending ≡ nothing) (fits : Fits n setup (last + 1) (base .pointers)) (some : 1 ≤ last)
+    (gives-a : sources .a ≡ given (setup .uses .a) memory (base .pointers .a .word) (base .sources .a))
+    (gives-b : sources .b ≡ given (setup .uses .b) memory (base .pointers .b .word) (base .sources .b))
+    (gives-c : sources .c ≡ given (setup .uses .c) memory (base .pointers .c .word) (base .sources .c))
+    (ends : end ≡ endedWord setup true false sources (opened base)) where
+  pub first-turn : words setup (last + 1) last (state (set memory (base .pointers .d .word) (end .word)) (along setup base 1 (end .line)))
+      ≡ words setup (last + 1) (last + 1) (state memory base)
+  unfolding endedWord opened
+  first-turn =
+      let one : last + 1 - 1 ≡ last = omega arith in
+      let all : last + 1 - 0 ≡ last + 1 = omega arith in
+      let first : eqb (last + 1 - 0) (last + 1) ≡ true = ap (λ (words : ℕ). eqb words (last + 1)) all ∙ same (last + 1) in
+      let at-a : place (setup .direction) (base .pointers .a .word) 0 ≡ base .pointers .a .word = place-first (setup .direction) (base .pointers .a .word) in
+      let at-b : place (setup .direction) (base .pointers .b .word) 0 ≡ base .pointers .b .word = place-first (setup .direction) (base .pointers .b .word) in
+      let at-c : place (setup .direction) (base .pointers .c .word) 0 ≡ base .pointers .c .word = place-first (setup .direction) (base .pointers .c .word) in
+      let turn : words setup (last + 1) (last + 1 - 1) (state (set memory (place (setup .direction) (base .pointers .d .word) 0) (end .word)) (along setup base 1 (end .line)))
+          ≡ words setup (last + 1) (last + 1 - 0) (state memory (along setup base 0 (opened base))) =
+          straight-turn n (last + 1) 0 setup base memory (opened base) (end .line) (sources .a) (sources .b) (sources .c) (end .word) true fits (omega arith)
+          (rw at-a gives-a) (rw at-b gives-b) (rw at-c gives-c) first
+          (ap (λ (end : Ended). end .word) ends) (ap (λ (end : Ended). end .line) ends) in
+      ap (λ (left : ℕ). words setup (last + 1) left (state (set memory (base .pointers .d .word) (end .word)) (along setup base 1 (end .line)))) (sym one)
+      ∙ ap (λ (at : ℕ). words setup (last + 1) (last + 1 - 1) (state (set memory at (end .word)) (along setup base 1 (end .line)))) (sym (place-first (setup .direction) (base .pointers .d .word)))
+      ∙ turn
+      ∙ ap (λ (left : ℕ). words setup (last + 1) left (state memory (along setup base 0 (opened base)))) all
+      ∙ ap (λ (flow : Flow). words setup (last + 1) (last + 1) (state memory flow)) (opening setup base none)
+    where
+      same : (x : ℕ) → eqb x x ≡ true
+      same x = told (eqb x x) (eqb-refl x)
+        where
+          told : (test : Bool) → T test → test ≡ true
+          told true is = refl
+          told false is = absurd is
+
+-- the last word of a row waits
+module _ (n last : ℕ) (setup : Setup) (base : Flow) (memory : List ℕ) (line : Line) (sources : Sources) (end : Ended)
+    (fits : Fits n setup (last + 1) (base .pointers)) (some : 1 ≤ last)
+    (gives-a : sources .a ≡ given (setup .uses .a) memory (place (setup .direction) (base .pointers .a .word) last) (line .sources .a))
+    (gives-b : sources .b ≡ given (setup .uses .b) memory (place (setup .direction) (base .pointers .b .word) last) (line .sources .b))
+    (gives-c : sources .c ≡ given (setup .uses .c) memory (place (setup .direction) (base .pointers .c .word) last) (line .sources .c))
+    (ends : end ≡ endedWord setup false true sources line) where
+  pub last-waits : words setup (last + 1) 1 (state memory (along setup base last line)) ≡ state memory (ended setup last base end)
+  unfolding repeated Fits SourcesFit endedWord ended nextLine
+  last-waits =
+      let not-first : eqb (0 + 1) (last + 1) ≡ false = differs (0 + 1) (last + 1) (λ same. absurd (omega arith)) in
+      along-waits setup (last + 1) 0 base last memory line sources
+      (given-at (setup .direction) (setup .uses .a) (last + 1) n last (base .pointers .d .word) memory (base .pointers .a) (line .sources .a) (fits .3 .0) (fits .0) (omega arith) ∙ sym gives-a)
+      (given-at (setup .direction) (setup .uses .b) (last + 1) n last (base .pointers .d .word) memory (base .pointers .b) (line .sources .b) (fits .3 .1) (fits .0) (omega arith) ∙ sym gives-b)
+      (given-at (setup .direction) (setup .uses .c) (last + 1) n last (base .pointers .d .word) memory (base .pointers .c) (line .sources .c) (fits .3 .2) (fits .0) (omega arith) ∙ sym gives-c)
+      ∙ rw (not-first, ends)
+
+-- a row: its first word, the words between, its last word
+pub row-of-parts : (setup : Setup) (last : ℕ) (base : Flow) (memory begun after : List ℕ) (line inner : Line) (end : Ended)
+    → words setup (last + 1) last (state begun (along setup base 1 line)) ≡ words setup (last + 1) (last + 1) (state memory base)
+    → words setup (last + 1) 1 (state after (along setup base last inner)) ≡ words setup (last + 1) last (state begun (along setup base 1 line))
+    → words setup (last + 1) 1 (state after (along setup base last inner)) ≡ state after (ended setup last base end)
+    → state after (ended setup last base end) ≡ words setup (last + 1) (last + 1) (state memory base)
+row-of-parts setup last base memory begun after line inner end first middle ends = sym ends ∙ middle ∙ first

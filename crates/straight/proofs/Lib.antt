@@ -6,3 +6,4 @@ pub mod AlongLaws
 pub mod AloneLaws
 pub mod SameLaws
 pub mod ThreeLaws
+pub mod RowLaws

@@ -11,10 +11,9 @@ use Rattle.area.specs.Flow.{State, state}
 use Rattle.area.specs.Rows.{words}
 use Rattle.straight.specs.declared.types.Line.{Line}
 use Rattle.straight.specs.declared.types.Ended.{Ended}
-use Rattle.straight.specs.declared.types.Two.{Two}
 use Rattle.straight.specs.Line.{place, nextLine, endedWord, along}
 use Rattle.straight.specs.Fits.{Fits}
-use Rattle.straight.specs.Fold.{Folds, Rests, AtRest}
+use Rattle.straight.specs.Fold.{AtRest}
 use Rattle.straight.specs.Sets.{Bare}
 use Rattle.straight.proofs.AlongLaws.{given-unused, ended-turn}
 
@@ -55,10 +54,3 @@ pub same-on : (setup : Setup) (start line : Line) (end : Ended) → AtRest start
     → end ≡ endedWord setup false false (line .sources) line → AtRest start (end .line)
 unfolding endedWord nextLine
 same-on setup start line end rests ends = (rw ends (rests .0), rw ends (rests .1), rw ends (rests .0))
-
-pub same-rests : (setup : Setup) (start line : Line) → AtRest start line → Rests setup (line .earlier .b) (line .sources .b)
-same-rests setup start line rests = rw (rests .0, rests .2)
-
-pub same-folds-on : (setup : Setup) (two : Two) (start line : Line) → AtRest start line
-    → Folds setup two (start .sources .b) (start .sources .c) → Folds setup two (line .sources .b) (line .sources .c)
-same-folds-on setup two start line rests folds = rw (rests .0, rests .1) folds

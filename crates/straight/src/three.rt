@@ -5,11 +5,12 @@ ghost use Prim.Native.Nat.{_+_, _<_, _≤_};
 ghost use lib.ListN.{length};
 ghost use Rattle.word.specs.declared.types.Direction.the-variants.{Ascending};
 ghost use Rattle.word.specs.declared.types.Fill.the-variants.{Off};
-ghost use Rattle.area.specs.Flow.{state};
+ghost use Rattle.area.specs.Flow.{state, nothing};
 ghost use Rattle.area.specs.Rows.{words};
-ghost use Rattle.straight.specs.Line.{along};
+ghost use Rattle.straight.specs.Line.{given, along, ended};
 ghost use Rattle.straight.specs.Fits.{Fits};
 ghost use Rattle.straight.specs.Sets.{Three};
+use crate::types::Ended;
 use crate::types::Line;
 use area::types::Flow;
 use area::types::Setup;
@@ -109,4 +110,80 @@ fn bd(ram: &mut [u16], setup: Setup, last: u32, base: Flow, line: Line) -> Line
         i = i + 1;
     }
     here
+}
+
+fn middle(ram: &mut [u16], setup: Setup, last: u32, base: Flow, line: Line) -> Line
+    requires { ⌜ (setup .shifts .a < 16) × (setup .shifts .b < 16) × (1 ≤ last) × (last < 64) × Three (setup .uses)
+        × (setup .direction ≡ Ascending) × (setup .fill ≡ Off)
+        × Fits (length (now ram)) setup (last + 1) (base .pointers) ⌝ }
+    ensures { λ after. ⌜
+        words setup (last + 1) 1 (state (now (ram .exit)) (along setup base last after))
+        ≡ words setup (last + 1) last (state (now (ram .entry)) (along setup base 1 line)) ⌝ }
+{
+    if base.pointers.c.word == base.pointers.d.word {
+        if setup.uses.a {
+            return abd(ram, setup, last, base, line);
+        }
+        return bd(ram, setup, last, base, line);
+    }
+    if setup.uses.a {
+        return abc(ram, setup, last, base, line);
+    }
+    bc(ram, setup, last, base, line)
+}
+
+// What the three sources give at word i of the row.
+fn sources_at(ram: &[u16], setup: Setup, base: Flow, i: u32, line: Line) -> Sources
+    ensures { λ sources. ⌜
+        (sources .a ≡ given (setup .uses .a) (now (ram .entry)) (base .pointers .a .word + i) (line .sources .a))
+        × (sources .b ≡ given (setup .uses .b) (now (ram .entry)) (base .pointers .b .word + i) (line .sources .b))
+        × (sources .c ≡ given (setup .uses .c) (now (ram .entry)) (base .pointers .c .word + i) (line .sources .c)) ⌝ }
+{
+    let uses = setup.uses;
+    Sources {
+        a: crate::words::given(uses.a, ram, base.pointers.a.word, i, line.sources.a),
+        b: crate::words::given(uses.b, ram, base.pointers.b.word, i, line.sources.b),
+        c: crate::words::given(uses.c, ram, base.pointers.c.word, i, line.sources.c),
+    }
+}
+
+// The first word of the row, stored.
+fn first(ram: &mut [u16], setup: Setup, last: u32, base: Flow) -> Line
+    requires { ⌜ (setup .shifts .a < 16) × (setup .shifts .b < 16) × (1 ≤ last) × (setup .direction ≡ Ascending)
+        × (base .pending ≡ nothing) × Fits (length (now ram)) setup (last + 1) (base .pointers) ⌝ }
+    ensures { λ line. ⌜
+        words setup (last + 1) last (state (now (ram .exit)) (along setup base 1 line))
+        ≡ words setup (last + 1) (last + 1) (state (now (ram .entry)) base) ⌝ }
+{
+    let start = crate::words::opened(base);
+    let sources = sources_at(ram, setup, base, 0, start);
+    let end = crate::words::three_word(setup, true, false, sources, start);
+    word::memory::write(ram, base.pointers.d.word, end.word);
+    let line = end.line;
+    line
+}
+
+// The last word of the row, which waits.
+fn last_word(ram: &[u16], setup: Setup, last: u32, base: Flow, line: Line) -> Ended
+    requires { ⌜ (setup .shifts .a < 16) × (setup .shifts .b < 16) × (1 ≤ last) × (setup .direction ≡ Ascending)
+        × Fits (length (now ram)) setup (last + 1) (base .pointers) ⌝ }
+    ensures { λ end. ⌜
+        words setup (last + 1) 1 (state (now (ram .entry)) (along setup base last line))
+        ≡ state (now (ram .entry)) (ended setup last base end) ⌝ }
+{
+    let sources = sources_at(ram, setup, base, last, line);
+    crate::words::three_word(setup, false, true, sources, line)
+}
+
+pub fn row(ram: &mut [u16], setup: Setup, last: u32, base: Flow) -> Ended
+    requires { ⌜ (setup .shifts .a < 16) × (setup .shifts .b < 16) × (1 ≤ last) × (last < 64) × Three (setup .uses)
+        × (setup .direction ≡ Ascending) × (setup .fill ≡ Off)
+        × (base .pending ≡ nothing) × Fits (length (now ram)) setup (last + 1) (base .pointers) ⌝ }
+    ensures { λ end. ⌜
+        state (now (ram .exit)) (ended setup last base end)
+        ≡ words setup (last + 1) (last + 1) (state (now (ram .entry)) base) ⌝ }
+{
+    let begun = first(ram, setup, last, base);
+    let inner = middle(ram, setup, last, base, begun);
+    last_word(ram, setup, last, base, inner)
 }

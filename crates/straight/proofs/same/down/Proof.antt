@@ -8,7 +8,8 @@ use Rattle.straight.specs.Line.{along}
 use Rattle.straight.specs.Fold.{AtRest}
 use Rattle.straight.proofs.FitsLaws.{down-from-d, down-to-d}
 use Rattle.straight.proofs.AlongLaws.{one-done, one-left}
-use Rattle.straight.proofs.SameLaws.{same-on, same-rests, same-folds-on, same-turn-down}
+use Rattle.straight.proofs.RowLaws.{folds-on, rests-on}
+use Rattle.straight.proofs.SameLaws.{same-on, same-turn-down}
 use borrow.Author.Needs.{needs}
 use Rattle.straight.proofs.same.down.Statement.{statement}
 use Rattle.straight.proofs.same.down.Tie as tie
@@ -27,7 +28,7 @@ loop-holds : tie.Need-loop-holds Inv-loop μ-loop
 loop-holds c = (search needs, search needs, search needs, search (down-from-d, needs), search (down-to-d, needs), search needs, search one-done)
 
 same-word-requires : tie.Need-same-word-requires Inv-loop μ-loop
-same-word-requires c κs = search (needs, same-rests, same-folds-on)
+same-word-requires c κs = search (needs, rests-on, folds-on)
 
 cast-ram : tie.Need-cast-ram Inv-loop μ-loop
 cast-ram c = search needs

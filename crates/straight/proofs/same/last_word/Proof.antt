@@ -1,0 +1,14 @@
+-- `straight::same::last_word` meets its contract: the last word waits.
+use Rattle.straight.proofs.RowLaws.{same-last}
+use borrow.Author.Needs.{needs}
+use Rattle.straight.proofs.same.last_word.Statement.{statement}
+use Rattle.straight.proofs.same.last_word.Tie as tie
+
+same-word-requires : tie.Need-same-word-requires
+same-word-requires c κs = search needs
+
+returns : tie.Need-returns
+returns c = search same-last
+
+pub last-word-spec : {M : Type 1} → statement M
+last-word-spec = tie.close (tie.spec same-word-requires returns)

@@ -1,0 +1,17 @@
+-- `straight::three::last_word` meets its contract: the last word waits.
+use Rattle.straight.proofs.RowLaws.{three-last}
+use borrow.Author.Needs.{needs}
+use Rattle.straight.proofs.three.last_word.Statement.{statement}
+use Rattle.straight.proofs.three.last_word.Tie as tie
+
+sources-at-requires : tie.Need-sources-at-requires
+sources-at-requires c κs = search needs
+
+three-word-requires : tie.Need-three-word-requires
+three-word-requires c κs = search needs
+
+returns : tie.Need-returns
+returns c = search three-last
+
+pub last-word-spec : {M : Type 1} → statement M
+last-word-spec = tie.close (tie.spec sources-at-requires three-word-requires returns)

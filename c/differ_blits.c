@@ -45,10 +45,9 @@ void fill_ram(uint16_t *ram, size_t words, uint64_t seed)
         ram[i] = seed == 0 ? i : seed % 4 == 2 ? random & random64() & random64() : random;
     }
     state = before;
-    for (size_t done = tile; done < words; done += tile) {
-        tile = done < words - done ? done : words - done;
-        memcpy(ram + done, ram, tile * sizeof *ram);
-    }
+    /* by the tile: an emulator may do one long copy byte by byte */
+    for (size_t done = tile; done < words; done += tile)
+        memcpy(ram + done, ram, (tile < words - done ? tile : words - done) * sizeof *ram);
 }
 
 /* Height and width; a settled blit has at most 64 words, and 65 now and then. */

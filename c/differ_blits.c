@@ -98,12 +98,7 @@ static uint16_t pick_con1(bool risk)
     return con1;
 }
 
-/* How far a channel's words lie from its first one, by half its modulo. */
-struct reach {
-    int32_t lowest, highest;
-};
-
-static struct reach reach_of(const struct plan *plan, int32_t half)
+struct reach reach_of(const struct plan *plan, int32_t half)
 {
     int32_t width = plan->width, last_row = (int32_t)(plan->height - 1) * (width + half);
     struct reach up = {last_row < 0 ? last_row : 0, (last_row < 0 ? 0 : last_row) + width - 1};
@@ -111,7 +106,7 @@ static struct reach reach_of(const struct plan *plan, int32_t half)
     return plan->file[1] >> 1 & 1 ? down : up;
 }
 
-static void set_pointer(struct plan *plan, int pointer, uint32_t word)
+void set_pointer(struct plan *plan, int pointer, uint32_t word)
 {
     uint32_t address = word % POINTERS * 2;
     plan->file[pointer] = address >> 16;

@@ -148,13 +148,13 @@ static struct reach span(bool apart)
 
 static int32_t words_of(struct reach reach) { return reach.highest - reach.lowest + 1; }
 
-/* Lays the channels into the least memory that holds both groups, one at its start, one at its end; gives its words. */
-static size_t lay(void)
+/* Lays the channels from a word on, both groups next to each other, either of them first; gives the words they need. */
+static size_t lay(int32_t from)
 {
     struct reach beside = span(false), apart = span(true);
     bool apart_first = one_in(2);
-    int32_t zero = (apart_first ? words_of(apart) : 0) - beside.lowest;
-    int32_t zero_apart = (apart_first ? 0 : words_of(beside)) - apart.lowest;
+    int32_t zero = from + (apart_first ? words_of(apart) : 0) - beside.lowest;
+    int32_t zero_apart = from + (apart_first ? 0 : words_of(beside)) - apart.lowest;
     for (int channel = 0; channel < CHANNELS; channel++)
         if (used(channel))
             set_pointer(&seam.plan, FIRST_POINTER + 2 * channel,
@@ -192,16 +192,15 @@ static bool alike(size_t ram_words)
     return false;
 }
 
-/* A blit of one source beside D, the others apart. */
-static bool one_beside(const struct set *set, bool descending, uint32_t rows, uint32_t width, enum modulos modulos,
-                       int32_t ahead)
+/* Makes a blit of one source beside D, the others apart; for 0 rows their number is drawn. */
+static void make_beside(const struct set *set, bool descending, uint32_t rows, uint32_t width, enum modulos modulos,
+                        int32_t ahead)
 {
     begin(set, descending);
     set_size(rows == 0 ? 1 + below(MOST_ROWS) : rows, width);
     if (set->source != D_CHANNEL)
         lay_beside(set->source, ahead);
     set_modulos(modulos, ahead);
-    return alike(lay());
 }
 
 /* Every gap at every width, with all modulos. */
@@ -210,9 +209,24 @@ static bool gaps(const struct set *set, bool descending)
     int32_t greatest = set->source == D_CHANNEL ? LEAST_GAP : GREATEST_GAP;
     for (uint32_t width = 1; width <= WIDEST; width++)
         for (int32_t ahead = LEAST_GAP; ahead <= greatest; ahead++)
-            for (int modulos = NONE; modulos < MODULOS; modulos++)
-                if (!one_beside(set, descending, 0, width, modulos, ahead))
+            for (int modulos = NONE; modulos < MODULOS; modulos++) {
+                make_beside(set, descending, 0, width, modulos, ahead);
+                if (!alike(lay(0)))
                     return false;
+            }
+    return true;
+}
+
+/* The small gaps in memory that has all words that pointers have, where D goes round, or a source, or both. */
+static bool rounds(const struct set *set, bool descending)
+{
+    for (uint32_t width = 1; width <= WIDEST; width++)
+        for (int32_t ahead = -1; ahead <= 2; ahead++) {
+            make_beside(set, descending, 0, width, (width + ahead) % MODULOS, ahead);
+            lay(-(int32_t)below(3 * width));
+            if (!alike(POINTERS))
+                return false;
+        }
     return true;
 }
 
@@ -222,9 +236,11 @@ static bool columns(const struct set *set, bool descending)
     static const int8_t aheads[] = {-2, -1, 0, 1, 2, 3, 19, 20, 21, 66};
     for (uint32_t rows = 1; rows <= COLUMN_ROWS; rows++)
         for (size_t i = 0; i < (set->source == D_CHANNEL ? 1 : sizeof aheads); i++)
-            for (int modulos = NONE; modulos < MODULOS; modulos++)
-                if (!one_beside(set, descending, rows, 1, modulos, aheads[i]))
+            for (int modulos = NONE; modulos < MODULOS; modulos++) {
+                make_beside(set, descending, rows, 1, modulos, aheads[i]);
+                if (!alike(lay(0)))
                     return false;
+            }
     return true;
 }
 
@@ -241,7 +257,7 @@ static bool crowds(const struct set *set, bool descending)
                     lay_beside(B_CHANNEL, b);
                     lay_beside(A_CHANNEL, (int32_t)below(4) - 1);
                     set_modulos(modulos, one_in(2) ? c : b);
-                    if (!alike(lay()))
+                    if (!alike(lay(0)))
                         return false;
                 }
     return true;
@@ -258,7 +274,7 @@ static bool fills(const struct set *set)
             lay_beside(A_CHANNEL, 0);
         set_size(1 + which / 8 % MOST_ROWS, 1 + which / 8 / MOST_ROWS);
         set_modulos(one_in(2) ? NONE : OWN, 0);
-        if (!alike(lay()))
+        if (!alike(lay(0)))
             return false;
     }
     return true;
@@ -315,7 +331,7 @@ static bool edges(const struct set *set, bool descending)
 static bool all_of(const struct set *set, bool descending)
 {
     bool many = (set->uses & (USE_B | USE_C)) == (USE_B | USE_C);
-    return gaps(set, descending) && columns(set, descending) && edges(set, descending)
+    return gaps(set, descending) && columns(set, descending) && rounds(set, descending) && edges(set, descending)
         && (!many || crowds(set, descending)) && (!descending || fills(set));
 }
 

@@ -7,6 +7,7 @@
 
 typedef uint64_t plugin_id;
 struct qemu_plugin_tb;
+struct qemu_plugin_insn;
 struct qemu_info;
 
 enum inline_operation { ADD_U64 };
@@ -14,19 +15,26 @@ enum inline_operation { ADD_U64 };
 extern void qemu_plugin_register_vcpu_tb_trans_cb(plugin_id id,
                                                   void (*call)(plugin_id id, struct qemu_plugin_tb *block));
 extern size_t qemu_plugin_tb_n_insns(const struct qemu_plugin_tb *block);
+extern struct qemu_plugin_insn *qemu_plugin_tb_get_insn(const struct qemu_plugin_tb *block, size_t which);
 extern void qemu_plugin_register_vcpu_tb_exec_inline(struct qemu_plugin_tb *block, enum inline_operation operation,
                                                      void *number, uint64_t operand);
+extern void qemu_plugin_register_vcpu_insn_exec_inline(struct qemu_plugin_insn *insn, enum inline_operation operation,
+                                                       void *number, uint64_t operand);
 extern void qemu_plugin_register_atexit_cb(plugin_id id, void (*call)(plugin_id id, void *data), void *data);
 
 int qemu_plugin_version = 1;
 
 static uint64_t instructions;
 
-/* Each time a translated block is entered, its instructions are added. */
+/* Each time a translated block is entered, its instructions but the last are added; the last adds itself. An
+ * instruction across the end of a page is listed as its block's last but done by the block after: added with the block
+ * it would count twice, and a loop's cost would depend on where the linker lays it. */
 static void translated(plugin_id id, struct qemu_plugin_tb *block)
 {
+    size_t before = qemu_plugin_tb_n_insns(block) - 1;
     (void)id;
-    qemu_plugin_register_vcpu_tb_exec_inline(block, ADD_U64, &instructions, qemu_plugin_tb_n_insns(block));
+    qemu_plugin_register_vcpu_tb_exec_inline(block, ADD_U64, &instructions, before);
+    qemu_plugin_register_vcpu_insn_exec_inline(qemu_plugin_tb_get_insn(block, before), ADD_U64, &instructions, 1);
 }
 
 static void ended(plugin_id id, void *data)

@@ -1,6 +1,7 @@
-/* work ENGINE CASE SIZE TIMES: does one case so many times with an engine, desk or plain. SIZE is rows x words of a
- * blit, or the words of a job to fold. First both engines do the case once and must leave the same; that costs the same
- * whatever TIMES is, so it falls out of the difference of two counts. Prints the words stored, or of the job. */
+/* work ENGINE CASE SIZE TIMES [MEMORY]: does one case so many times with an engine, desk or plain. SIZE is rows x words
+ * of a blit, or the words of a job to fold; MEMORY is 262,144 words if nothing else is said. First both engines do the
+ * case once and must leave the same; that costs the same whatever TIMES is, so it falls out of the difference of two
+ * counts. Prints the words stored, or of the job. */
 #include <stdio.h>
 #include <stdlib.h>
 #include <string.h>
@@ -8,30 +9,40 @@
 #include "../c/plain.h"
 #include "desk.h"
 
-enum { RAM_WORDS = 262144, FILE_WORDS = 20, JOB_WORDS = 4096, PITCH = 20, REGION = RAM_WORDS / 4 };
+enum { RAM_ROOM = 262144, FILE_WORDS = 20, JOB_WORDS = 4096, PITCH = 20 };
+
+/* Channels in the order of the register file. */
+enum { C, B, A, D, CHANNELS, REGION = RAM_ROOM / CHANNELS };
 
 typedef void blit_call(uint16_t *ram, size_t ram_words, uint16_t *file, size_t file_words, uint16_t size,
                        uint32_t *number, uint32_t *stored);
 typedef void fold_call(size_t ram_words, const uint16_t *job, size_t job_words, uint16_t *out, size_t out_words,
                        uint32_t *number, uint32_t *place, uint32_t *length);
 
-/* A blit's control; each used channel has a quarter of memory to itself. */
+/* A blit's control. Each channel has a quarter of memory to itself, but D may lie over another, so many words on. */
 struct blit_case {
     const char *name;
     uint16_t con0, con1;
+    int over, ahead;
 };
 
 static const struct blit_case blit_cases[] = {
-    {"clear", 0x0100, 0x0000},
-    {"copy", 0x09F0, 0x0000},
-    {"shifted", 0x59F0, 0x0000},
-    {"cookie", 0x57CA, 0x5000},
-    {"four", 0x5FCA, 0x5000},
-    {"fill", 0x09F0, 0x000A},
-    {"column", 0x09F0, 0x0000}
+    {"clear", 0x0100, 0x0000, D, 0},
+    {"copy", 0x09F0, 0x0000, D, 0},
+    {"shifted", 0x59F0, 0x0000, D, 0},
+    {"cookie", 0x57CA, 0x5000, D, 0},
+    {"sign", 0x57CA, 0x5000, C, 0},
+    {"four", 0x5FCA, 0x5000, D, 0},
+    {"fill", 0x09F0, 0x000A, D, 0},
+    {"column", 0x09F0, 0x0000, D, 0},
+    {"back", 0x09F0, 0x0000, A, -1},
+    {"one", 0x09F0, 0x0000, A, 1},
+    {"two", 0x09F0, 0x0000, A, 2},
+    {"row", 0x09F0, 0x0000, A, 20}
 };
 
-static uint16_t ram[RAM_WORDS], other_ram[RAM_WORDS];
+static size_t ram_words = RAM_ROOM;
+static uint16_t ram[RAM_ROOM], other_ram[RAM_ROOM];
 static uint16_t job[JOB_WORDS], out[JOB_WORDS], other_out[JOB_WORDS];
 
 static void fail(const char *why)
@@ -43,7 +54,7 @@ static void fail(const char *why)
 static void fill_ram(uint16_t *words)
 {
     uint32_t state = 1;
-    for (size_t i = 0; i < RAM_WORDS; i++) {
+    for (size_t i = 0; i < RAM_ROOM; i++) {
         state = state * 1664525 + 1013904223;
         words[i] = state >> 16;
     }
@@ -58,8 +69,9 @@ static void make_file(uint16_t *file, const struct blit_case *blit, uint32_t row
     file[0] = blit->con0;
     file[1] = blit->con1;
     file[2] = file[3] = 0xFFFF;
-    for (uint32_t channel = 0; channel < 4; channel++) {
-        uint32_t address = (channel * REGION + last) * 2;
+    for (int channel = 0; channel < CHANNELS; channel++) {
+        uint32_t start = channel == D ? blit->over * REGION + blit->ahead : channel * REGION;
+        uint32_t address = (start + last) * 2;
         file[4 + 2 * channel] = address >> 16;
         file[5 + 2 * channel] = address & 0xFFFF;
         file[12 + channel] = gap * 2;
@@ -72,7 +84,7 @@ static uint32_t blit_once(blit_call *engine, uint16_t *words, const uint16_t *fi
     uint16_t own[FILE_WORDS];
     uint32_t number, stored;
     memcpy(own, file, sizeof own);
-    engine(words, RAM_WORDS, own, FILE_WORDS, size, &number, &stored);
+    engine(words, ram_words, own, FILE_WORDS, size, &number, &stored);
     if (number != 0)
         fail("the blit was refused");
     return stored;
@@ -125,7 +137,7 @@ static void make_job(const char *name, size_t words)
 static uint32_t fold_once(fold_call *engine, size_t words, uint16_t *folded)
 {
     uint32_t number, place, length;
-    engine(RAM_WORDS, job, words, folded, JOB_WORDS, &number, &place, &length);
+    engine(ram_words, job, words, folded, JOB_WORDS, &number, &place, &length);
     if (number != 0)
         fail("the job was refused");
     return length;
@@ -147,8 +159,12 @@ static void foldings(fold_call *engine, const char *name, const char *text, unsi
 
 int main(int words, char **word)
 {
-    if (words != 5)
-        fail("usage: work desk|plain CASE SIZE TIMES");
+    if (words != 5 && words != 6)
+        fail("usage: work desk|plain CASE SIZE TIMES [MEMORY]");
+    if (words == 6)
+        ram_words = strtoul(word[5], NULL, 10);
+    if (ram_words > RAM_ROOM)
+        fail("MEMORY is at most 262144");
     int desk = strcmp(word[1], "desk") == 0;
     unsigned long times = strtoul(word[4], NULL, 10);
     for (size_t i = 0; i < sizeof blit_cases / sizeof *blit_cases; i++)

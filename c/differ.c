@@ -1,6 +1,7 @@
 /* differ [CASES [SEED]]: does random cases with the archive and with the plain engine and compares all that comes out.
- * Case i has the seed SEED + i, so `differ 1 S` does the case of seed S again. On the first difference the case is
- * shrunk and printed, and the program ends with 1. */
+ * Case i has the seed SEED + i, so `differ 1 S` does the case of seed S again.
+ * differ seams: the same with the cases of differ_seams.c, which are always the same ones.
+ * On the first difference the case is shrunk and printed, and the program ends with 1. */
 #include <inttypes.h>
 #include <stdio.h>
 #include <stdlib.h>
@@ -165,27 +166,40 @@ static void print_answer(const char *name, const struct side *side)
            name, side->number, side->place, side->count);
 }
 
-static int report(struct test *test, uint64_t seed)
+void report(struct test *test, const char *which, uint64_t number)
 {
-    printf("the case of seed %" PRIu64 " differs: %s\n", seed, difference(test));
+    printf("%s %" PRIu64 " differs: %s\n", which, number, difference(test));
     shrink(test);
     printf("shrunk, it differs: %s\n", difference(test));
     print_test(test);
     print_answer("archive", &desk);
     print_answer("plain", &plain);
-    return 1;
+}
+
+/* Does the cases of so many seeds: how many, or 0 after a report. */
+static uint64_t random_cases(uint64_t cases, uint64_t seed)
+{
+    static struct test test;
+    for (uint64_t i = 0; i < cases; i++) {
+        make_test(&test, seed + i);
+        if (difference(&test) != NULL) {
+            report(&test, "the case of seed", seed + i);
+            return 0;
+        }
+    }
+    return cases;
 }
 
 int main(int words, char **word)
 {
-    static struct test test;
-    uint64_t cases = words > 1 ? strtoull(word[1], NULL, 10) : 200000;
-    uint64_t seed = words > 2 ? strtoull(word[2], NULL, 10) : 1985;
-    for (uint64_t i = 0; i < cases; i++) {
-        make_test(&test, seed + i);
-        if (difference(&test) != NULL)
-            return report(&test, seed + i);
-    }
+    uint64_t cases;
+    if (words > 1 && strcmp(word[1], "seams") == 0)
+        cases = seams();
+    else
+        cases = random_cases(words > 1 ? strtoull(word[1], NULL, 10) : 200000,
+                             words > 2 ? strtoull(word[2], NULL, 10) : 1985);
+    if (cases == 0)
+        return 1;
     print_outcomes();
     printf("differ: %" PRIu64 " cases, 0 differences\n", cases);
     return 0;

@@ -16,7 +16,8 @@ enum {
 enum { POINTERS = 262144, REGISTERS = 19, FILE_WORDS = 20 };
 
 /* Channels C, B, A and D have the numbers 0 to 3, in the order of the file. */
-enum { D_CHANNEL = 3, FIRST_POINTER = 4, FIRST_MODULO = 12, USE_C = 0x0200, USE_D = 0x0100 };
+enum { C_CHANNEL, B_CHANNEL, A_CHANNEL, D_CHANNEL, CHANNELS };
+enum { FIRST_POINTER = 4, FIRST_MODULO = 12, USE_A = 0x0800, USE_B = 0x0400, USE_C = 0x0200, USE_D = 0x0100 };
 
 enum call { BLIT, RUN, FOLD };
 
@@ -40,6 +41,11 @@ struct plan {
     uint32_t height, width;
 };
 
+/* How far a channel's words lie from its first one. */
+struct reach {
+    int32_t lowest, highest;
+};
+
 /* Random numbers: begun from a seed; 64 bits; below an end; true once in so many; a word, often of few or all ones. */
 void start_random(uint64_t seed);
 uint64_t random64(void);
@@ -52,6 +58,10 @@ uint32_t at_most(uint32_t value, uint32_t most);
 /* A blit for memory of n words: one that could be settled, or any; at risk of leaving memory or of refusal, or not. */
 void make_plan(struct plan *plan, uint32_t n, bool settled, bool risk);
 
+/* The reach of a channel of the plan's blit by half its modulo, and its pointer set to a word, which goes round. */
+struct reach reach_of(const struct plan *plan, int32_t half);
+void set_pointer(struct plan *plan, int pointer, uint32_t word);
+
 /* The case that belongs to a seed. */
 void make_test(struct test *test, uint64_t seed);
 
@@ -60,6 +70,12 @@ void fill_ram(uint16_t *ram, size_t words, uint64_t seed);
 
 /* Does the case on both sides: NULL if they agree, otherwise what differs. */
 const char *difference(const struct test *test);
+
+/* Says which case differs, shrinks and prints it. */
+void report(struct test *test, const char *which, uint64_t number);
+
+/* Does the cases that cross an engine's seams: how many, or 0 after a report of the first on which the sides differ. */
+uint64_t seams(void);
 
 /* Takes away from a case whatever the difference doesn't need, and prints what is left. */
 void shrink(struct test *test);

@@ -45,10 +45,9 @@ void fill_ram(uint16_t *ram, size_t words, uint64_t seed)
         ram[i] = seed == 0 ? i : seed % 4 == 2 ? random & random64() & random64() : random;
     }
     state = before;
-    for (size_t done = tile; done < words; done += tile) {
-        tile = done < words - done ? done : words - done;
-        memcpy(ram + done, ram, tile * sizeof *ram);
-    }
+    /* by the tile: an emulator may do one long copy byte by byte */
+    for (size_t done = tile; done < words; done += tile)
+        memcpy(ram + done, ram, (tile < words - done ? tile : words - done) * sizeof *ram);
 }
 
 /* Height and width; a settled blit has at most 64 words, and 65 now and then. */
@@ -99,12 +98,7 @@ static uint16_t pick_con1(bool risk)
     return con1;
 }
 
-/* How far a channel's words lie from its first one, by half its modulo. */
-struct reach {
-    int32_t lowest, highest;
-};
-
-static struct reach reach_of(const struct plan *plan, int32_t half)
+struct reach reach_of(const struct plan *plan, int32_t half)
 {
     int32_t width = plan->width, last_row = (int32_t)(plan->height - 1) * (width + half);
     struct reach up = {last_row < 0 ? last_row : 0, (last_row < 0 ? 0 : last_row) + width - 1};
@@ -112,7 +106,7 @@ static struct reach reach_of(const struct plan *plan, int32_t half)
     return plan->file[1] >> 1 & 1 ? down : up;
 }
 
-static void set_pointer(struct plan *plan, int pointer, uint32_t word)
+void set_pointer(struct plan *plan, int pointer, uint32_t word)
 {
     uint32_t address = word % POINTERS * 2;
     plan->file[pointer] = address >> 16;

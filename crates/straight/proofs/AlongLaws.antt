@@ -121,7 +121,7 @@ given-at direction true width n i d memory pointer source fits most few =
     ap (λ (place : ℕ). getD memory place 0) (gone-at direction i width n pointer (fits refl .0) most few)
 given-at direction false width n i d memory pointer source fits most few = refl
 
-place-at : (direction : Direction) (used : Bool) (width n i : ℕ) (pointer : Pointer) → used ≡ true
+pub place-at : (direction : Direction) (used : Bool) (width n i : ℕ) (pointer : Pointer) → used ≡ true
     → Inside n direction width (pointer .word) → n ≤ 262144 → i < width
     → gone direction used i pointer .word ≡ place direction (pointer .word) i
 place-at direction used width n i pointer uses inside most few = rw uses (gone-at direction i width n pointer inside most few)

@@ -156,3 +156,16 @@ place-up direction from i way = rw way
 
 pub place-down : (direction : Direction) (from i : ℕ) → direction ≡ Descending → from - i ≡ place direction from i
 place-down direction from i way = rw way
+
+-- a row that fits in a memory fits in the largest
+inside-most : (n width from : ℕ) (direction : Direction) → n ≤ 262144 → Inside n direction width from → Inside 262144 direction width from
+inside-most n width from Ascending most inside = omega arith
+inside-most n width from Descending most inside = (omega (arith, inside .0), inside .1)
+
+pub fits-most : (n width : ℕ) (setup : Setup) (pointers : Pointers) → Fits n setup width pointers → Fits 262144 setup width pointers
+unfolding Fits SourcesFit
+fits-most n width setup pointers fits =
+    (omega arith, fits .1, inside-most n width (pointers .d .word) (setup .direction) (fits .0) (fits .2),
+    ((λ uses. (inside-most n width (pointers .a .word) (setup .direction) (fits .0) (fits .3 .0 uses .0), fits .3 .0 uses .1)),
+    (λ uses. (inside-most n width (pointers .b .word) (setup .direction) (fits .0) (fits .3 .1 uses .0), fits .3 .1 uses .1)),
+    (λ uses. (inside-most n width (pointers .c .word) (setup .direction) (fits .0) (fits .3 .2 uses .0), fits .3 .2 uses .1))))

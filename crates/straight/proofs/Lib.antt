@@ -7,3 +7,6 @@ pub mod AloneLaws
 pub mod SameLaws
 pub mod ThreeLaws
 pub mod RowLaws
+pub mod SetsLaws
+pub mod EndLaws
+pub mod BaseLaws

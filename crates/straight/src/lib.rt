@@ -2,7 +2,9 @@
 pub mod alone;
 pub mod fits;
 pub mod fold;
+pub mod row;
 pub mod same;
+pub mod sets;
 pub mod three;
 pub mod types;
 pub mod words;

@@ -10,3 +10,4 @@ pub mod RowLaws
 pub mod SetsLaws
 pub mod EndLaws
 pub mod BaseLaws
+pub mod RestLaws

@@ -3,6 +3,7 @@ pub mod alone;
 pub mod fits;
 pub mod fold;
 pub mod row;
+pub mod rows;
 pub mod same;
 pub mod sets;
 pub mod three;

@@ -1,0 +1,125 @@
+// All rows: those that fit by the straight loops, the others word by word.
+ghost use mathlib.Core.Path.{_≡_};
+ghost use mathlib.Core.Bool.{true};
+ghost use Prim.Native.Nat.{_+_, _*_, _<_, _≤_};
+ghost use lib.ListN.{length};
+ghost use Rattle.area.specs.Flow.{state};
+ghost use Rattle.area.specs.Rows.{oneRow, rows, areaBlit};
+ghost use Rattle.straight.specs.Fits.{Taken};
+ghost use Rattle.straight.specs.Sets.{Known, Ready};
+use crate::types::Two;
+use area::rows::Rest;
+use area::types::Flow;
+use area::types::Setup;
+
+// A row that is taken, and its modulos.
+fn one_row(ram: &mut [u16], setup: Setup, two: Two, width: u32, flow: Flow) -> Flow
+    requires { ⌜ (setup .shifts .a < 16) × (setup .shifts .b < 16) × (width ≤ 64)
+        × (flow .stored + width < 4294967296)
+        × Known setup width × Ready setup two flow × Taken (length (now ram)) setup width flow ⌝ }
+    ensures { λ after. ⌜ Ready setup two after
+        × (state (now (ram .exit)) after ≡ oneRow setup width (state (now (ram .entry)) flow)) ⌝ }
+{
+    let uses = setup.uses;
+    let direction = setup.direction;
+    let modulos = setup.modulos;
+    let end = crate::row::row(ram, setup, two, width, flow);
+    area::moves::row_end(direction, uses, modulos, end)
+}
+
+// Rows as long as they fit. What is left after them is what was left before.
+fn straight_rows(ram: &mut [u16], setup: Setup, two: Two, width: u32, left: u32, flow: Flow) -> Rest
+    requires { ⌜ (setup .shifts .a < 16) × (setup .shifts .b < 16) × (width ≤ 64) × (length (now ram) ≤ 262144)
+        × (flow .stored + left * 64 < 4294967296) × Known setup width × Ready setup two flow ⌝ }
+    ensures { λ rest. ⌜ (rest .left ≤ left) × (rest .flow .stored + rest .left * 64 < 4294967296)
+        × (rows setup width (rest .left) (state (now (ram .exit)) (rest .flow))
+        ≡ rows setup width left (state (now (ram .entry)) flow)) ⌝ }
+{
+    let mut here = flow;
+    let mut more = left;
+    while 0 < more {
+        if !crate::fits::fits(ram.len(), setup, width, here) {
+            return Rest {
+                left: more,
+                flow: here,
+            };
+        }
+        here = one_row(ram, setup, two, width, here);
+        more = more - 1;
+    }
+    Rest {
+        left: more,
+        flow: here,
+    }
+}
+
+// The straight rows from here, if the set is known and B rests.
+fn fast_rows(ram: &mut [u16], known: bool, setup: Setup, width: u32, left: u32, flow: Flow) -> Rest
+    requires { ⌜ (setup .shifts .a < 16) × (setup .shifts .b < 16) × (width ≤ 64)
+        × (flow .stored + left * 64 < 4294967296)
+        × (known ≡ true → Known setup width × (length (now ram) ≤ 262144)) ⌝ }
+    ensures { λ rest. ⌜ (rest .left ≤ left) × (rest .flow .stored + rest .left * 64 < 4294967296)
+        × (rows setup width (rest .left) (state (now (ram .exit)) (rest .flow))
+        ≡ rows setup width left (state (now (ram .entry)) flow)) ⌝ }
+{
+    if known {
+        let two = crate::fold::two(setup, flow);
+        if crate::sets::ready(setup, two, flow) {
+            return straight_rows(ram, setup, two, width, left, flow);
+        }
+    }
+    Rest { left, flow }
+}
+
+// The straight rows from here, and one row word by word if any is left.
+fn some_rows(ram: &mut [u16], known: bool, setup: Setup, width: u32, left: u32, flow: Flow) -> Rest
+    requires { ⌜ (setup .shifts .a < 16) × (setup .shifts .b < 16) × (0 < left) × (width ≤ 64)
+        × (flow .stored + left * 64 < 4294967296)
+        × (known ≡ true → Known setup width × (length (now ram) ≤ 262144)) ⌝ }
+    ensures { λ rest. ⌜ (rest .left < left) × (rest .flow .stored + rest .left * 64 < 4294967296)
+        × (rows setup width (rest .left) (state (now (ram .exit)) (rest .flow))
+        ≡ rows setup width left (state (now (ram .entry)) flow)) ⌝ }
+{
+    let rest = fast_rows(ram, known, setup, width, left, flow);
+    if rest.left == 0 {
+        return rest;
+    }
+    let here = rest.flow;
+    area::rows::some_rows(ram, setup, width, rest.left, here)
+}
+
+fn known(n: usize, setup: Setup, width: u32) -> bool
+    ensures { λ told. ⌜ (told ≡ true → Known setup width × (n ≤ 262144)) ⌝ }
+{
+    crate::sets::known(setup, width) & (n <= 262144)
+}
+
+pub fn rows(ram: &mut [u16], setup: Setup, width: u32, height: u32, flow: Flow) -> Flow
+    requires { ⌜ (setup .shifts .a < 16) × (setup .shifts .b < 16)
+        × (width ≤ 64) × (flow .stored + height * 64 < 4294967296) ⌝ }
+    ensures { λ after. ⌜
+        state (now (ram .exit)) after
+        ≡ rows setup width height (state (now (ram .entry)) flow) ⌝ }
+{
+    let known = known(ram.len(), setup, width);
+    let mut here = flow;
+    let mut left = height;
+    while 0 < left {
+        let rest = some_rows(ram, known, setup, width, left, here);
+        left = rest.left;
+        here = rest.flow;
+    }
+    here
+}
+
+// All rows, and the last word stored at the end.
+pub fn area_blit(ram: &mut [u16], setup: Setup, width: u32, height: u32, flow: Flow) -> Flow
+    requires { ⌜ (setup .shifts .a < 16) × (setup .shifts .b < 16)
+        × (width ≤ 64) × (flow .stored + height * 64 < 4294967295) ⌝ }
+    ensures { λ after. ⌜
+        state (now (ram .exit)) after
+        ≡ areaBlit setup width height (state (now (ram .entry)) flow) ⌝ }
+{
+    let end = rows(ram, setup, width, height, flow);
+    area::store::store_pending(ram, end)
+}

@@ -1,15 +1,14 @@
 -- What the tests of a row tell.
-use mathlib.Core.Path.{_≡_, sym, subst, _∙_}
+use mathlib.Core.Path.{_≡_, refl, sym, subst, _∙_}
 use mathlib.Core.Logic.{_≢_}
 use Prim.Native.Nat.{ℕ, _+_, _-_, _<_, _≤_}
 use native.Mathlib.Omega.{arith}
-use mathlib.Core.Bool.{Bool, true, false, not, _&&_}
+use mathlib.Core.Bool.{Bool, true, false, not, _&&_, _||_}
 use lib.Dec.{T, leb, eqb, leb→le, T-not, eqb-refl}
 use Rattle.word.specs.declared.types.Direction.{Direction}
 use Rattle.word.specs.declared.types.Direction.the-variants.{Ascending, Descending}
 use Rattle.word.proofs.ChoiceLaws.{and-left, and-right}
 use Rattle.area.specs.declared.types.Setup.{Setup}
-use Rattle.area.specs.declared.types.Uses.{Uses}
 use Rattle.area.specs.declared.types.Pending.{Pending}
 use Rattle.area.specs.declared.types.Pointers.{Pointers}
 use Rattle.area.specs.declared.types.Flow.{Flow}
@@ -41,57 +40,61 @@ pub apart-down : (d from : ℕ) (direction : Direction)
     → direction ≡ Descending → not (eqb from (d + 1)) ≡ true → Apart direction d from
 apart-down d from direction way told = rw way (differ from (d + 1) told)
 
-pub source-used : (n : ℕ) (direction : Direction) (used inside apart : Bool) (width d from : ℕ)
-    → (inside ≡ true → Inside n direction width from) → (apart ≡ true → Apart direction d from)
-    → (inside && apart) ≡ true → SourceFits n direction used width d from
-source-used n direction used inside apart width d from is gap told uses =
-    (is (and-left inside apart told), gap (and-right inside apart told))
+module _ (n width d from : ℕ) (direction : Direction) (used : Bool) (pending : Pending) where
+  pub source-used : (inside apart : Bool) → (inside ≡ true → Inside n direction width from) → (apart ≡ true → Apart direction d from)
+      → ((inside && apart) && not (pending .waits && eqb from (pending .place))) ≡ true
+      → SourceFits n direction used width d from × ClearOf used pending from
+  source-used inside apart is gap told =
+      let fits : (inside && apart) ≡ true = and-left (inside && apart) (not (pending .waits && eqb from (pending .place))) told in
+      ((λ _. (is (and-left inside apart fits), gap (and-right inside apart fits))),
+      (λ _ waiting. differ from (pending .place) (unmet (pending .waits) waiting (and-right (inside && apart) (not (pending .waits && eqb from (pending .place))) told))))
+    where
+      unmet : (waits : Bool) → waits ≡ true → not (waits && eqb from (pending .place)) ≡ true → not (eqb from (pending .place)) ≡ true
+      unmet true waiting is = is
+      unmet false waiting is = untrue waiting
 
-pub source-unused : (n : ℕ) (direction : Direction) (used : Bool) (width d from : ℕ) → used ≡ false → SourceFits n direction used width d from
-source-unused n direction used width d from idle uses = untrue (sym idle ∙ uses)
+  pub source-unused : used ≡ false
+      → SourceFits n direction used width d from × ClearOf used pending from
+  source-unused idle = ((λ uses. untrue (sym idle ∙ uses)), (λ uses waiting. untrue (sym idle ∙ uses)))
 
-all-three : {A B C : Type 0} (first second third : Bool) → (first ≡ true → A) → (second ≡ true → B) → (third ≡ true → C)
-    → ((first && second) && third) ≡ true → A × B × C
-all-three first second third a b c told =
-    (a (and-left first second (and-left (first && second) third told)),
-    b (and-right first second (and-left (first && second) third told)),
-    c (and-right (first && second) third told))
+pub told-not : (told : Bool) → not told ≡ false → told ≡ true
+told-not true is = refl
+told-not false is = sym is
 
-pub sources-fit : (n width : ℕ) (setup : Setup) (pointers : Pointers) (first second third : Bool)
-    → (first ≡ true → SourceFits n (setup .direction) (setup .uses .a) width (pointers .d .word) (pointers .a .word))
-    → (second ≡ true → SourceFits n (setup .direction) (setup .uses .b) width (pointers .d .word) (pointers .b .word))
-    → (third ≡ true → SourceFits n (setup .direction) (setup .uses .c) width (pointers .d .word) (pointers .c .word))
-    → ((first && second) && third) ≡ true → SourcesFit n setup width pointers
-unfolding SourcesFit
-sources-fit n width setup pointers first second third a b c told = all-three first second third a b c told
+-- all three sources, or none
+module _ (n width : ℕ) (setup : Setup) (flow : Flow) where
+  pub sources-fit :
+      SourceFits n (setup .direction) (setup .uses .a) width (flow .pointers .d .word) (flow .pointers .a .word) × ClearOf (setup .uses .a) (flow .pending) (flow .pointers .a .word)
+      → SourceFits n (setup .direction) (setup .uses .b) width (flow .pointers .d .word) (flow .pointers .b .word) × ClearOf (setup .uses .b) (flow .pending) (flow .pointers .b .word)
+      → SourceFits n (setup .direction) (setup .uses .c) width (flow .pointers .d .word) (flow .pointers .c .word) × ClearOf (setup .uses .c) (flow .pending) (flow .pointers .c .word)
+      → SourcesFit n setup width (flow .pointers) × Clear (setup .uses) (flow .pending) (flow .pointers)
+  unfolding SourcesFit Clear
+  sources-fit a b c = ((a .0, b .0, c .0), (a .1, b .1, c .1))
 
-pub clear-when-used : (used waits : Bool) (place word from : ℕ) → not (waits && eqb from place) ≡ true
-    → ClearOf used (record { waits = waits; place = place; word = word }) from
-clear-when-used used waits place word from told uses waiting = differ from place (both told)
-  where
-    both : not (waits && eqb from place) ≡ true → not (eqb from place) ≡ true
-    both = rw waiting (λ is. is)
+  pub row-taken : (inside : Bool) → n ≤ 262144 → setup .uses .d ≡ true
+      → (inside ≡ true → Inside n (setup .direction) width (flow .pointers .d .word)) → inside ≡ true
+      → SourcesFit n setup width (flow .pointers) × Clear (setup .uses) (flow .pending) (flow .pointers) → Taken n setup width flow
+  unfolding Taken Fits
+  row-taken inside most uses is told fits = ((most, uses, is told, fits .0), fits .1)
 
-pub clear-when-unused : (used : Bool) (pending : Pending) (from : ℕ) → used ≡ false → ClearOf used pending from
-clear-when-unused used pending from idle uses = untrue (sym idle ∙ uses)
-
-pub all-clear : (uses : Uses) (pending : Pending) (pointers : Pointers) (first second third : Bool)
-    → (first ≡ true → ClearOf (uses .a) pending (pointers .a .word))
-    → (second ≡ true → ClearOf (uses .b) pending (pointers .b .word))
-    → (third ≡ true → ClearOf (uses .c) pending (pointers .c .word))
-    → ((first && second) && third) ≡ true → Clear uses pending pointers
-unfolding Clear
-all-clear uses pending pointers first second third a b c told = all-three first second third a b c told
-
-pub row-taken : (n width : ℕ) (setup : Setup) (flow : Flow) (inside fit clear : Bool)
-    → n ≤ 262144 → setup .uses .d ≡ true
-    → (inside ≡ true → Inside n (setup .direction) width (flow .pointers .d .word)) → inside ≡ true
-    → (fit ≡ true → SourcesFit n setup width (flow .pointers))
-    → (clear ≡ true → Clear (setup .uses) (flow .pending) (flow .pointers))
-    → (fit && clear) ≡ true → Taken n setup width flow
-unfolding Taken Fits
-row-taken n width setup flow inside fit clear most uses is told sources clears both =
-    ((most, uses, is told, sources (and-left fit clear both)), clears (and-right fit clear both))
+  pub bare-taken : (inside : Bool) → n ≤ 262144 → setup .uses .d ≡ true
+      → (inside ≡ true → Inside n (setup .direction) width (flow .pointers .d .word)) → inside ≡ true
+      → ((setup .uses .a || setup .uses .b) || setup .uses .c) ≡ false → Taken n setup width flow
+  bare-taken inside most uses is told none =
+      row-taken inside most uses is told
+      (sources-fit (idle-fits (setup .uses .a) (flow .pointers .a .word) (left (setup .uses .a) (setup .uses .b) (left (setup .uses .a || setup .uses .b) (setup .uses .c) none)))
+      (idle-fits (setup .uses .b) (flow .pointers .b .word) (right (setup .uses .a) (setup .uses .b) (left (setup .uses .a || setup .uses .b) (setup .uses .c) none)))
+      (idle-fits (setup .uses .c) (flow .pointers .c .word) (right (setup .uses .a || setup .uses .b) (setup .uses .c) none)))
+    where
+      left : (a b : Bool) → (a || b) ≡ false → a ≡ false
+      left true b none = none
+      left false b none = refl
+      right : (a b : Bool) → (a || b) ≡ false → b ≡ false
+      right true b none = untrue (sym none)
+      right false b none = none
+      idle-fits : (used : Bool) (from : ℕ) → used ≡ false
+          → SourceFits n (setup .direction) used width (flow .pointers .d .word) from × ClearOf used (flow .pending) from
+      idle-fits used from idle = ((λ uses. untrue (sym idle ∙ uses)), (λ uses waiting. untrue (sym idle ∙ uses)))
 
 -- the last word of each used channel's row lies inside
 inside-up-to : (n last from : ℕ) (direction : Direction) → direction ≡ Ascending → Inside n direction (last + 1) from → from + last < n

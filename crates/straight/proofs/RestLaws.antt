@@ -1,8 +1,8 @@
 -- B and C at rest from row to row, and the rows that are left.
-use mathlib.Core.Path.{_≡_, refl, sym, ap, subst, _∙_}
+use mathlib.Core.Path.{_≡_, sym, ap, subst, _∙_}
 use Prim.Native.Nat.{ℕ, zero, suc, _+_, _-_, _*_, _<_, _≤_}
 use native.Mathlib.Omega.{arith}
-use mathlib.Core.Bool.{Bool, true, false, not, _&&_}
+use mathlib.Core.Bool.{Bool, true, false, _&&_}
 use mathlib.Core.List.{List}
 use lib.Dec.{T, leb, leb→le}
 use Rattle.word.specs.declared.types.Pointer.{Pointer}
@@ -79,10 +79,6 @@ module _ (setup : Setup) (width : ℕ) where
       let c : next .sources .c ≡ flow .sources .c = row-c memory after flow end next off known does turns in
       let e : next .earlier .b ≡ flow .sources .b = row-earlier memory after flow end next off known does turns in
       (rw (b, c) (ready off .0), rw (b, e), ready off .2)
-
-pub told-not : (told : Bool) → not told ≡ false → told ≡ true
-told-not true is = refl
-told-not false is = sym is
 
 pub known-small : (n width : ℕ) (setup : Setup) (told : Bool) → (told ≡ true → Known setup width) → (told && leb n 262144) ≡ true → Known setup width × (n ≤ 262144)
 known-small n width setup told known both =

@@ -6,7 +6,6 @@ ghost use Rattle.straight.specs.Fits.{Inside, Apart, SourceFits, Sources
 use area::types::Flow;
 use area::types::Pending;
 use area::types::Setup;
-use area::types::Uses;
 use word::types::Direction;
 
 fn inside(n: usize, direction: Direction, width: u32, from: u32) -> bool
@@ -33,41 +32,32 @@ fn apart(direction: Direction, d: u32, from: u32) -> bool
     }
 }
 
-fn source(n: usize, direction: Direction, used: bool, width: u32, d: u32, from: u32) -> bool
-    ensures { λ told. ⌜ (told ≡ true → SourceFits n direction used width d from) ⌝ }
+// A source's row fits, and its first word isn't the one that waits to be stored.
+fn source(n: usize, direction: Direction, used: bool, width: u32, pending: Pending, d: u32, from: u32) -> bool
+    ensures { λ told. ⌜ (told ≡ true → SourceFits n direction used width d from × ClearOf used pending from) ⌝ }
 {
     if used {
-        return inside(n, direction, width, from) & apart(direction, d, from);
-    }
-    true
-}
-
-fn clear_of(used: bool, pending: Pending, from: u32) -> bool
-    ensures { λ told. ⌜ (told ≡ true → ClearOf used pending from) ⌝ }
-{
-    if used {
-        return !(pending.waits & (from == pending.place));
+        return inside(n, direction, width, from)
+            & apart(direction, d, from)
+            & !(pending.waits & (from == pending.place));
     }
     true
 }
 
 fn sources(n: usize, setup: Setup, width: u32, flow: Flow) -> bool
-    ensures { λ told. ⌜ (told ≡ true → SourcesFit n setup width (flow .pointers)) ⌝ }
+    ensures { λ told. ⌜ (told ≡ true
+        → SourcesFit n setup width (flow .pointers) × Clear (setup .uses) (flow .pending) (flow .pointers)) ⌝ }
 {
     let direction = setup.direction;
-    let d = flow.pointers.d.word;
-    source(n, direction, setup.uses.a, width, d, flow.pointers.a.word)
-        & source(n, direction, setup.uses.b, width, d, flow.pointers.b.word)
-        & source(n, direction, setup.uses.c, width, d, flow.pointers.c.word)
-}
-
-fn clear(uses: Uses, flow: Flow) -> bool
-    ensures { λ told. ⌜ (told ≡ true → Clear uses (flow .pending) (flow .pointers)) ⌝ }
-{
     let pending = flow.pending;
-    clear_of(uses.a, pending, flow.pointers.a.word)
-        & clear_of(uses.b, pending, flow.pointers.b.word)
-        & clear_of(uses.c, pending, flow.pointers.c.word)
+    let d = flow.pointers.d.word;
+    if !source(n, direction, setup.uses.a, width, pending, d, flow.pointers.a.word) {
+        return false;
+    }
+    if !source(n, direction, setup.uses.b, width, pending, d, flow.pointers.b.word) {
+        return false;
+    }
+    source(n, direction, setup.uses.c, width, pending, d, flow.pointers.c.word)
 }
 
 // Asked once a row. Without a source nothing is fetched, and D's row alone tells.
@@ -76,9 +66,11 @@ pub fn fits(n: usize, setup: Setup, width: u32, flow: Flow) -> bool
     ensures { λ told. ⌜ (told ≡ true → Taken n setup width flow) ⌝ }
 {
     let direction = setup.direction;
-    let uses = setup.uses;
     if inside(n, direction, width, flow.pointers.d.word) {
-        return sources(n, setup, width, flow) & clear(uses, flow);
+        if setup.uses.a | setup.uses.b | setup.uses.c {
+            return sources(n, setup, width, flow);
+        }
+        return true;
     }
     false
 }

@@ -6,7 +6,8 @@ use Rattle.area.specs.Flow.{state}
 use Rattle.area.specs.Rows.{rows}
 use Rattle.straight.specs.Sets.{Ready}
 use Rattle.straight.proofs.SetsLaws.{d-used}
-use Rattle.straight.proofs.RestLaws.{told-not, one-row-turn, one-row-room}
+use Rattle.straight.proofs.RestLaws.{one-row-turn, one-row-room}
+use Rattle.straight.proofs.FitsLaws.{told-not}
 use borrow.Author.Needs.{needs}
 use Rattle.straight.proofs.rows.straight_rows.Statement.{statement}
 use Rattle.straight.proofs.rows.straight_rows.Tie as tie

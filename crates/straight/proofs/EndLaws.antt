@@ -49,7 +49,7 @@ pub ended-of-parts : (setup : Setup) (last at : ℕ) (base after : Flow) (end : 
     → pointers .b ≡ gone (setup .direction) (setup .uses .b) (last + 1) (base .pointers .b)
     → pointers .c ≡ gone (setup .direction) (setup .uses .c) (last + 1) (base .pointers .c)
     → pointers .d ≡ gone (setup .direction) (setup .uses .d) (last + 1) (base .pointers .d)
-    → at ≡ place (setup .direction) (base .pointers .d .word) last
+    → setup .uses .d ≡ true → at ≡ place (setup .direction) (base .pointers .d .word) last
     → gone (setup .direction) (setup .uses .d) last (base .pointers .d) .word ≡ place (setup .direction) (base .pointers .d .word) last
     → after ≡ record {
         pointers = pointers;
@@ -58,13 +58,13 @@ pub ended-of-parts : (setup : Setup) (last at : ℕ) (base after : Flow) (end : 
         carry = end .line .carry;
         allzero = base .allzero && eqb (end .line .any) 0;
         stored = base .stored + last;
-        pending = record { waits = setup .uses .d; place = at; word = end .word };
+        pending = record { waits = true; place = at; word = end .word };
     }
     → after ≡ ended setup last base end
 unfolding ended along
-ended-of-parts setup last at base after end pointers a b c d places there is =
+ended-of-parts setup last at base after end pointers a b c d uses places there is =
     let on : last + 1 ≡ suc last = omega arith in
-    rw (is, ← on, there, places, ← a, ← b, ← c, ← d)
+    rw (is, ← on, there, places, ← a, ← b, ← c, ← d, uses)
 
 -- what a row that fits gives of its channels
 module _ (last : ℕ) (setup : Setup) (base : Flow) (fits : Fits 262144 setup (last + 1) (base .pointers)) where
@@ -99,3 +99,20 @@ module _ (last : ℕ) (setup : Setup) (base : Flow) (fits : Fits 262144 setup (l
   pub d-there : gone (setup .direction) (setup .uses .d) last (base .pointers .d) .word ≡ place (setup .direction) (base .pointers .d .word) last
   unfolding Fits
   d-there = place-at (setup .direction) (setup .uses .d) (last + 1) 262144 last (base .pointers .d) (fits .1) (fits .2) (fits .0) (omega arith)
+
+  pub d-is-used : setup .uses .d ≡ true
+  unfolding Fits
+  d-is-used = fits .1
+
+  pub d-gone : (next : Pointer) → next ≡ gone (setup .direction) true (last + 1) (base .pointers .d)
+      → next ≡ gone (setup .direction) (setup .uses .d) (last + 1) (base .pointers .d)
+  d-gone next goes = rw d-is-used goes
+
+-- D's first word lies inside
+pub d-inside : (n last : ℕ) (setup : Setup) (pointers : Pointers) → Fits n setup (last + 1) pointers → pointers .d .word < n
+unfolding Fits
+d-inside n last setup pointers fits = first (setup .direction) (pointers .d .word) (fits .2)
+  where
+    first : (direction : Direction) (from : ℕ) → Inside n direction (last + 1) from → from < n
+    first Ascending from inside = omega arith
+    first Descending from inside = inside .0

@@ -143,7 +143,7 @@ fn first(ram: &mut [u16], setup: Setup, two: Two, last: u32, base: Flow) -> Line
 {
     let a = word::memory::read(ram, base.pointers.a.word);
     let end = crate::words::alone_word(setup, two, true, false, a, crate::words::opened(base));
-    word::memory::write(ram, base.pointers.d.word, end.word);
+    ram[base.pointers.d.word as usize] = end.word;
     let line = end.line;
     line
 }

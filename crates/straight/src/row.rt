@@ -64,7 +64,7 @@ fn pointers(setup: Setup, last: u32, base: Flow) -> Pointers
     let a = gone(direction, uses.a, last + 1, from_a);
     let b = gone(direction, uses.b, last + 1, from_b);
     let c = gone(direction, uses.c, last + 1, from_c);
-    let d = gone(direction, uses.d, last + 1, from_d);
+    let d = gone(direction, true, last + 1, from_d);
     Pointers { a, b, c, d }
 }
 
@@ -83,7 +83,7 @@ fn ended(setup: Setup, last: u32, base: Flow, end: Ended) -> Flow
         b: end.line.earlier.b,
     };
     let pending = Pending {
-        waits: setup.uses.d,
+        waits: true,
         place: crate::words::place(direction, base.pointers.d.word, last),
         word: end.word,
     };

@@ -83,7 +83,7 @@ fn first(ram: &mut [u16], setup: Setup, two: Two, last: u32, base: Flow) -> Line
         ≡ words setup (last + 1) (last + 1) (state (now (ram .entry)) base)) ⌝ }
 {
     let end = crate::words::same_word(setup, two, true, false, crate::words::opened(base));
-    word::memory::write(ram, base.pointers.d.word, end.word);
+    ram[base.pointers.d.word as usize] = end.word;
     let line = end.line;
     line
 }

@@ -158,7 +158,7 @@ fn first(ram: &mut [u16], setup: Setup, last: u32, base: Flow) -> Line
     let start = crate::words::opened(base);
     let sources = sources_at(ram, setup, base, 0, start);
     let end = crate::words::three_word(setup, true, false, sources, start);
-    word::memory::write(ram, base.pointers.d.word, end.word);
+    ram[base.pointers.d.word as usize] = end.word;
     let line = end.line;
     line
 }

@@ -1,4 +1,5 @@
 -- `straight::alone::first` meets its contract: the first word, stored.
+use Rattle.straight.proofs.EndLaws.{d-inside}
 use Rattle.straight.proofs.RowLaws.{folds-open, rests-open, folds-next, rests-next, alone-first}
 use borrow.Author.Needs.{needs}
 use Rattle.straight.proofs.alone.first.Statement.{statement}
@@ -13,8 +14,14 @@ opened-requires c κs = search needs
 alone-word-requires : tie.Need-alone-word-requires
 alone-word-requires c κs = search (needs, folds-open, rests-open)
 
-write-requires : tie.Need-write-requires
-write-requires c κs = search needs
+cast-ram : tie.Need-cast-ram
+cast-ram c = search needs
+
+mul-ram : tie.Need-mul-ram
+mul-ram c = search needs
+
+slice-write-ram : tie.Need-slice-write-ram
+slice-write-ram c = search (needs, d-inside)
 
 same-length : tie.Need-same-length
 same-length c = search needs
@@ -25,4 +32,12 @@ returns c = search (rests-next, folds-open, folds-next, alone-first)
 pub first-spec : {M : Type 1} → statement M
 first-spec =
     tie.close
-    (tie.spec read-requires opened-requires alone-word-requires write-requires same-length returns)
+    (tie.spec
+    read-requires
+    opened-requires
+    alone-word-requires
+    cast-ram
+    mul-ram
+    slice-write-ram
+    same-length
+    returns)

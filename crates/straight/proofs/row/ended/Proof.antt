@@ -1,5 +1,5 @@
 -- `straight::row::ended` meets its contract: it is the definition, by its parts.
-use Rattle.straight.proofs.EndLaws.{d-reaches, d-there, ended-of-parts}
+use Rattle.straight.proofs.EndLaws.{d-reaches, d-there, d-is-used, ended-of-parts}
 use borrow.Author.Needs.{needs}
 use Rattle.straight.proofs.row.ended.Statement.{statement}
 use Rattle.straight.proofs.row.ended.Tie as tie
@@ -14,7 +14,7 @@ add-t11 : tie.Need-add-t11
 add-t11 c = search needs
 
 returns : tie.Need-returns
-returns c = search (ended-of-parts, d-there)
+returns c = search (ended-of-parts, d-there, d-is-used)
 
 pub ended-spec : {M : Type 1} → statement M
 ended-spec = tie.close (tie.spec pointers-requires place-requires add-t11 returns)

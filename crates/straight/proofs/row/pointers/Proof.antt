@@ -1,5 +1,5 @@
 -- `straight::row::pointers` meets its contract: its four calls.
-use Rattle.straight.proofs.EndLaws.{a-small, b-small, c-small, d-small}
+use Rattle.straight.proofs.EndLaws.{a-small, b-small, c-small, d-small, d-is-used, d-gone}
 use borrow.Author.Needs.{needs}
 use Rattle.straight.proofs.row.pointers.Statement.{statement}
 use Rattle.straight.proofs.row.pointers.Tie as tie
@@ -26,10 +26,10 @@ add-gone-4 : tie.Need-add-gone-4
 add-gone-4 c = search needs
 
 gone-requires-4 : tie.Need-gone-requires-4
-gone-requires-4 c κs = search (needs, d-small)
+gone-requires-4 c κs = search (needs, d-small, d-is-used)
 
 returns : tie.Need-returns
-returns c = search needs
+returns c = (search needs, search needs, search needs, search d-gone)
 
 pub pointers-spec : {M : Type 1} → statement M
 pointers-spec =

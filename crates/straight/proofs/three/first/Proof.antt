@@ -1,4 +1,5 @@
 -- `straight::three::first` meets its contract: the first word, stored.
+use Rattle.straight.proofs.EndLaws.{d-inside}
 use Rattle.straight.proofs.RowLaws.{three-first}
 use borrow.Author.Needs.{needs}
 use Rattle.straight.proofs.three.first.Statement.{statement}
@@ -13,8 +14,14 @@ sources-at-requires c κs = search needs
 three-word-requires : tie.Need-three-word-requires
 three-word-requires c κs = search needs
 
-write-requires : tie.Need-write-requires
-write-requires c κs = search needs
+cast-ram : tie.Need-cast-ram
+cast-ram c = search needs
+
+mul-ram : tie.Need-mul-ram
+mul-ram c = search needs
+
+slice-write-ram : tie.Need-slice-write-ram
+slice-write-ram c = search (needs, d-inside)
 
 same-length : tie.Need-same-length
 same-length c = search needs
@@ -29,6 +36,8 @@ first-spec =
     opened-requires
     sources-at-requires
     three-word-requires
-    write-requires
+    cast-ram
+    mul-ram
+    slice-write-ram
     same-length
     returns)

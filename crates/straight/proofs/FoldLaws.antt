@@ -1,15 +1,14 @@
 -- The logic function folded into two words, and a word with A alone.
-use mathlib.Core.Path.{_≡_, refl, sym, ap, subst, _∙_}
+use mathlib.Core.Path.{_≡_, sym, ap, subst, _∙_}
 use Prim.Native.Nat.{ℕ, _<_}
 use native.Mathlib.Omega.{arith}
-use mathlib.Core.Bool.{Bool, true, false}
+use mathlib.Core.Bool.{Bool, true}
 use lib.Bits.{bitAnd, bitOr, bitXor, and-zero-r, xor-zero-r}
 use lib.Dec.{T, eqb, eqb→eq}
 use Rattle.word.specs.declared.types.Direction.{Direction}
 use Rattle.word.specs.declared.types.Direction.the-variants.{Ascending, Descending}
 use Rattle.word.specs.declared.types.Fill.the-variants.{Off}
 use Rattle.word.specs.declared.types.Filled.{Filled}
-use Rattle.word.specs.Mask.{maskedWhen, masked}
 use Rattle.word.specs.Shift.{shifted}
 use Rattle.word.specs.Logic.{logic}
 use Rattle.word.specs.Fill.{filled}
@@ -107,36 +106,20 @@ module _ (setup : Setup) (two : Two) (first last : Bool) (masked : ℕ) (line af
   same-ended end is = rw (is, same-next, ← same-final)
 
 -- a word of three sources
-pub three-ended : (setup : Setup) (first last : Bool) (sources : Sources) (masked a b word : ℕ) (made : Filled) (line after : Line) (end : Ended)
-    → masked ≡ maskedOf setup first last (sources .a)
-    → a ≡ shifted (setup .direction) (setup .shifts .a) (line .earlier .a) masked
-    → b ≡ shifted (setup .direction) (setup .shifts .b) (line .earlier .b) (sources .b)
-    → word ≡ logic (setup .function) a b (sources .c) → made ≡ filled (setup .fill) (line .carry) word
-    → after ≡ record {
-        sources = sources;
-        earlier = record { a = masked; b = sources .b };
-        carry = made .carry;
-        any = bitOr (line .any) (made .word);
-    }
-    → end ≡ record { word = made .word; line = after }
-    → end ≡ endedWord setup first last sources line
-unfolding endedWord nextLine finalOf
-three-ended setup first last sources masked a b word made line after end masks shiftsA shiftsB joins fills hands ends = rw (ends, hands, fills, joins, shiftsA, shiftsB, masks)
-
-pub upward-ended : (setup : Setup) (sources : Sources) (a b word : ℕ) (line after : Line) (end : Ended)
+pub upward-ended : (setup : Setup) (first last : Bool) (sources : Sources) (masked a b word : ℕ) (line after : Line) (end : Ended)
     → setup .direction ≡ Ascending → setup .fill ≡ Off
-    → a ≡ shifted Ascending (setup .shifts .a) (line .earlier .a) (sources .a)
+    → masked ≡ maskedOf setup first last (sources .a)
+    → a ≡ shifted Ascending (setup .shifts .a) (line .earlier .a) masked
     → b ≡ shifted Ascending (setup .shifts .b) (line .earlier .b) (sources .b)
     → word ≡ logic (setup .function) a b (sources .c)
     → after ≡ record {
         sources = sources;
-        earlier = record { a = sources .a; b = sources .b };
+        earlier = record { a = masked; b = sources .b };
         carry = line .carry;
         any = bitOr (line .any) word;
     }
     → end ≡ record { word = word; line = after }
-    → end ≡ endedWord setup false false sources line
-unfolding masked maskedWhen filled
-upward-ended setup sources a b word line after end way off shiftsA shiftsB joins hands ends =
-    three-ended setup false false sources (sources .a) a b word (record { word = word; carry = line .carry }) line after end
-    refl (rw way shiftsA) (rw way shiftsB) joins (rw off) hands ends
+    → end ≡ endedWord setup first last sources line
+unfolding endedWord nextLine finalOf filled
+upward-ended setup first last sources masked a b word line after end way off masks shiftsA shiftsB joins hands ends =
+    rw (ends, hands, off, way, joins, shiftsA, shiftsB, masks)

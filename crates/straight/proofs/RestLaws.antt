@@ -17,8 +17,8 @@ use Rattle.area.specs.Fetch.{fetched, fetch}
 use Rattle.area.specs.Finish.{finish}
 use Rattle.area.specs.Store.{wait, storePending}
 use Rattle.area.specs.Move.{moveOn, rowEnd}
-use Rattle.area.specs.Rows.{finishedWord, storedBefore, oneWord, words, rowStart, oneRow, rows}
-use Rattle.area.proofs.RowsLaws.{oneRow-counts}
+use Rattle.area.specs.Rows.{finishedWord, storedBefore, oneWord, words, rowStart, oneRow, rows, areaBlit}
+use Rattle.area.proofs.RowsLaws.{oneRow-counts, rows-leave-room, areaBlit-of-parts}
 use Rattle.straight.specs.declared.types.Two.{Two}
 use Rattle.straight.specs.Fold.{Folds, Rests}
 use Rattle.straight.specs.Sets.{Known, Ready}
@@ -101,3 +101,14 @@ one-row-room setup width left memory after flow next more narrow does room =
 pub known-kept : (n m width : ℕ) (setup : Setup) (told : Bool) → n ≡ m → (told ≡ true → Known setup width × (m ≤ 262144)) → told ≡ true
     → Known setup width × (n ≤ 262144)
 known-kept n m width setup told same known is = (known is .0, rw same (known is .1))
+
+-- all rows, the first of them straight
+module _ (setup : Setup) (width height left : ℕ) (memory begun after : List ℕ) (flow here end : Flow)
+    (begins : rows setup width left (state begun here) ≡ rows setup width height (state memory flow))
+    (does : state after end ≡ rows setup width left (state begun here)) where
+  pub blit-leaves-room : width ≤ 64 → flow .stored + height * 64 < 4294967295 → end .stored < 4294967295
+  blit-leaves-room narrow room = rows-leave-room setup width height memory after flow end narrow (does ∙ begins) room
+
+  pub blit-of-parts : (last : List ℕ) (stored : Flow) → state last stored ≡ storePending (state after end)
+      → state last stored ≡ areaBlit setup width height (state memory flow)
+  blit-of-parts last stored stores = areaBlit-of-parts setup width height memory after last flow end stored (does ∙ begins) stores

@@ -23,7 +23,7 @@ fn inside(n: usize, direction: Direction, width: u32, from: u32) -> bool
 }
 
 // With D one word ahead each word is fetched while it is pending.
-fn apart(direction: Direction, d: u32, from: u32) -> bool
+pub fn apart(direction: Direction, d: u32, from: u32) -> bool
     ensures { λ told. ⌜ (told ≡ true → Apart direction d from) ⌝ }
 {
     match direction {

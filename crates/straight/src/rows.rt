@@ -53,8 +53,53 @@ fn straight_rows(ram: &mut [u16], setup: Setup, two: Two, width: u32, left: u32,
     }
 }
 
-// The straight rows from here, if the set is known and B rests.
-fn fast_rows(ram: &mut [u16], known: bool, setup: Setup, width: u32, left: u32, flow: Flow) -> Rest
+// The straight rows from here, if B rests.
+fn fast_rows(ram: &mut [u16], setup: Setup, width: u32, left: u32, flow: Flow) -> Rest
+    requires { ⌜ (setup .shifts .a < 16) × (setup .shifts .b < 16) × (width ≤ 64) × (length (now ram) ≤ 262144)
+        × (flow .stored + left * 64 < 4294967296) × Known setup width ⌝ }
+    ensures { λ rest. ⌜ (rest .left ≤ left) × (rest .flow .stored + rest .left * 64 < 4294967296)
+        × (rows setup width (rest .left) (state (now (ram .exit)) (rest .flow))
+        ≡ rows setup width left (state (now (ram .entry)) flow)) ⌝ }
+{
+    let two = crate::fold::two(setup, flow);
+    if crate::sets::ready(setup, two, flow) {
+        return straight_rows(ram, setup, two, width, left, flow);
+    }
+    Rest { left, flow }
+}
+
+// Rows word by word, up to the first after which one may fit again. A copy to a word ahead has none.
+fn plain_rows(ram: &mut [u16], known: bool, setup: Setup, width: u32, left: u32, flow: Flow) -> Rest
+    requires { ⌜ (setup .shifts .a < 16) × (setup .shifts .b < 16) × (0 < left) × (width ≤ 64)
+        × (flow .stored + left * 64 < 4294967296) ⌝ }
+    ensures { λ rest. ⌜ (rest .left < left) × (rest .flow .stored + rest .left * 64 < 4294967296)
+        × (rows setup width (rest .left) (state (now (ram .exit)) (rest .flow))
+        ≡ rows setup width left (state (now (ram .entry)) flow)) ⌝ }
+{
+    let mut here = flow;
+    let mut more = left;
+    while 0 < more {
+        let one = area::rows::some_rows(ram, setup, width, more, here);
+        more = one.left;
+        here = one.flow;
+        if known {
+            let direction = setup.direction;
+            if crate::fits::apart(direction, here.pointers.d.word, here.pointers.a.word) {
+                return Rest {
+                    left: more,
+                    flow: here,
+                };
+            }
+        }
+    }
+    Rest {
+        left: more,
+        flow: here,
+    }
+}
+
+// The straight rows from here, if the set is known.
+fn some_rows(ram: &mut [u16], known: bool, setup: Setup, width: u32, left: u32, flow: Flow) -> Rest
     requires { ⌜ (setup .shifts .a < 16) × (setup .shifts .b < 16) × (width ≤ 64)
         × (flow .stored + left * 64 < 4294967296)
         × (known ≡ true → Known setup width × (length (now ram) ≤ 262144)) ⌝ }
@@ -63,29 +108,9 @@ fn fast_rows(ram: &mut [u16], known: bool, setup: Setup, width: u32, left: u32, 
         ≡ rows setup width left (state (now (ram .entry)) flow)) ⌝ }
 {
     if known {
-        let two = crate::fold::two(setup, flow);
-        if crate::sets::ready(setup, two, flow) {
-            return straight_rows(ram, setup, two, width, left, flow);
-        }
+        return fast_rows(ram, setup, width, left, flow);
     }
     Rest { left, flow }
-}
-
-// The straight rows from here, and one row word by word if any is left.
-fn some_rows(ram: &mut [u16], known: bool, setup: Setup, width: u32, left: u32, flow: Flow) -> Rest
-    requires { ⌜ (setup .shifts .a < 16) × (setup .shifts .b < 16) × (0 < left) × (width ≤ 64)
-        × (flow .stored + left * 64 < 4294967296)
-        × (known ≡ true → Known setup width × (length (now ram) ≤ 262144)) ⌝ }
-    ensures { λ rest. ⌜ (rest .left < left) × (rest .flow .stored + rest .left * 64 < 4294967296)
-        × (rows setup width (rest .left) (state (now (ram .exit)) (rest .flow))
-        ≡ rows setup width left (state (now (ram .entry)) flow)) ⌝ }
-{
-    let rest = fast_rows(ram, known, setup, width, left, flow);
-    if rest.left == 0 {
-        return rest;
-    }
-    let here = rest.flow;
-    area::rows::some_rows(ram, setup, width, rest.left, here)
 }
 
 fn known(n: usize, setup: Setup, width: u32) -> bool
@@ -94,6 +119,7 @@ fn known(n: usize, setup: Setup, width: u32) -> bool
     crate::sets::known(setup, width) & (n <= 262144)
 }
 
+// Row by row: one word by word, then those that fit.
 pub fn rows(ram: &mut [u16], setup: Setup, width: u32, height: u32, flow: Flow) -> Flow
     requires { ⌜ (setup .shifts .a < 16) × (setup .shifts .b < 16)
         × (width ≤ 64) × (flow .stored + height * 64 < 4294967296) ⌝ }
@@ -105,14 +131,30 @@ pub fn rows(ram: &mut [u16], setup: Setup, width: u32, height: u32, flow: Flow) 
     let mut here = flow;
     let mut left = height;
     while 0 < left {
-        let rest = some_rows(ram, known, setup, width, left, here);
+        let one = plain_rows(ram, known, setup, width, left, here);
+        let after = one.flow;
+        let rest = some_rows(ram, known, setup, width, one.left, after);
         left = rest.left;
         here = rest.flow;
     }
     here
 }
 
-// All rows, and the last word stored at the end.
+// The straight rows from the start on.
+fn first_rows(ram: &mut [u16], setup: Setup, width: u32, left: u32, flow: Flow) -> Rest
+    requires { ⌜ (setup .shifts .a < 16) × (setup .shifts .b < 16) × (width ≤ 64)
+        × (flow .stored + left * 64 < 4294967296) ⌝ }
+    ensures { λ rest. ⌜ (rest .left ≤ left) × (rest .flow .stored + rest .left * 64 < 4294967296)
+        × (rows setup width (rest .left) (state (now (ram .exit)) (rest .flow))
+        ≡ rows setup width left (state (now (ram .entry)) flow)) ⌝ }
+{
+    if known(ram.len(), setup, width) {
+        return fast_rows(ram, setup, width, left, flow);
+    }
+    Rest { left, flow }
+}
+
+// All rows, those that fit from the start on first, and the last word stored at the end.
 pub fn area_blit(ram: &mut [u16], setup: Setup, width: u32, height: u32, flow: Flow) -> Flow
     requires { ⌜ (setup .shifts .a < 16) × (setup .shifts .b < 16)
         × (width ≤ 64) × (flow .stored + height * 64 < 4294967295) ⌝ }
@@ -120,6 +162,8 @@ pub fn area_blit(ram: &mut [u16], setup: Setup, width: u32, height: u32, flow: F
         state (now (ram .exit)) after
         ≡ areaBlit setup width height (state (now (ram .entry)) flow) ⌝ }
 {
-    let end = rows(ram, setup, width, height, flow);
+    let rest = first_rows(ram, setup, width, height, flow);
+    let here = rest.flow;
+    let end = rows(ram, setup, width, rest.left, here);
     area::store::store_pending(ram, end)
 }

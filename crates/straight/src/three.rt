@@ -32,7 +32,7 @@ fn abc(ram: &mut [u16], setup: Setup, last: u32, base: Flow, line: Line) -> Line
         let a = ram[base.pointers.a.word as usize + i];
         let b = ram[base.pointers.b.word as usize + i];
         let c = ram[base.pointers.c.word as usize + i];
-        let end = crate::words::upward(setup, Sources { a, b, c }, here);
+        let end = crate::words::upward(setup, false, false, Sources { a, b, c }, here);
         ram[base.pointers.d.word as usize + i] = end.word;
         here = end.line;
         i = i + 1;
@@ -56,7 +56,7 @@ fn abd(ram: &mut [u16], setup: Setup, last: u32, base: Flow, line: Line) -> Line
         let a = ram[base.pointers.a.word as usize + i];
         let b = ram[base.pointers.b.word as usize + i];
         let c = ram[base.pointers.d.word as usize + i];
-        let end = crate::words::upward(setup, Sources { a, b, c }, here);
+        let end = crate::words::upward(setup, false, false, Sources { a, b, c }, here);
         ram[base.pointers.d.word as usize + i] = end.word;
         here = end.line;
         i = i + 1;
@@ -80,7 +80,7 @@ fn bc(ram: &mut [u16], setup: Setup, last: u32, base: Flow, line: Line) -> Line
         let a = here.sources.a;
         let b = ram[base.pointers.b.word as usize + i];
         let c = ram[base.pointers.c.word as usize + i];
-        let end = crate::words::upward(setup, Sources { a, b, c }, here);
+        let end = crate::words::upward(setup, false, false, Sources { a, b, c }, here);
         ram[base.pointers.d.word as usize + i] = end.word;
         here = end.line;
         i = i + 1;
@@ -104,7 +104,7 @@ fn bd(ram: &mut [u16], setup: Setup, last: u32, base: Flow, line: Line) -> Line
         let a = here.sources.a;
         let b = ram[base.pointers.b.word as usize + i];
         let c = ram[base.pointers.d.word as usize + i];
-        let end = crate::words::upward(setup, Sources { a, b, c }, here);
+        let end = crate::words::upward(setup, false, false, Sources { a, b, c }, here);
         ram[base.pointers.d.word as usize + i] = end.word;
         here = end.line;
         i = i + 1;
@@ -149,7 +149,8 @@ fn sources_at(ram: &[u16], setup: Setup, base: Flow, i: u32, line: Line) -> Sour
 
 // The first word of the row, stored.
 fn first(ram: &mut [u16], setup: Setup, last: u32, base: Flow) -> Line
-    requires { ⌜ (setup .shifts .a < 16) × (setup .shifts .b < 16) × (1 ≤ last) × (setup .direction ≡ Ascending)
+    requires { ⌜ (setup .shifts .a < 16) × (setup .shifts .b < 16) × (1 ≤ last)
+        × (setup .direction ≡ Ascending) × (setup .fill ≡ Off)
         × (base .pending ≡ nothing) × Fits (length (now ram)) setup (last + 1) (base .pointers) ⌝ }
     ensures { λ line. ⌜
         words setup (last + 1) last (state (now (ram .exit)) (along setup base 1 line))
@@ -157,7 +158,7 @@ fn first(ram: &mut [u16], setup: Setup, last: u32, base: Flow) -> Line
 {
     let start = crate::words::opened(base);
     let sources = sources_at(ram, setup, base, 0, start);
-    let end = crate::words::three_word(setup, true, false, sources, start);
+    let end = crate::words::upward(setup, true, false, sources, start);
     ram[base.pointers.d.word as usize] = end.word;
     let line = end.line;
     line
@@ -165,14 +166,15 @@ fn first(ram: &mut [u16], setup: Setup, last: u32, base: Flow) -> Line
 
 // The last word of the row, which waits.
 fn last_word(ram: &[u16], setup: Setup, last: u32, base: Flow, line: Line) -> Ended
-    requires { ⌜ (setup .shifts .a < 16) × (setup .shifts .b < 16) × (1 ≤ last) × (setup .direction ≡ Ascending)
+    requires { ⌜ (setup .shifts .a < 16) × (setup .shifts .b < 16) × (1 ≤ last)
+        × (setup .direction ≡ Ascending) × (setup .fill ≡ Off)
         × Fits (length (now ram)) setup (last + 1) (base .pointers) ⌝ }
     ensures { λ end. ⌜
         words setup (last + 1) 1 (state (now (ram .entry)) (along setup base last line))
         ≡ state (now (ram .entry)) (ended setup last base end) ⌝ }
 {
     let sources = sources_at(ram, setup, base, last, line);
-    crate::words::three_word(setup, false, true, sources, line)
+    crate::words::upward(setup, false, true, sources, line)
 }
 
 pub fn row(ram: &mut [u16], setup: Setup, last: u32, base: Flow) -> Ended

@@ -1,6 +1,5 @@
 // One word of a straight row, and what it hands on.
 ghost use mathlib.Core.Path.{_≡_};
-ghost use mathlib.Core.Bool.{false};
 ghost use Prim.Native.Nat.{_+_, _<_};
 ghost use lib.Bits.{bitOr};
 ghost use Rattle.word.specs.declared.types.Direction.the-variants.{Ascending};
@@ -103,37 +102,20 @@ pub fn alone_word(setup: Setup, two: Two, first: bool, last: bool, a: u16, line:
     }
 }
 
-// The first or the last word of a row with three sources.
-pub fn three_word(setup: Setup, first: bool, last: bool, sources: Sources, line: Line) -> Ended
-    requires { ⌜ (setup .shifts .a < 16) × (setup .shifts .b < 16) ⌝ }
-    ensures { λ end. ⌜ end ≡ endedWord setup first last sources line ⌝ }
-{
-    let direction = setup.direction;
-    let fill = setup.fill;
-    let masked = masked_a(setup, first, last, sources.a);
-    let a = word::shift::shifted(direction, setup.shifts.a, line.earlier.a, masked);
-    let b = word::shift::shifted(direction, setup.shifts.b, line.earlier.b, sources.b);
-    let made = word::fill::filled(fill, line.carry, word::logic::logic(setup.function, a, b, sources.c));
-    let after = handed_on(sources, masked, made, line);
-    Ended {
-        word: made.word,
-        line: after,
-    }
-}
-
-// A word between the first and the last of a row with three sources, upward and not filled.
-pub fn upward(setup: Setup, sources: Sources, line: Line) -> Ended
+// A word of a row with three sources, upward and not filled.
+pub fn upward(setup: Setup, first: bool, last: bool, sources: Sources, line: Line) -> Ended
     requires { ⌜ (setup .shifts .a < 16) × (setup .shifts .b < 16)
         × (setup .direction ≡ Ascending) × (setup .fill ≡ Off) ⌝ }
-    ensures { λ end. ⌜ end ≡ endedWord setup false false sources line ⌝ }
+    ensures { λ end. ⌜ end ≡ endedWord setup first last sources line ⌝ }
 {
-    let a = word::shift::ascending(setup.shifts.a, line.earlier.a, sources.a);
+    let masked = masked_a(setup, first, last, sources.a);
+    let a = word::shift::ascending(setup.shifts.a, line.earlier.a, masked);
     let b = word::shift::ascending(setup.shifts.b, line.earlier.b, sources.b);
     let made = Filled {
         word: word::logic::logic(setup.function, a, b, sources.c),
         carry: line.carry,
     };
-    let after = handed_on(sources, sources.a, made, line);
+    let after = handed_on(sources, masked, made, line);
     Ended {
         word: made.word,
         line: after,

@@ -10,7 +10,7 @@ ready-requires : tie.Need-ready-requires
 ready-requires c κs = search needs
 
 straight-rows-requires : tie.Need-straight-rows-requires
-straight-rows-requires c κs = (search needs, search needs, search needs, c .before .before .before .before .before .before .pre .4 (c .before .before .before .before .if1 .taken) .1, search needs, c .before .before .before .before .before .before .pre .4 (c .before .before .before .before .if1 .taken) .0, c .before .before .ready .ensures (c .before .if2 .taken))
+straight-rows-requires c κs = (search needs, search needs, search needs, search needs, search needs, search needs, c .before .before .ready .ensures (c .before .if1 .taken))
 
 same-length : tie.Need-same-length
 same-length c = search needs
@@ -21,17 +21,7 @@ returns c = search needs
 returns-2 : tie.Need-returns-2
 returns-2 c = search needs
 
-returns-3 : tie.Need-returns-3
-returns-3 c = search needs
-
 pub fast-rows-spec : {M : Type 1} → statement M
 fast-rows-spec =
     tie.close
-    (tie.spec
-    two-requires
-    ready-requires
-    straight-rows-requires
-    same-length
-    returns
-    returns-2
-    returns-3)
+    (tie.spec two-requires ready-requires straight-rows-requires same-length returns returns-2)

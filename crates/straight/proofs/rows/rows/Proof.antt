@@ -23,8 +23,11 @@ known-requires c κs = search needs
 loop-holds : tie.Need-loop-holds Inv-loop μ-loop
 loop-holds c = search needs
 
+plain-rows-requires : tie.Need-plain-rows-requires Inv-loop μ-loop
+plain-rows-requires c κs = search needs
+
 some-rows-requires : tie.Need-some-rows-requires Inv-loop μ-loop
-some-rows-requires c κs = (search needs, search needs, search needs, search needs, search needs, known-kept _ _ _ _ _ (c .before .before .loop .inv .2) (c .before .before .before .known .ensures))
+some-rows-requires c κs = (search needs, search needs, search needs, search needs, known-kept _ _ _ _ _ (search needs) (c .before .before .before .before .before .before .before .before .known .ensures))
 
 loop-less : tie.Need-loop-less Inv-loop μ-loop
 loop-less c = search needs
@@ -46,6 +49,7 @@ rows-spec =
     μ-loop
     known-requires
     loop-holds
+    plain-rows-requires
     some-rows-requires
     loop-less
     loop-again

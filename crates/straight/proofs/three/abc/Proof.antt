@@ -73,7 +73,7 @@ mul-ram : tie.Need-mul-ram Inv-loop μ-loop
 mul-ram c = search (needs, c .before .before .before .before .before .before .before .before .loop-test .taken, c .before .before .before .before .before .before .before .before .before .before .before .pre .3)
 
 slice-write-ram : tie.Need-slice-write-ram Inv-loop μ-loop
-slice-write-ram c = search needs
+slice-write-ram c = search (needs, c .before .before .before .before .before .before .before .before .loop-test .taken, c .before .before .before .before .before .before .before .before .before .loop .inv .6, c .before .before .before .before .before .before .before .before .before .loop .inv .2)
 
 add-i : tie.Need-add-i Inv-loop μ-loop
 add-i c = search (needs, c .before .before .before .before .before .before .before .before .before .loop-test .taken, c .before .before .before .before .before .before .before .before .before .before .before .before .pre .3)

@@ -11,8 +11,8 @@ opened-requires c κs = search needs
 sources-at-requires : tie.Need-sources-at-requires
 sources-at-requires c κs = search needs
 
-three-word-requires : tie.Need-three-word-requires
-three-word-requires c κs = search needs
+upward-requires : tie.Need-upward-requires
+upward-requires c κs = search needs
 
 cast-ram : tie.Need-cast-ram
 cast-ram c = search needs
@@ -35,7 +35,7 @@ first-spec =
     (tie.spec
     opened-requires
     sources-at-requires
-    three-word-requires
+    upward-requires
     cast-ram
     mul-ram
     slice-write-ram

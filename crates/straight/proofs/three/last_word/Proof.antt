@@ -7,11 +7,11 @@ use Rattle.straight.proofs.three.last_word.Tie as tie
 sources-at-requires : tie.Need-sources-at-requires
 sources-at-requires c κs = search needs
 
-three-word-requires : tie.Need-three-word-requires
-three-word-requires c κs = search needs
+upward-requires : tie.Need-upward-requires
+upward-requires c κs = search needs
 
 returns : tie.Need-returns
 returns c = search three-last
 
 pub last-word-spec : {M : Type 1} → statement M
-last-word-spec = tie.close (tie.spec sources-at-requires three-word-requires returns)
+last-word-spec = tie.close (tie.spec sources-at-requires upward-requires returns)

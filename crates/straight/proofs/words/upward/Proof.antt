@@ -4,6 +4,9 @@ use borrow.Author.Needs.{needs}
 use Rattle.straight.proofs.words.upward.Statement.{statement}
 use Rattle.straight.proofs.words.upward.Tie as tie
 
+masked-a-requires : tie.Need-masked-a-requires
+masked-a-requires c κs = search needs
+
 ascending-requires : tie.Need-ascending-requires
 ascending-requires c κs = search needs
 
@@ -22,4 +25,10 @@ returns c = search upward-ended
 pub upward-spec : {M : Type 1} → statement M
 upward-spec =
     tie.close
-    (tie.spec ascending-requires ascending-requires-2 logic-requires handed-on-requires returns)
+    (tie.spec
+    masked-a-requires
+    ascending-requires
+    ascending-requires-2
+    logic-requires
+    handed-on-requires
+    returns)

@@ -3,7 +3,7 @@ ghost use mathlib.Core.Path.{_≡_};
 ghost use Prim.Native.Nat.{_+_, _*_, _<_, _≤_};
 ghost use Rattle.area.specs.Flow.{state};
 ghost use Rattle.area.specs.With.{withCarry};
-ghost use Rattle.area.specs.Rows.{oneWord, words, rowStart, rows, areaBlit};
+ghost use Rattle.area.specs.Rows.{oneWord, words, rowStart, rows};
 use crate::types::Earlier;
 use crate::types::Flow;
 use crate::types::Setup;
@@ -98,33 +98,4 @@ pub fn some_rows(ram: &mut [u16], setup: Setup, width: u32, left: u32, flow: Flo
         left: left - 1,
         flow: after,
     }
-}
-
-pub fn rows(ram: &mut [u16], setup: Setup, width: u32, height: u32, flow: Flow) -> Flow
-    requires { ⌜ (setup .shifts .a < 16) × (setup .shifts .b < 16)
-        × (width ≤ 64) × (flow .stored + height * 64 < 4294967296) ⌝ }
-    ensures { λ after. ⌜
-        state (now (ram .exit)) after
-        ≡ rows setup width height (state (now (ram .entry)) flow) ⌝ }
-{
-    let mut here = flow;
-    let mut left = height;
-    while 0 < left {
-        let rest = some_rows(ram, setup, width, left, here);
-        left = rest.left;
-        here = rest.flow;
-    }
-    here
-}
-
-// All rows, and the last word stored at the end.
-pub fn area_blit(ram: &mut [u16], setup: Setup, width: u32, height: u32, flow: Flow) -> Flow
-    requires { ⌜ (setup .shifts .a < 16) × (setup .shifts .b < 16)
-        × (width ≤ 64) × (flow .stored + height * 64 < 4294967295) ⌝ }
-    ensures { λ after. ⌜
-        state (now (ram .exit)) after
-        ≡ areaBlit setup width height (state (now (ram .entry)) flow) ⌝ }
-{
-    let end = rows(ram, setup, width, height, flow);
-    crate::store::store_pending(ram, end)
 }

@@ -34,10 +34,10 @@ pub alone-turn : (n last i : ℕ) (setup : Setup) (base : Flow) (memory : List �
     → shiftedA ≡ shifted (setup .direction) (setup .shifts .a) (line .earlier .a) a
     → word ≡ folded two shiftedA → made ≡ filled (setup .fill) (line .carry) word
     → after ≡ record {
-        sources = record { a = a; b = line .sources .b; c = line .sources .c };
-        earlier = record { a = a; b = line .sources .b };
-        carry = made .carry;
-        any = bitOr (line .any) (made .word);
+      sources = record { a = a; b = line .sources .b; c = line .sources .c };
+      earlier = record { a = a; b = line .sources .b };
+      carry = made .carry;
+      any = bitOr (line .any) (made .word);
     }
     → words setup (last + 1) (last + 1 - i) (state memory (along setup base i line)) ≡ whole
     → words setup (last + 1) (last + 1 - (i + 1))
@@ -48,7 +48,7 @@ alone-turn n last i setup base memory two start line after a shiftedA word made 
     let rest : Rests setup (line .earlier .b) (line .sources .b) = rw (rests .0, rests .2) in
     let folds : Folds setup two (line .sources .b) (line .sources .c) = rw (rests .0, rests .1) folds in
     let final : made ≡ finalOf setup false false (record { a = a; b = line .sources .b; c = line .sources .c }) line =
-        alone-final setup two false false a a shiftedA word made line after folds rest refl shifts joins fills hands in
+    alone-final setup two false false a a shiftedA word made line after folds rest refl shifts joins fills hands in
     let next : i + 1 ≡ suc i = omega arith in
     rw next
     (straight-turn n (last + 1) i setup base memory line after a (line .sources .b) (line .sources .c) (made .word) false fits (omega arith)
@@ -67,10 +67,10 @@ pub alone-up-turn : (n last i : ℕ) (setup : Setup) (base : Flow) (memory : Lis
     → shiftedA ≡ shifted Ascending (setup .shifts .a) (line .earlier .a) (getD memory (base .pointers .a .word + i) 0)
     → word ≡ folded two shiftedA
     → after ≡ record {
-        sources = record { a = getD memory (base .pointers .a .word + i) 0; b = line .sources .b; c = line .sources .c };
-        earlier = record { a = getD memory (base .pointers .a .word + i) 0; b = line .sources .b };
-        carry = line .carry;
-        any = bitOr (line .any) word;
+      sources = record { a = getD memory (base .pointers .a .word + i) 0; b = line .sources .b; c = line .sources .c };
+      earlier = record { a = getD memory (base .pointers .a .word + i) 0; b = line .sources .b };
+      carry = line .carry;
+      any = bitOr (line .any) word;
     }
     → words setup (last + 1) (last + 1 - i) (state memory (along setup base i line)) ≡ whole
     → words setup (last + 1) (last + 1 - (i + 1)) (state (set memory (base .pointers .d .word + i) word) (along setup base (i + 1) after)) ≡ whole
@@ -87,10 +87,10 @@ pub alone-fill-turn : (n last i : ℕ) (setup : Setup) (base : Flow) (memory : L
     → shiftedA ≡ shifted Descending (setup .shifts .a) (line .earlier .a) (getD memory (base .pointers .a .word - i) 0)
     → word ≡ folded two shiftedA → made ≡ filled (setup .fill) (line .carry) word
     → after ≡ record {
-        sources = record { a = getD memory (base .pointers .a .word - i) 0; b = line .sources .b; c = line .sources .c };
-        earlier = record { a = getD memory (base .pointers .a .word - i) 0; b = line .sources .b };
-        carry = made .carry;
-        any = bitOr (line .any) (made .word);
+      sources = record { a = getD memory (base .pointers .a .word - i) 0; b = line .sources .b; c = line .sources .c };
+      earlier = record { a = getD memory (base .pointers .a .word - i) 0; b = line .sources .b };
+      carry = made .carry;
+      any = bitOr (line .any) (made .word);
     }
     → words setup (last + 1) (last + 1 - i) (state memory (along setup base i line)) ≡ whole
     → words setup (last + 1) (last + 1 - (i + 1)) (state (set memory (base .pointers .d .word - i) (made .word)) (along setup base (i + 1) after)) ≡ whole
@@ -107,10 +107,10 @@ pub alone-down-turn : (n last i : ℕ) (setup : Setup) (base : Flow) (memory : L
     → shiftedA ≡ shifted Descending (setup .shifts .a) (line .earlier .a) (getD memory (base .pointers .a .word - i) 0)
     → word ≡ folded two shiftedA
     → after ≡ record {
-        sources = record { a = getD memory (base .pointers .a .word - i) 0; b = line .sources .b; c = line .sources .c };
-        earlier = record { a = getD memory (base .pointers .a .word - i) 0; b = line .sources .b };
-        carry = line .carry;
-        any = bitOr (line .any) word;
+      sources = record { a = getD memory (base .pointers .a .word - i) 0; b = line .sources .b; c = line .sources .c };
+      earlier = record { a = getD memory (base .pointers .a .word - i) 0; b = line .sources .b };
+      carry = line .carry;
+      any = bitOr (line .any) word;
     }
     → words setup (last + 1) (last + 1 - i) (state memory (along setup base i line)) ≡ whole
     → words setup (last + 1) (last + 1 - (i + 1)) (state (set memory (base .pointers .d .word - i) word) (along setup base (i + 1) after)) ≡ whole
@@ -120,10 +120,10 @@ alone-down-turn n last i setup base memory two start line after shiftedA word wh
 
 pub rest-on : (start line after : Line) (a masked carry any : ℕ) → AtRest start line
     → after ≡ record {
-        sources = record { a = a; b = line .sources .b; c = line .sources .c };
-        earlier = record { a = masked; b = line .sources .b };
-        carry = carry;
-        any = any;
+      sources = record { a = a; b = line .sources .b; c = line .sources .c };
+      earlier = record { a = masked; b = line .sources .b };
+      carry = carry;
+      any = any;
     }
     → AtRest start after
 rest-on start line after a masked carry any rests hands = (rw hands (rests .0), rw hands (rests .1), rw hands (rests .0))

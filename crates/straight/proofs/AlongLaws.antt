@@ -70,7 +70,7 @@ or-nought (suc any) word =
     over zero more = absurd (omega arith)
     over (suc all) more = sym (eqb·suc-zero all)
 
-still-nought : (allzero : Bool) (any word : ℕ) → ((allzero && eqb any 0) && eqb word 0) ≡ (allzero && eqb (bitOr any word) 0)
+pub still-nought : (allzero : Bool) (any word : ℕ) → ((allzero && eqb any 0) && eqb word 0) ≡ (allzero && eqb (bitOr any word) 0)
 still-nought true any word = or-nought any word
 still-nought false any word = refl
 
@@ -196,16 +196,17 @@ module _ (n width i : ℕ) (setup : Setup) (base : Flow) (memory : List ℕ) (li
 
   waits-clear : Clear (setup .uses) (waits .pending) (waits .pointers)
   unfolding Fits SourcesFit Clear along
-  waits-clear =
-      (next-clear (setup .direction) (setup .uses .d) (setup .uses .a) width n i (waits .pending .word) (base .pointers .d) (base .pointers .a) (fits .1) (fits .2) (fits .3 .0) (fits .0) more,
-      next-clear (setup .direction) (setup .uses .d) (setup .uses .b) width n i (waits .pending .word) (base .pointers .d) (base .pointers .b) (fits .1) (fits .2) (fits .3 .1) (fits .0) more,
-      next-clear (setup .direction) (setup .uses .d) (setup .uses .c) width n i (waits .pending .word) (base .pointers .d) (base .pointers .c) (fits .1) (fits .2) (fits .3 .2) (fits .0) more)
+  waits-clear = (
+    next-clear (setup .direction) (setup .uses .d) (setup .uses .a) width n i (waits .pending .word) (base .pointers .d) (base .pointers .a) (fits .1) (fits .2) (fits .3 .0) (fits .0) more,
+    next-clear (setup .direction) (setup .uses .d) (setup .uses .b) width n i (waits .pending .word) (base .pointers .d) (base .pointers .b) (fits .1) (fits .2) (fits .3 .1) (fits .0) more,
+    next-clear (setup .direction) (setup .uses .d) (setup .uses .c) width n i (waits .pending .word) (base .pointers .d) (base .pointers .c) (fits .1) (fits .2) (fits .3 .2) (fits .0) more,
+  )
 
   turned : words setup width left stored ≡ words setup width (suc left) (state memory (along setup base i line))
   unfolding repeated
   turned =
       let one : oneWord setup width left (state memory (along setup base i line)) ≡ state memory waits =
-          along-waits setup width left base i memory line sources fetches-a fetches-b fetches-c in
+      along-waits setup width left base i memory line sources fetches-a fetches-b fetches-c in
       sym (ap (words setup width left) stores)
       ∙ ap (λ (now : State). words setup width left (storePending now)) one
       ∙ more-words setup width left (state memory waits) (omega arith) waits-clear
@@ -246,7 +247,6 @@ given-unused used memory place source idle = rw idle
 pub filled-off : (fill : Fill) (carry word : ℕ) → fill ≡ Off → record { word = word; carry = carry } ≡ filled fill carry word
 unfolding filled
 filled-off fill carry word off = rw off
-
 
 -- a turn by a word's whole answer, in the middle of a row
 pub ended-turn : (n last i : ℕ) (setup : Setup) (base : Flow) (memory : List ℕ) (line : Line) (sources : Sources) (end : Ended) (whole : State)
@@ -299,10 +299,10 @@ module _ (n last : ℕ) (setup : Setup) (base : Flow) (memory : List ℕ) (sourc
       let at-b : place (setup .direction) (base .pointers .b .word) 0 ≡ base .pointers .b .word = place-first (setup .direction) (base .pointers .b .word) in
       let at-c : place (setup .direction) (base .pointers .c .word) 0 ≡ base .pointers .c .word = place-first (setup .direction) (base .pointers .c .word) in
       let turn : words setup (last + 1) (last + 1 - 1) (state (set memory (place (setup .direction) (base .pointers .d .word) 0) (end .word)) (along setup base 1 (end .line)))
-          ≡ words setup (last + 1) (last + 1 - 0) (state memory (along setup base 0 (opened base))) =
-          straight-turn n (last + 1) 0 setup base memory (opened base) (end .line) (sources .a) (sources .b) (sources .c) (end .word) true fits (omega arith)
-          (rw at-a gives-a) (rw at-b gives-b) (rw at-c gives-c) first
-          (ap (λ (end : Ended). end .word) ends) (ap (λ (end : Ended). end .line) ends) in
+      ≡ words setup (last + 1) (last + 1 - 0) (state memory (along setup base 0 (opened base))) =
+      straight-turn n (last + 1) 0 setup base memory (opened base) (end .line) (sources .a) (sources .b) (sources .c) (end .word) true fits (omega arith)
+      (rw at-a gives-a) (rw at-b gives-b) (rw at-c gives-c) first
+      (ap (λ (end : Ended). end .word) ends) (ap (λ (end : Ended). end .line) ends) in
       ap (λ (left : ℕ). words setup (last + 1) left (state (set memory (base .pointers .d .word) (end .word)) (along setup base 1 (end .line)))) (sym one)
       ∙ ap (λ (at : ℕ). words setup (last + 1) (last + 1 - 1) (state (set memory at (end .word)) (along setup base 1 (end .line)))) (sym (place-first (setup .direction) (base .pointers .d .word)))
       ∙ turn

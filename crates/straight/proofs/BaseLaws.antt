@@ -69,7 +69,7 @@ module _ (setup : Setup) (width : ℕ) (memory stored : List ℕ) (flow start ba
   base-room known room =
       let more : 2 ≤ width = at-least-two setup width known in
       let count : base .stored ≤ flow .stored + 1 =
-          rw (base-is, starts) (countWith-le (flow .pending .waits) (flow .pending .place) (flow .pending .word) (flow .stored)) in
+      rw (base-is, starts) (countWith-le (flow .pending .waits) (flow .pending .place) (flow .pending .word) (flow .stored)) in
       omega arith
 
   pub row-words : (after : List ℕ) (end : Ended) (next : Flow) → Known setup width → Taken (length memory) setup width flow
@@ -81,7 +81,7 @@ module _ (setup : Setup) (width : ℕ) (memory stored : List ℕ) (flow start ba
       let more : 2 ≤ width = at-least-two setup width known in
       let all : width - 1 + 1 ≡ width = omega arith in
       let whole : words setup (width - 1 + 1) (width - 1 + 1) (state stored base) ≡ words setup width width (state stored base) =
-          ap (λ (width : ℕ). words setup width width (state stored base)) all in
+      ap (λ (width : ℕ). words setup width width (state stored base)) all in
       ap (state after) ends ∙ does ∙ whole ∙ ap (words setup width width) stores
       ∙ ap (λ (flow : Flow). words setup width width (storePending (state memory flow))) starts
       ∙ early width more (state memory (withCarry (setup .carry) flow)) (taken .1)

@@ -31,9 +31,11 @@ pub oneWord-early : (setup : Setup) (width left : ℕ) (now : State) → Clear (
 unfolding oneWord storedBefore storePending finishedWord wait moveOn finish final result maskedA fetch memoryWith countWith Clear
 oneWord-early setup width left now clear =
     let pending : Pending = now .flow .pending in
-    rw (fetched-early (setup .uses .a) (pending .waits) (pending .place) (pending .word) (now .memory) (now .flow .pointers .a) (now .flow .sources .a) (clear .0),
-    fetched-early (setup .uses .b) (pending .waits) (pending .place) (pending .word) (now .memory) (now .flow .pointers .b) (now .flow .sources .b) (clear .1),
-    fetched-early (setup .uses .c) (pending .waits) (pending .place) (pending .word) (now .memory) (now .flow .pointers .c) (now .flow .sources .c) (clear .2))
+    rw (
+      fetched-early (setup .uses .a) (pending .waits) (pending .place) (pending .word) (now .memory) (now .flow .pointers .a) (now .flow .sources .a) (clear .0),
+      fetched-early (setup .uses .b) (pending .waits) (pending .place) (pending .word) (now .memory) (now .flow .pointers .b) (now .flow .sources .b) (clear .1),
+      fetched-early (setup .uses .c) (pending .waits) (pending .place) (pending .word) (now .memory) (now .flow .pointers .c) (now .flow .sources .c) (clear .2),
+    )
 
 pub words-early : (setup : Setup) (width left : ℕ) (now : State) → Clear (setup .uses) (now .flow .pending) (now .flow .pointers)
     → words setup width (suc left) (storePending now) ≡ words setup width (suc left) now

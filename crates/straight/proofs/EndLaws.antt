@@ -52,13 +52,13 @@ pub ended-of-parts : (setup : Setup) (last at : ℕ) (base after : Flow) (end : 
     → setup .uses .d ≡ true → at ≡ place (setup .direction) (base .pointers .d .word) last
     → gone (setup .direction) (setup .uses .d) last (base .pointers .d) .word ≡ place (setup .direction) (base .pointers .d .word) last
     → after ≡ record {
-        pointers = pointers;
-        sources = end .line .sources;
-        earlier = record { a = end .line .earlier .a; b = end .line .earlier .b };
-        carry = end .line .carry;
-        allzero = base .allzero && eqb (end .line .any) 0;
-        stored = base .stored + last;
-        pending = record { waits = true; place = at; word = end .word };
+      pointers = pointers;
+      sources = end .line .sources;
+      earlier = record { a = end .line .earlier .a; b = end .line .earlier .b };
+      carry = end .line .carry;
+      allzero = base .allzero && eqb (end .line .any) 0;
+      stored = base .stored + last;
+      pending = record { waits = true; place = at; word = end .word };
     }
     → after ≡ ended setup last base end
 unfolding ended along

@@ -45,9 +45,10 @@ module _ (n width d from : ℕ) (direction : Direction) (used : Bool) (pending :
       → ((inside && apart) && not (pending .waits && eqb from (pending .place))) ≡ true
       → SourceFits n direction used width d from × ClearOf used pending from
   source-used inside apart is gap told =
-      let fits : (inside && apart) ≡ true = and-left (inside && apart) (not (pending .waits && eqb from (pending .place))) told in
-      ((λ _. (is (and-left inside apart fits), gap (and-right inside apart fits))),
-      (λ _ waiting. differ from (pending .place) (unmet (pending .waits) waiting (and-right (inside && apart) (not (pending .waits && eqb from (pending .place))) told))))
+      let fits : (inside && apart) ≡ true = and-left (inside && apart) (not (pending .waits && eqb from (pending .place))) told in (
+        (λ _. (is (and-left inside apart fits), gap (and-right inside apart fits))),
+        (λ _ waiting. differ from (pending .place) (unmet (pending .waits) waiting (and-right (inside && apart) (not (pending .waits && eqb from (pending .place))) told))),
+      )
     where
       unmet : (waits : Bool) → waits ≡ true → not (waits && eqb from (pending .place)) ≡ true → not (eqb from (pending .place)) ≡ true
       unmet true waiting is = is
@@ -89,9 +90,11 @@ module _ (n width : ℕ) (setup : Setup) (flow : Flow) where
       left : (a b : Bool) → (a || b) ≡ false → a ≡ false
       left true b none = none
       left false b none = refl
+
       right : (a b : Bool) → (a || b) ≡ false → b ≡ false
       right true b none = untrue (sym none)
       right false b none = none
+
       idle-fits : (used : Bool) (from : ℕ) → used ≡ false
           → SourceFits n (setup .direction) used width (flow .pointers .d .word) from × ClearOf used (flow .pending) from
       idle-fits used from idle = ((λ uses. untrue (sym idle ∙ uses)), (λ uses waiting. untrue (sym idle ∙ uses)))
@@ -167,8 +170,13 @@ inside-most n width from Descending most inside = (omega (arith, inside .0), ins
 
 pub fits-most : (n width : ℕ) (setup : Setup) (pointers : Pointers) → Fits n setup width pointers → Fits 262144 setup width pointers
 unfolding Fits SourcesFit
-fits-most n width setup pointers fits =
-    (omega arith, fits .1, inside-most n width (pointers .d .word) (setup .direction) (fits .0) (fits .2),
-    ((λ uses. (inside-most n width (pointers .a .word) (setup .direction) (fits .0) (fits .3 .0 uses .0), fits .3 .0 uses .1)),
+fits-most n width setup pointers fits = (
+  omega arith,
+  fits .1,
+  inside-most n width (pointers .d .word) (setup .direction) (fits .0) (fits .2),
+  (
+    (λ uses. (inside-most n width (pointers .a .word) (setup .direction) (fits .0) (fits .3 .0 uses .0), fits .3 .0 uses .1)),
     (λ uses. (inside-most n width (pointers .b .word) (setup .direction) (fits .0) (fits .3 .1 uses .0), fits .3 .1 uses .1)),
-    (λ uses. (inside-most n width (pointers .c .word) (setup .direction) (fits .0) (fits .3 .2 uses .0), fits .3 .2 uses .1))))
+    (λ uses. (inside-most n width (pointers .c .word) (setup .direction) (fits .0) (fits .3 .2 uses .0), fits .3 .2 uses .1)),
+  ),
+)

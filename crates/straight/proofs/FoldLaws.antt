@@ -47,10 +47,10 @@ module _ (setup : Setup) (two : Two) (first last : Bool) (a masked shiftedA word
     (shifts : shiftedA ≡ shifted (setup .direction) (setup .shifts .a) (line .earlier .a) masked)
     (joins : word ≡ folded two shiftedA) (fills : made ≡ filled (setup .fill) (line .carry) word)
     (hands : after ≡ record {
-        sources = record { a = a; b = line .sources .b; c = line .sources .c };
-        earlier = record { a = masked; b = line .sources .b };
-        carry = made .carry;
-        any = bitOr (line .any) (made .word);
+      sources = record { a = a; b = line .sources .b; c = line .sources .c };
+      earlier = record { a = masked; b = line .sources .b };
+      carry = made .carry;
+      any = bitOr (line .any) (made .word);
     }) where
   word-is : word ≡ logic (setup .function) shiftedA (shifted (setup .direction) (setup .shifts .b) (line .earlier .b) (line .sources .b)) (line .sources .c)
   unfolding Folds
@@ -86,16 +86,19 @@ module _ (setup : Setup) (two : Two) (first last : Bool) (masked : ℕ) (line af
     (folds : Folds setup two (line .sources .b) (line .sources .c)) (rests : Rests setup (line .earlier .b) (line .sources .b))
     (masks : masked ≡ maskedOf setup first last (line .sources .a))
     (hands : after ≡ record {
-        sources = line .sources;
-        earlier = record { a = masked; b = line .sources .b };
-        carry = line .carry;
-        any = bitOr (line .any) (two .rest);
+      sources = line .sources;
+      earlier = record { a = masked; b = line .sources .b };
+      carry = line .carry;
+      any = bitOr (line .any) (two .rest);
     }) where
   pub same-final : record { word = two .rest; carry = line .carry } ≡ finalOf setup first last (line .sources) line
   unfolding finalOf filled
   same-final =
-      rw (off, same-folds setup two line (shifted (setup .direction) (setup .shifts .a) (line .earlier .a) (maskedOf setup first last (line .sources .a)))
-      (shifted-lt (setup .direction) (setup .shifts .a) (line .earlier .a) (maskedOf setup first last (line .sources .a))) still folds rests)
+      rw (
+        off,
+        same-folds setup two line (shifted (setup .direction) (setup .shifts .a) (line .earlier .a) (maskedOf setup first last (line .sources .a)))
+            (shifted-lt (setup .direction) (setup .shifts .a) (line .earlier .a) (maskedOf setup first last (line .sources .a))) still folds rests,
+      )
 
   pub same-next : after ≡ nextLine setup first last (line .sources) line
   unfolding nextLine
@@ -113,10 +116,10 @@ pub upward-ended : (setup : Setup) (first last : Bool) (sources : Sources) (mask
     → b ≡ shifted Ascending (setup .shifts .b) (line .earlier .b) (sources .b)
     → word ≡ logic (setup .function) a b (sources .c)
     → after ≡ record {
-        sources = sources;
-        earlier = record { a = masked; b = sources .b };
-        carry = line .carry;
-        any = bitOr (line .any) word;
+      sources = sources;
+      earlier = record { a = masked; b = sources .b };
+      carry = line .carry;
+      any = bitOr (line .any) word;
     }
     → end ≡ record { word = word; line = after }
     → end ≡ endedWord setup first last sources line

@@ -11,3 +11,4 @@ pub mod SetsLaws
 pub mod EndLaws
 pub mod BaseLaws
 pub mod RestLaws
+pub mod ColumnLaws

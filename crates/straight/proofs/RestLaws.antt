@@ -1,5 +1,5 @@
 -- B and C at rest from row to row, and the rows that are left.
-use mathlib.Core.Path.{_≡_, sym, ap, subst, _∙_}
+use mathlib.Core.Path.{_≡_, refl, sym, ap, subst, _∙_}
 use Prim.Native.Nat.{ℕ, zero, suc, _+_, _-_, _*_, _<_, _≤_}
 use native.Mathlib.Omega.{arith}
 use mathlib.Core.Bool.{Bool, true, false, _&&_}
@@ -95,7 +95,7 @@ pub one-row-room : (setup : Setup) (width left : ℕ) (memory after : List ℕ) 
     → next .stored + (left - 1) * 64 < 4294967296
 one-row-room setup width left memory after flow next more narrow does room =
     let count : next .stored ≤ flow .stored + width =
-        rw (ap (λ (now : State). now .flow .stored) does) (oneRow-counts setup width (state memory flow)) in
+    rw (ap (λ (now : State). now .flow .stored) does) (oneRow-counts setup width (state memory flow)) in
     omega arith
 
 pub known-kept : (n m width : ℕ) (setup : Setup) (told : Bool) → n ≡ m → (told ≡ true → Known setup width × (m ≤ 262144)) → told ≡ true
@@ -112,3 +112,31 @@ module _ (setup : Setup) (width height left : ℕ) (memory begun after : List �
   pub blit-of-parts : (last : List ℕ) (stored : Flow) → state last stored ≡ storePending (state after end)
       → state last stored ≡ areaBlit setup width height (state memory flow)
   blit-of-parts last stored stores = areaBlit-of-parts setup width height memory after last flow end stored (does ∙ begins) stores
+
+-- the first row of a column, and the others
+module _ (setup : Setup) (width height : ℕ) (memory begun : List ℕ) (flow first : Flow) (narrow : width ≡ 1) (some : 0 < height)
+    (begins : state begun first ≡ rows setup width 1 (state memory flow)) where
+  one : state begun first ≡ oneRow setup width (state memory flow)
+  unfolding repeated
+  one = begins
+
+  pub first-turns : rows setup width (height - 1) (state begun first) ≡ rows setup width height (state memory flow)
+  first-turns = one-row-turn setup width height memory begun flow first (rows setup width height (state memory flow)) some one refl
+
+  pub first-room : flow .stored + height * 64 < 4294967295 → first .stored + (height - 1) * 64 < 4294967296
+  first-room room = one-row-room setup width height memory begun flow first some (omega arith) one (omega arith)
+
+  pub first-few : flow .stored + height * 64 < 4294967295 → first .stored + (height - 1) < 4294967296
+  first-few room = omega (arith, first-room room)
+
+  pub column-turns : (after : List ℕ) (end : Flow) → state after end ≡ rows setup 1 (height - 1) (state begun first)
+      → rows setup width 0 (state after end) ≡ rows setup width height (state memory flow)
+  unfolding repeated
+  column-turns after end does = does ∙ ap (λ (width : ℕ). rows setup width (height - 1) (state begun first)) (sym narrow) ∙ first-turns
+
+  pub column-room : (after : List ℕ) (end : Flow) → state after end ≡ rows setup 1 (height - 1) (state begun first)
+      → flow .stored + height * 64 < 4294967295 → end .stored + 0 * 64 < 4294967296
+  unfolding repeated
+  column-room after end does room =
+      let small : end .stored < 4294967295 = rows-leave-room setup width height memory after flow end (omega arith) (column-turns after end does) room in
+      omega arith

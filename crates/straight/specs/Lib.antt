@@ -3,3 +3,4 @@ pub mod Line
 pub mod Fits
 pub mod Fold
 pub mod Sets
+pub mod Column

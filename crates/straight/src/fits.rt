@@ -33,7 +33,15 @@ pub fn apart(direction: Direction, d: u32, from: u32) -> bool
 }
 
 // A source's row fits, and its first word isn't the one that waits to be stored.
-fn source(n: usize, direction: Direction, used: bool, width: u32, pending: Pending, d: u32, from: u32) -> bool
+fn source(
+    n: usize,
+    direction: Direction,
+    used: bool,
+    width: u32,
+    pending: Pending,
+    d: u32,
+    from: u32,
+) -> bool
     ensures { λ told. ⌜ (told ≡ true → SourceFits n direction used width d from × ClearOf used pending from) ⌝ }
 {
     if used {
@@ -51,13 +59,37 @@ fn sources(n: usize, setup: Setup, width: u32, flow: Flow) -> bool
     let direction = setup.direction;
     let pending = flow.pending;
     let d = flow.pointers.d.word;
-    if !source(n, direction, setup.uses.a, width, pending, d, flow.pointers.a.word) {
+    if !source(
+        n,
+        direction,
+        setup.uses.a,
+        width,
+        pending,
+        d,
+        flow.pointers.a.word,
+    ) {
         return false;
     }
-    if !source(n, direction, setup.uses.b, width, pending, d, flow.pointers.b.word) {
+    if !source(
+        n,
+        direction,
+        setup.uses.b,
+        width,
+        pending,
+        d,
+        flow.pointers.b.word,
+    ) {
         return false;
     }
-    source(n, direction, setup.uses.c, width, pending, d, flow.pointers.c.word)
+    source(
+        n,
+        direction,
+        setup.uses.c,
+        width,
+        pending,
+        d,
+        flow.pointers.c.word,
+    )
 }
 
 // Asked once a row. Without a source nothing is fetched, and D's row alone tells.

@@ -7,6 +7,7 @@ ghost use Rattle.area.specs.Flow.{state};
 ghost use Rattle.area.specs.Rows.{oneRow, rows, areaBlit};
 ghost use Rattle.straight.specs.Fits.{Taken};
 ghost use Rattle.straight.specs.Sets.{Known, Ready};
+ghost use Rattle.straight.specs.Column.{Column};
 use crate::types::Two;
 use area::rows::Rest;
 use area::types::Flow;
@@ -140,16 +141,46 @@ pub fn rows(ram: &mut [u16], setup: Setup, width: u32, height: u32, flow: Flow) 
     here
 }
 
+// The first row of a column, and all the others if they lie inside.
+fn column_rows(ram: &mut [u16], setup: Setup, width: u32, left: u32, flow: Flow) -> Rest
+    requires { ⌜ (setup .shifts .a < 16) × (setup .shifts .b < 16) × (0 < left) × (length (now ram) ≤ 262144)
+        × (flow .stored + left * 64 < 4294967295) × Column setup × (width ≡ 1) ⌝ }
+    ensures { λ rest. ⌜ (rest .left ≤ left) × (rest .flow .stored + rest .left * 64 < 4294967296)
+        × (rows setup width (rest .left) (state (now (ram .exit)) (rest .flow))
+        ≡ rows setup width left (state (now (ram .entry)) flow)) ⌝ }
+{
+    let first = rows(ram, setup, width, 1, flow);
+    if crate::column::stands(ram.len(), setup, left - 1, first) {
+        let two = crate::fold::two(setup, first);
+        let after = crate::column::column(ram, setup, two, left - 1, first);
+        return Rest {
+            left: 0,
+            flow: after,
+        };
+    }
+    Rest {
+        left: left - 1,
+        flow: first,
+    }
+}
+
 // The straight rows from the start on.
 fn first_rows(ram: &mut [u16], setup: Setup, width: u32, left: u32, flow: Flow) -> Rest
     requires { ⌜ (setup .shifts .a < 16) × (setup .shifts .b < 16) × (width ≤ 64)
-        × (flow .stored + left * 64 < 4294967296) ⌝ }
+        × (flow .stored + left * 64 < 4294967295) ⌝ }
     ensures { λ rest. ⌜ (rest .left ≤ left) × (rest .flow .stored + rest .left * 64 < 4294967296)
         × (rows setup width (rest .left) (state (now (ram .exit)) (rest .flow))
         ≡ rows setup width left (state (now (ram .entry)) flow)) ⌝ }
 {
     if known(ram.len(), setup, width) {
         return fast_rows(ram, setup, width, left, flow);
+    }
+    if 0 < left {
+        if ram.len() <= 262144 {
+            if crate::column::known(setup, width) {
+                return column_rows(ram, setup, width, left, flow);
+            }
+        }
     }
     Rest { left, flow }
 }

@@ -11,7 +11,7 @@ use area::types::Setup;
 use word::types::Direction;
 use word::types::Fill;
 
-fn off(fill: Fill) -> bool
+pub fn off(fill: Fill) -> bool
     ensures { λ told. ⌜ (told ≡ true → fill ≡ Off) ⌝ }
 {
     match fill {

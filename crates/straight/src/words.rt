@@ -36,10 +36,10 @@ pub fn opened(base: Flow) -> Line
 // What is handed on after a final word, whose sources were these.
 pub fn handed_on(sources: Sources, masked: u16, made: Filled, line: Line) -> Line
     ensures { λ after. ⌜ after ≡ record {
-        sources = sources;
-        earlier = record { a = masked; b = sources .b };
-        carry = made .carry;
-        any = bitOr (line .any) (made .word);
+      sources = sources;
+      earlier = record { a = masked; b = sources .b };
+      carry = made .carry;
+      any = bitOr (line .any) (made .word);
     } ⌝ }
 {
     let earlier = Earlier {
@@ -54,7 +54,7 @@ pub fn handed_on(sources: Sources, masked: u16, made: Filled, line: Line) -> Lin
     }
 }
 
-fn masked_a(setup: Setup, first: bool, last: bool, a: u16) -> u16
+pub fn masked_a(setup: Setup, first: bool, last: bool, a: u16) -> u16
     ensures { λ word. ⌜ word ≡ maskedOf setup first last a ⌝ }
 {
     word::mask::masked(first, last, setup.masks.first, setup.masks.last, a)
@@ -71,7 +71,12 @@ pub fn same_word(setup: Setup, two: Two, first: bool, last: bool, line: Line) ->
         word: two.rest,
         carry: line.carry,
     };
-    let after = handed_on(sources, masked_a(setup, first, last, line.sources.a), made, line);
+    let after = handed_on(
+        sources,
+        masked_a(setup, first, last, line.sources.a),
+        made,
+        line,
+    );
     Ended {
         word: two.rest,
         line: after,

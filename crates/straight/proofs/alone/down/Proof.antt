@@ -67,10 +67,19 @@ loop-less : tie.Need-loop-less Inv-loop μ-loop
 loop-less c = search needs
 
 loop-again : tie.Need-loop-again Inv-loop μ-loop
-loop-again c = (search needs, search needs, search needs, search needs, search needs, search needs, search needs, search rest-on,
-    alone-down-turn _ _ (c .before .before .before .before .before .before .before .loop .i) _ _ (c .before .before .before .before .before .before .before .loop .ram) _ (c .before .before .before .before .before .before .before .before .before .args .line) (c .before .before .before .before .before .before .before .loop .here) _ _ _ _
-    (c .before .before .before .before .before .before .before .before .before .pre .4) (c .before .before .before .before .before .before .before .before .before .pre .5) (c .before .before .before .before .before .before .before .before .before .pre .3) (c .before .before .before .before .before .before .before .before .before .pre .6) (search needs) (search needs) (c .before .before .before .before .before .before .before .before .before .pre .7)
-    (c .before .before .before .before .before .before .before .loop .inv .7) (c .before .before .before .descending .ensures) (c .before .before .folded .ensures) (c .handed-on .ensures) (c .before .before .before .before .before .before .before .loop .inv .8))
+loop-again c = (
+  search needs,
+  search needs,
+  search needs,
+  search needs,
+  search needs,
+  search needs,
+  search needs,
+  search rest-on,
+  alone-down-turn _ _ (c .before .before .before .before .before .before .before .loop .i) _ _ (c .before .before .before .before .before .before .before .loop .ram) _ (c .before .before .before .before .before .before .before .before .before .args .line) (c .before .before .before .before .before .before .before .loop .here) _ _ _ _
+      (c .before .before .before .before .before .before .before .before .before .pre .4) (c .before .before .before .before .before .before .before .before .before .pre .5) (c .before .before .before .before .before .before .before .before .before .pre .3) (c .before .before .before .before .before .before .before .before .before .pre .6) (search needs) (search needs) (c .before .before .before .before .before .before .before .before .before .pre .7)
+      (c .before .before .before .before .before .before .before .loop .inv .7) (c .before .before .before .descending .ensures) (c .before .before .folded .ensures) (c .handed-on .ensures) (c .before .before .before .before .before .before .before .loop .inv .8),
+)
 
 same-length : tie.Need-same-length Inv-loop μ-loop
 same-length c = search needs

@@ -49,9 +49,16 @@ loop-less : tie.Need-loop-less Inv-loop μ-loop
 loop-less c = search needs
 
 loop-again : tie.Need-loop-again Inv-loop μ-loop
-loop-again c = (search needs, search needs, search needs, search needs, search needs, same-on _ (c .before .before .before .before .before .before .args .line) (c .before .before .before .before .loop .here) _ (c .before .before .before .before .loop .inv .5) (c .before .before .same-word .ensures),
-    same-turn-down _ _ (c .before .before .before .before .loop .i) _ _ (c .before .before .before .before .loop .ram) (c .before .before .before .before .loop .here) _ _ (c .before .before .before .before .before .before .pre .3) (c .before .before .before .before .before .before .pre .2) (c .before .before .before .before .before .before .pre .6) (search needs) (search needs)
-    (c .before .before .same-word .ensures) (c .before .before .before .before .loop .inv .6))
+loop-again c = (
+  search needs,
+  search needs,
+  search needs,
+  search needs,
+  search needs,
+  same-on _ (c .before .before .before .before .before .before .args .line) (c .before .before .before .before .loop .here) _ (c .before .before .before .before .loop .inv .5) (c .before .before .same-word .ensures),
+  same-turn-down _ _ (c .before .before .before .before .loop .i) _ _ (c .before .before .before .before .loop .ram) (c .before .before .before .before .loop .here) _ _ (c .before .before .before .before .before .before .pre .3) (c .before .before .before .before .before .before .pre .2) (c .before .before .before .before .before .before .pre .6) (search needs) (search needs)
+      (c .before .before .same-word .ensures) (c .before .before .before .before .loop .inv .6),
+)
 
 same-length : tie.Need-same-length Inv-loop μ-loop
 same-length c = search needs

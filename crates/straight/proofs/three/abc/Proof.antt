@@ -82,10 +82,18 @@ loop-less : tie.Need-loop-less Inv-loop μ-loop
 loop-less c = search needs
 
 loop-again : tie.Need-loop-again Inv-loop μ-loop
-loop-again c = (search (needs, c .before .before .before .before .before .before .before .before .before .before .loop .inv .0), search (needs, c .before .before .before .before .before .before .before .before .before .loop-test .taken), search (needs, c .before .before .before .before .before .before .before .before .before .before .loop .inv .2), c .before .before .before .before .before .before .before .before .before .before .loop .inv .3, c .before .before .before .before .before .before .before .before .before .before .loop .inv .4, c .before .before .before .before .before .before .before .before .before .before .loop .inv .5, c .before .before .before .before .before .before .before .before .before .before .loop .inv .6,
-    three-turn _ _ (c .before .before .before .before .before .before .before .before .before .before .loop .i) _ _ (c .before .before .before .before .before .before .before .before .before .before .loop .ram) (c .before .before .before .before .before .before .before .before .before .before .loop .here) _ _ _ (c .before .before .before .before .before .before .before .before .before .before .before .before .pre .6) (c .before .before .before .before .before .before .before .before .before .before .before .before .pre .8) (c .before .before .before .before .before .before .before .before .before .before .loop .inv .0) (search (needs, c .before .before .before .before .before .before .before .before .before .loop-test .taken))
-    (given-used _ _ _ _ (c .before .before .before .before .before .before .before .before .before .before .before .before .pre .5)) (given-used _ _ _ _ (c .before .before .before .before .before .before .before .before .before .before .before .before .pre .4 .0)) (given-used _ _ _ _ (c .before .before .before .before .before .before .before .before .before .before .before .before .pre .4 .1))
-    (c .before .before .upward .ensures) (c .before .before .before .before .before .before .before .before .before .before .loop .inv .7))
+loop-again c = (
+  search (needs, c .before .before .before .before .before .before .before .before .before .before .loop .inv .0),
+  search (needs, c .before .before .before .before .before .before .before .before .before .loop-test .taken),
+  search (needs, c .before .before .before .before .before .before .before .before .before .before .loop .inv .2),
+  c .before .before .before .before .before .before .before .before .before .before .loop .inv .3,
+  c .before .before .before .before .before .before .before .before .before .before .loop .inv .4,
+  c .before .before .before .before .before .before .before .before .before .before .loop .inv .5,
+  c .before .before .before .before .before .before .before .before .before .before .loop .inv .6,
+  three-turn _ _ (c .before .before .before .before .before .before .before .before .before .before .loop .i) _ _ (c .before .before .before .before .before .before .before .before .before .before .loop .ram) (c .before .before .before .before .before .before .before .before .before .before .loop .here) _ _ _ (c .before .before .before .before .before .before .before .before .before .before .before .before .pre .6) (c .before .before .before .before .before .before .before .before .before .before .before .before .pre .8) (c .before .before .before .before .before .before .before .before .before .before .loop .inv .0) (search (needs, c .before .before .before .before .before .before .before .before .before .loop-test .taken))
+      (given-used _ _ _ _ (c .before .before .before .before .before .before .before .before .before .before .before .before .pre .5)) (given-used _ _ _ _ (c .before .before .before .before .before .before .before .before .before .before .before .before .pre .4 .0)) (given-used _ _ _ _ (c .before .before .before .before .before .before .before .before .before .before .before .before .pre .4 .1))
+      (c .before .before .upward .ensures) (c .before .before .before .before .before .before .before .before .before .before .loop .inv .7),
+)
 
 same-length : tie.Need-same-length Inv-loop μ-loop
 same-length c = search needs

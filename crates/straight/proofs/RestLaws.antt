@@ -17,8 +17,8 @@ use Rattle.area.specs.Fetch.{fetched, fetch}
 use Rattle.area.specs.Finish.{finish}
 use Rattle.area.specs.Store.{wait, storePending}
 use Rattle.area.specs.Move.{moveOn, rowEnd}
-use Rattle.area.specs.Rows.{finishedWord, storedBefore, oneWord, words, rowStart, oneRow, rows, areaBlit}
-use Rattle.area.proofs.RowsLaws.{oneRow-counts, rows-leave-room, areaBlit-of-parts}
+use Rattle.area.specs.Rows.{finishedWord, storedBefore, oneWord, words, rowStart, oneRow, rows}
+use Rattle.area.proofs.RowsLaws.{oneRow-counts}
 use Rattle.straight.specs.declared.types.Two.{Two}
 use Rattle.straight.specs.Fold.{Folds, Rests}
 use Rattle.straight.specs.Sets.{Known, Ready}
@@ -103,15 +103,11 @@ pub known-kept : (n m width : ℕ) (setup : Setup) (told : Bool) → n ≡ m →
 known-kept n m width setup told same known is = (known is .0, rw same (known is .1))
 
 -- all rows, the first of them straight
-module _ (setup : Setup) (width height left : ℕ) (memory begun after : List ℕ) (flow here end : Flow)
-    (begins : rows setup width left (state begun here) ≡ rows setup width height (state memory flow))
-    (does : state after end ≡ rows setup width left (state begun here)) where
-  pub blit-leaves-room : width ≤ 64 → flow .stored + height * 64 < 4294967295 → end .stored < 4294967295
-  blit-leaves-room narrow room = rows-leave-room setup width height memory after flow end narrow (does ∙ begins) room
-
-  pub blit-of-parts : (last : List ℕ) (stored : Flow) → state last stored ≡ storePending (state after end)
-      → state last stored ≡ areaBlit setup width height (state memory flow)
-  blit-of-parts last stored stores = areaBlit-of-parts setup width height memory after last flow end stored (does ∙ begins) stores
+pub rest-done : (setup : Setup) (width height left : ℕ) (memory begun after : List ℕ) (flow here end : Flow)
+    → rows setup width left (state begun here) ≡ rows setup width height (state memory flow)
+    → state after end ≡ rows setup width left (state begun here)
+    → state after end ≡ rows setup width height (state memory flow)
+rest-done setup width height left memory begun after flow here end begins does = does ∙ begins
 
 -- the first row of a column, and the others
 module _ (setup : Setup) (width height : ℕ) (memory begun : List ℕ) (flow first : Flow) (narrow : width ≡ 1) (some : 0 < height)
@@ -120,23 +116,19 @@ module _ (setup : Setup) (width height : ℕ) (memory begun : List ℕ) (flow fi
   unfolding repeated
   one = begins
 
-  pub first-turns : rows setup width (height - 1) (state begun first) ≡ rows setup width height (state memory flow)
+  first-turns : rows setup width (height - 1) (state begun first) ≡ rows setup width height (state memory flow)
   first-turns = one-row-turn setup width height memory begun flow first (rows setup width height (state memory flow)) some one refl
 
-  pub first-room : flow .stored + height * 64 < 4294967295 → first .stored + (height - 1) * 64 < 4294967296
-  first-room room = one-row-room setup width height memory begun flow first some (omega arith) one (omega arith)
+  pub first-room : flow .stored + height * 64 < 4294967296 → first .stored + (height - 1) * 64 < 4294967296
+  first-room room = one-row-room setup width height memory begun flow first some (omega arith) one room
 
-  pub first-few : flow .stored + height * 64 < 4294967295 → first .stored + (height - 1) < 4294967296
+  pub first-few : flow .stored + height * 64 < 4294967296 → first .stored + (height - 1) < 4294967296
   first-few room = omega (arith, first-room room)
 
-  pub column-turns : (after : List ℕ) (end : Flow) → state after end ≡ rows setup 1 (height - 1) (state begun first)
-      → rows setup width 0 (state after end) ≡ rows setup width height (state memory flow)
-  unfolding repeated
-  column-turns after end does = does ∙ ap (λ (width : ℕ). rows setup width (height - 1) (state begun first)) (sym narrow) ∙ first-turns
+  pub column-done-all : (after : List ℕ) (end : Flow) → state after end ≡ rows setup 1 (height - 1) (state begun first)
+      → state after end ≡ rows setup width height (state memory flow)
+  column-done-all after end does = does ∙ ap (λ (width : ℕ). rows setup width (height - 1) (state begun first)) (sym narrow) ∙ first-turns
 
-  pub column-room : (after : List ℕ) (end : Flow) → state after end ≡ rows setup 1 (height - 1) (state begun first)
-      → flow .stored + height * 64 < 4294967295 → end .stored + 0 * 64 < 4294967296
-  unfolding repeated
-  column-room after end does room =
-      let small : end .stored < 4294967295 = rows-leave-room setup width height memory after flow end (omega arith) (column-turns after end does) room in
-      omega arith
+  pub column-done-plain : (after : List ℕ) (end : Flow) → state after end ≡ rows setup width (height - 1) (state begun first)
+      → state after end ≡ rows setup width height (state memory flow)
+  column-done-plain after end does = does ∙ first-turns

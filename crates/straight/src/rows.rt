@@ -114,9 +114,13 @@ fn some_rows(ram: &mut [u16], known: bool, setup: Setup, width: u32, left: u32, 
     Rest { left, flow }
 }
 
+// In an empty memory no row fits.
 fn known(n: usize, setup: Setup, width: u32) -> bool
     ensures { λ told. ⌜ (told ≡ true → Known setup width × (n ≤ 262144)) ⌝ }
 {
+    if n == 0 {
+        return false;
+    }
     crate::sets::known(setup, width) & (n <= 262144)
 }
 
@@ -141,33 +145,10 @@ pub fn rows(ram: &mut [u16], setup: Setup, width: u32, height: u32, flow: Flow) 
     here
 }
 
-// The first row of a column, and all the others if they lie inside.
-fn column_rows(ram: &mut [u16], setup: Setup, width: u32, left: u32, flow: Flow) -> Rest
-    requires { ⌜ (setup .shifts .a < 16) × (setup .shifts .b < 16) × (0 < left) × (length (now ram) ≤ 262144)
-        × (flow .stored + left * 64 < 4294967295) × Column setup × (width ≡ 1) ⌝ }
-    ensures { λ rest. ⌜ (rest .left ≤ left) × (rest .flow .stored + rest .left * 64 < 4294967296)
-        × (rows setup width (rest .left) (state (now (ram .exit)) (rest .flow))
-        ≡ rows setup width left (state (now (ram .entry)) flow)) ⌝ }
-{
-    let first = rows(ram, setup, width, 1, flow);
-    if crate::column::stands(ram.len(), setup, left - 1, first) {
-        let two = crate::fold::two(setup, first);
-        let after = crate::column::column(ram, setup, two, left - 1, first);
-        return Rest {
-            left: 0,
-            flow: after,
-        };
-    }
-    Rest {
-        left: left - 1,
-        flow: first,
-    }
-}
-
 // The straight rows from the start on.
 fn first_rows(ram: &mut [u16], setup: Setup, width: u32, left: u32, flow: Flow) -> Rest
     requires { ⌜ (setup .shifts .a < 16) × (setup .shifts .b < 16) × (width ≤ 64)
-        × (flow .stored + left * 64 < 4294967295) ⌝ }
+        × (flow .stored + left * 64 < 4294967296) ⌝ }
     ensures { λ rest. ⌜ (rest .left ≤ left) × (rest .flow .stored + rest .left * 64 < 4294967296)
         × (rows setup width (rest .left) (state (now (ram .exit)) (rest .flow))
         ≡ rows setup width left (state (now (ram .entry)) flow)) ⌝ }
@@ -175,17 +156,56 @@ fn first_rows(ram: &mut [u16], setup: Setup, width: u32, left: u32, flow: Flow) 
     if known(ram.len(), setup, width) {
         return fast_rows(ram, setup, width, left, flow);
     }
-    if 0 < left {
-        if ram.len() <= 262144 {
-            if crate::column::known(setup, width) {
-                return column_rows(ram, setup, width, left, flow);
-            }
-        }
-    }
     Rest { left, flow }
 }
 
-// All rows, those that fit from the start on first, and the last word stored at the end.
+// The straight rows first, then what is left.
+fn straight_first(ram: &mut [u16], setup: Setup, width: u32, height: u32, flow: Flow) -> Flow
+    requires { ⌜ (setup .shifts .a < 16) × (setup .shifts .b < 16)
+        × (width ≤ 64) × (flow .stored + height * 64 < 4294967296) ⌝ }
+    ensures { λ after. ⌜
+        state (now (ram .exit)) after
+        ≡ rows setup width height (state (now (ram .entry)) flow) ⌝ }
+{
+    let rest = first_rows(ram, setup, width, height, flow);
+    let here = rest.flow;
+    rows(ram, setup, width, rest.left, here)
+}
+
+// The first row of a column, then all the others if they lie inside.
+fn column_first(ram: &mut [u16], setup: Setup, width: u32, height: u32, flow: Flow) -> Flow
+    requires { ⌜ (setup .shifts .a < 16) × (setup .shifts .b < 16) × (0 < height) × (length (now ram) ≤ 262144)
+        × (flow .stored + height * 64 < 4294967296) × Column setup × (width ≡ 1) ⌝ }
+    ensures { λ after. ⌜
+        state (now (ram .exit)) after
+        ≡ rows setup width height (state (now (ram .entry)) flow) ⌝ }
+{
+    let first = rows(ram, setup, width, 1, flow);
+    if crate::column::stands(ram.len(), setup, height - 1, first) {
+        let two = crate::fold::two(setup, first);
+        return crate::column::column(ram, setup, two, height - 1, first);
+    }
+    rows(ram, setup, width, height - 1, first)
+}
+
+fn all_rows(ram: &mut [u16], setup: Setup, width: u32, height: u32, flow: Flow) -> Flow
+    requires { ⌜ (setup .shifts .a < 16) × (setup .shifts .b < 16)
+        × (width ≤ 64) × (flow .stored + height * 64 < 4294967296) ⌝ }
+    ensures { λ after. ⌜
+        state (now (ram .exit)) after
+        ≡ rows setup width height (state (now (ram .entry)) flow) ⌝ }
+{
+    if 0 < height {
+        if ram.len() <= 262144 {
+            if crate::column::known(setup, width) {
+                return column_first(ram, setup, width, height, flow);
+            }
+        }
+    }
+    straight_first(ram, setup, width, height, flow)
+}
+
+// All rows, and the last word stored at the end.
 pub fn area_blit(ram: &mut [u16], setup: Setup, width: u32, height: u32, flow: Flow) -> Flow
     requires { ⌜ (setup .shifts .a < 16) × (setup .shifts .b < 16)
         × (width ≤ 64) × (flow .stored + height * 64 < 4294967295) ⌝ }
@@ -193,8 +213,6 @@ pub fn area_blit(ram: &mut [u16], setup: Setup, width: u32, height: u32, flow: F
         state (now (ram .exit)) after
         ≡ areaBlit setup width height (state (now (ram .entry)) flow) ⌝ }
 {
-    let rest = first_rows(ram, setup, width, height, flow);
-    let here = rest.flow;
-    let end = rows(ram, setup, width, rest.left, here);
+    let end = all_rows(ram, setup, width, height, flow);
     area::store::store_pending(ram, end)
 }

@@ -2,10 +2,9 @@
 use mathlib.Core.Path.{_≡_, refl, ap, _∙_}
 use Prim.Native.Nat.{ℕ, suc, _+_, _-_, _<_, _≤_}
 use native.Mathlib.Omega.{arith}
-use mathlib.Core.Bool.{Bool, true, false}
+use mathlib.Core.Bool.{false}
 use mathlib.Core.List.{List}
 use lib.Bits.{bitOr}
-use lib.Dec.{eqb}
 use lib.ListN.{getD, set}
 use Rattle.word.specs.declared.types.Direction.the-variants.{Ascending, Descending}
 use Rattle.word.specs.declared.types.Fill.the-variants.{Off}
@@ -19,7 +18,7 @@ use Rattle.area.specs.Flow.{State, state}
 use Rattle.area.specs.Rows.{words}
 use Rattle.straight.specs.declared.types.Line.{Line}
 use Rattle.straight.specs.declared.types.Two.{Two}
-use Rattle.straight.specs.Line.{place, finalOf, nextLine, along}
+use Rattle.straight.specs.Line.{place, finalOf, along}
 use Rattle.straight.specs.Fits.{Fits}
 use Rattle.straight.specs.Fold.{folded, Folds, Rests, AtRest}
 use Rattle.straight.specs.Sets.{Alone}

@@ -1,7 +1,7 @@
 -- A straight loop's words are the definition's: where a channel stands so many words into a row, and a turn of the loop.
-use mathlib.Core.Path.{_≡_, refl, sym, ap, ap₂, _∙_}
+use mathlib.Core.Path.{_≡_, refl, sym, ap, _∙_}
 use mathlib.Core.Logic.{_≢_}
-use Prim.Native.Nat.{ℕ, zero, suc, _+_, _-_, _*_, _%_, _<_, _≤_}
+use Prim.Native.Nat.{ℕ, zero, suc, _+_, _-_, _%_, _<_, _≤_}
 use native.Mathlib.Nat.{add-zero, mod-eq-of-lt}
 use native.Mathlib.Omega.{arith}
 use mathlib.Core.Bool.{Bool, true, false, _&&_}
@@ -28,9 +28,8 @@ use Rattle.area.specs.Move.{stepped, moveOn}
 use Rattle.area.specs.Rows.{finishedWord, storedBefore, oneWord, words}
 use Rattle.straight.specs.declared.types.Line.{Line}
 use Rattle.straight.specs.declared.types.Ended.{Ended}
-use Rattle.straight.specs.Line.{place, gone, given, maskedOf, finalOf, nextLine, endedWord, opened, along, ended}
+use Rattle.straight.specs.Line.{place, gone, given, finalOf, nextLine, endedWord, opened, along, ended}
 use Rattle.straight.specs.Fits.{Inside, Apart, SourceFits, SourcesFit, Fits, ClearOf, Clear}
-use Rattle.straight.proofs.FitsLaws.{untrue}
 use Rattle.straight.proofs.EarlyLaws.{words-early}
 
 -- a used channel stands where a row that doesn't go round has its word i

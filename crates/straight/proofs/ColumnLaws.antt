@@ -7,7 +7,7 @@ use mathlib.Core.Bool.{Bool, true, false, _&&_, _||_}
 use mathlib.Core.List.{List}
 use lib.Dec.{T, eqb, ltb, eqb→eq, ltb→lt}
 use lib.Bits.{bitOr}
-use lib.ListN.{length, getD, set}
+use lib.ListN.{getD, set}
 use Rattle.word.specs.declared.types.Direction.{Direction}
 use Rattle.word.specs.declared.types.Pointer.{Pointer}
 use Rattle.word.specs.declared.types.Fill.the-variants.{Off}
@@ -23,12 +23,12 @@ use Rattle.word.proofs.StrideLaws.{nextRow-lt, nextRow-evenly}
 use Rattle.word.proofs.EvenLaws.{RowsInside-turn, RowsInside-lt}
 use Rattle.area.specs.declared.types.Setup.{Setup}
 use Rattle.area.specs.declared.types.Flow.{Flow}
-use Rattle.area.specs.Flow.{State, state}
+use Rattle.area.specs.Flow.{state}
 use Rattle.area.specs.Fetch.{fetched, fetch}
 use Rattle.area.specs.Finish.{maskedA, result, final, finish}
 use Rattle.area.specs.Store.{wait, memoryWith, countWith, storePending}
 use Rattle.area.specs.Move.{stepped, moveOn, turned, rowEnd}
-use Rattle.area.specs.Rows.{finishedWord, storedBefore, oneWord, words, rowStart, oneRow, rows}
+use Rattle.area.specs.Rows.{finishedWord, storedBefore, oneWord, rowStart, oneRow, rows}
 use Rattle.straight.specs.declared.types.Two.{Two}
 use Rattle.straight.specs.declared.column.Band.{Band}
 use Rattle.straight.specs.Line.{maskedOf}

@@ -7,7 +7,6 @@ use mathlib.Core.List.{List}
 use lib.Dec.{T, leb, leb→le}
 use Rattle.word.specs.declared.types.Pointer.{Pointer}
 use Rattle.word.specs.Repeat.{repeated}
-use Rattle.word.specs.Shift.{shifted}
 use Rattle.word.proofs.ChoiceLaws.{and-left, and-right}
 use Rattle.word.proofs.RepeatLaws.{repeated-turn, repeated-keeps}
 use Rattle.area.specs.declared.types.Setup.{Setup}
@@ -20,7 +19,6 @@ use Rattle.area.specs.Move.{moveOn, rowEnd}
 use Rattle.area.specs.Rows.{finishedWord, storedBefore, oneWord, words, rowStart, oneRow, rows}
 use Rattle.area.proofs.RowsLaws.{oneRow-counts}
 use Rattle.straight.specs.declared.types.Two.{Two}
-use Rattle.straight.specs.Fold.{Folds, Rests}
 use Rattle.straight.specs.Sets.{Known, Ready}
 use Rattle.straight.proofs.SetsLaws.{at-least-two, rest-c}
 

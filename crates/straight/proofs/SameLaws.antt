@@ -1,5 +1,5 @@
 -- A turn of a loop that stores one word over and over.
-use mathlib.Core.Path.{_≡_, ap}
+use mathlib.Core.Path.{_≡_}
 use Prim.Native.Nat.{ℕ, _+_, _-_, _<_, _≤_}
 use mathlib.Core.Bool.{false}
 use mathlib.Core.List.{List}

@@ -46,6 +46,10 @@ pub fn known(setup: Setup, width: u32) -> bool
     let fill = setup.fill;
     if uses.d & (2 <= width) {
         if uses.b {
+            // two words of three sources are sooner done word by word
+            if width == 2 {
+                return false;
+            }
             return uses.c & plain_up(direction, fill);
         }
         if uses.c {

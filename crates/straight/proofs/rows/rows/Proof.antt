@@ -1,5 +1,5 @@
 -- `straight::rows::rows` meets its contract: what is left from here gives what the whole gives.
-use Prim.Native.Nat.{_+_, _*_, _<_, _≤_}
+use Prim.Native.Nat.{_+_, _*_, _<_}
 use mathlib.Core.Path.{_≡_}
 use lib.ListN.{length}
 use Rattle.area.specs.Flow.{state}

@@ -267,14 +267,14 @@ ended-turn n last i setup base memory line sources end whole fits some more give
     (ap (λ (end : Ended). end .word) ends) (ap (λ (end : Ended). end .line) ends)
     ∙ here)
 
+pub and-true : (test : Bool) → (test && true) ≡ test
+and-true true = refl
+and-true false = refl
+
 -- before its first word a row is what it began with
 opening : (setup : Setup) (base : Flow) → base .pending ≡ nothing → along setup base 0 (opened base) ≡ base
 unfolding along opened gone
 opening setup base none = rw (← none, and-true (base .allzero), add-zero (base .stored))
-  where
-    and-true : (test : Bool) → (test && true) ≡ test
-    and-true true = refl
-    and-true false = refl
 
 place-first : (direction : Direction) (from : ℕ) → place direction from 0 ≡ from
 place-first Ascending from = omega arith

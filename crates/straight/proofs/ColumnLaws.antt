@@ -1,5 +1,5 @@
 -- A turn of a column's loop is a row of the definition.
-use mathlib.Core.Path.{_≡_, refl, sym, ap, subst, _∙_}
+use mathlib.Core.Path.{_≡_, sym, ap, subst, _∙_}
 use Prim.Native.Nat.{ℕ, zero, suc, _+_, _-_, _%_, _<_, _≤_}
 use native.Mathlib.Nat.{add-zero}
 use native.Mathlib.Omega.{arith}
@@ -17,7 +17,7 @@ use Rattle.word.specs.Shift.{shifted}
 use Rattle.word.specs.Logic.{logic}
 use Rattle.word.specs.Fill.{filled}
 use Rattle.word.specs.Even.{nextRow, RowsInside}
-use Rattle.word.proofs.ChoiceLaws.{and-left, and-right}
+use Rattle.word.proofs.ChoiceLaws.{and-left, and-right, or-left, or-right}
 use Rattle.word.proofs.RepeatLaws.{repeated-turn}
 use Rattle.word.proofs.StrideLaws.{nextRow-lt, nextRow-evenly}
 use Rattle.word.proofs.EvenLaws.{RowsInside-turn, RowsInside-lt}
@@ -34,9 +34,9 @@ use Rattle.straight.specs.declared.column.Band.{Band}
 use Rattle.straight.specs.Line.{maskedOf}
 use Rattle.straight.specs.Fold.{folded, Folds}
 use Rattle.straight.specs.Column.{origin, Column, columnAt, begun, Goes, Resting, Stands}
-use Rattle.straight.proofs.FitsLaws.{untrue}
 use Rattle.straight.proofs.FoldLaws.{shifted-lt}
-use Rattle.straight.proofs.AlongLaws.{still-nought, filled-off}
+use Rattle.straight.proofs.EarlyLaws.{fetched-unused}
+use Rattle.straight.proofs.AlongLaws.{still-nought, filled-off, and-true}
 
 -- a pointer moved by the stride
 pub next-place : (direction : Direction) (modulo at to : ℕ) → at < 262144 → to ≡ nextRow direction 1 modulo origin .word
@@ -56,10 +56,6 @@ stays direction used modulo pointer idle = rw idle
 gives : (used : Bool) (memory : List ℕ) (pointer : Pointer) (source word : ℕ) → used ≡ true → word ≡ getD memory (pointer .word) 0 → fetched used memory pointer source ≡ word
 unfolding fetched
 gives used memory pointer source word uses reads = rw uses (sym reads)
-
-rests : (used : Bool) (memory : List ℕ) (pointer : Pointer) (source : ℕ) → used ≡ false → fetched used memory pointer source ≡ source
-unfolding fetched
-rests used memory pointer source idle = rw idle
 
 one-more : (stored rows : ℕ) → stored + rows + 1 ≡ stored + suc rows
 one-more stored rows = omega arith
@@ -88,8 +84,8 @@ module _ (setup : Setup) (two : Two) (flow : Flow) (rows : ℕ) (memory : List �
   column-row =
       rw (
         gives (setup .uses .a) memory (record { word = band .a }) (band .source) a (column .0) reads,
-        rests (setup .uses .b) memory (flow .pointers .b) (flow .sources .b) (column .1),
-        rests (setup .uses .c) memory (flow .pointers .c) (flow .sources .c) (column .2),
+        fetched-unused (setup .uses .b) memory (flow .pointers .b) (flow .sources .b) (column .1),
+        fetched-unused (setup .uses .c) memory (flow .pointers .c) (flow .sources .c) (column .2),
         moves (setup .direction) (setup .uses .a) (setup .modulos .a) (band .a) toA (column .0) small-a strides-a,
         moves (setup .direction) (setup .uses .d) (setup .modulos .d) (band .d) toD (column .3) small-d strides-d,
         stays (setup .direction) (setup .uses .b) (setup .modulos .b) (flow .pointers .b) (column .1),
@@ -155,10 +151,6 @@ module _ (setup : Setup) (two : Two) (n height : ℕ) (flow : Flow) (stands : St
   begins-there : columnAt setup flow 0 (begun flow) ≡ flow
   unfolding columnAt begun Stands Resting
   begins-there = rw (and-true (flow .allzero), add-zero (flow .stored), ← stands .0 .2, ← stands .0 .3, ← stands .0 .0)
-    where
-      and-true : (test : Bool) → (test && true) ≡ test
-      and-true true = refl
-      and-true false = refl
 
   pub column-done : (memory after : List ℕ) (start end : Band) (next : Flow) → Folds setup two (flow .sources .b) (flow .sources .c)
       → start ≡ begun flow → Goes setup two 0 after end height memory start → next ≡ columnAt setup flow height end
@@ -218,8 +210,8 @@ pub place-inside : (n modulo left at next : ℕ) (direction : Direction) → 0 <
     → next ≡ at → next < n
 place-inside n modulo left at next direction more inside is = rw is (inside-now n modulo left at at at direction more inside)
 
-pub moved-lt : (next at to : ℕ) → next ≡ (at + to) % 262144 → next < 262144
-moved-lt next at to is = rw is (omega arith)
+pub round-lt : (next at to : ℕ) → next ≡ (at + to) % 262144 → next < 262144
+round-lt next at to is = rw is (omega arith)
 
 pub goes-end : (setup : Setup) (two : Two) (left whole : ℕ) (memory begins : List ℕ) (band start : Band) → left ≤ 0
     → Goes setup two left memory band whole begins start → Goes setup two 0 memory band whole begins start
@@ -233,21 +225,13 @@ column-told setup width told uses idle off is =
     let wide : (eqb width 1 && setup .uses .a) ≡ true = and-left (eqb width 1 && setup .uses .a) (setup .uses .d) uses in (
       (
         and-right (eqb width 1) (setup .uses .a) wide,
-        left (setup .uses .b) (setup .uses .c) idle,
-        right (setup .uses .b) (setup .uses .c) idle,
+        or-left (setup .uses .b) (setup .uses .c) idle,
+        or-right (setup .uses .b) (setup .uses .c) idle,
         and-right (eqb width 1 && setup .uses .a) (setup .uses .d) uses,
         off is,
       ),
       eqb→eq width 1 (subst T (sym (and-left (eqb width 1) (setup .uses .a) wide)) tt),
     )
-  where
-    left : (a b : Bool) → (a || b) ≡ false → a ≡ false
-    left true b none = none
-    left false b none = refl
-
-    right : (a b : Bool) → (a || b) ≡ false → b ≡ false
-    right true b none = untrue (sym none)
-    right false b none = none
 
 pub resting-told : (n : ℕ) (setup : Setup) (flow : Flow) → flow .pending .waits ≡ true
     → ((ltb (flow .pending .place) n && eqb (flow .earlier .b) (flow .sources .b)) && eqb (flow .carry) (setup .carry)) ≡ true → Resting n setup flow

@@ -17,6 +17,11 @@ use Rattle.area.specs.Move.{moveOn}
 use Rattle.area.specs.Rows.{finishedWord, storedBefore, oneWord, words}
 use Rattle.straight.specs.Fits.{ClearOf, Clear}
 
+-- a source at rest gives what it holds
+pub fetched-unused : (used : Bool) (memory : List ℕ) (pointer : Pointer) (source : ℕ) → used ≡ false → fetched used memory pointer source ≡ source
+unfolding fetched
+fetched-unused used memory pointer source idle = rw idle
+
 fetched-early : (used waits : Bool) (place word : ℕ) (memory : List ℕ) (pointer : Pointer) (source : ℕ)
     → ClearOf used (record { waits = waits; place = place; word = word }) (pointer .word)
     → fetched used (memoryWith (record { waits = waits; place = place; word = word }) memory) pointer source ≡ fetched used memory pointer source

@@ -7,7 +7,8 @@ use mathlib.Core.Bool.{Bool, true, false, not, _&&_, _||_}
 use lib.Dec.{T, leb, eqb, leb→le, T-not, eqb-refl}
 use Rattle.word.specs.declared.types.Direction.{Direction}
 use Rattle.word.specs.declared.types.Direction.the-variants.{Ascending, Descending}
-use Rattle.word.proofs.ChoiceLaws.{and-left, and-right}
+use Rattle.word.proofs.ChoiceLaws.{and-left, and-right, or-left, or-right}
+use Rattle.word.proofs.EvenLaws.{nothing-promised}
 use Rattle.area.specs.declared.types.Setup.{Setup}
 use Rattle.area.specs.declared.types.Pending.{Pending}
 use Rattle.area.specs.declared.types.Pointers.{Pointers}
@@ -17,9 +18,6 @@ use Rattle.straight.specs.Fits.{Inside, Apart, SourceFits, SourcesFit, F
 
 holds : (test : Bool) → test ≡ true → T test
 holds test is = subst T (sym is) tt
-
-pub untrue : {Fact : Type 0} → false ≡ true → Fact
-untrue is = absurd (holds false is)
 
 pub inside-up : (n width from : ℕ) (direction : Direction)
     → direction ≡ Ascending → leb (from + width) n ≡ true → Inside n direction width from
@@ -52,11 +50,11 @@ module _ (n width d from : ℕ) (direction : Direction) (used : Bool) (pending :
     where
       unmet : (waits : Bool) → waits ≡ true → not (waits && eqb from (pending .place)) ≡ true → not (eqb from (pending .place)) ≡ true
       unmet true waiting is = is
-      unmet false waiting is = untrue waiting
+      unmet false waiting is = nothing-promised waiting
 
   pub source-unused : used ≡ false
       → SourceFits n direction used width d from × ClearOf used pending from
-  source-unused idle = ((λ uses. untrue (sym idle ∙ uses)), (λ uses waiting. untrue (sym idle ∙ uses)))
+  source-unused idle = ((λ uses. nothing-promised (sym idle ∙ uses)), (λ uses waiting. nothing-promised (sym idle ∙ uses)))
 
 pub told-not : (told : Bool) → not told ≡ false → told ≡ true
 told-not true is = refl
@@ -83,21 +81,13 @@ module _ (n width : ℕ) (setup : Setup) (flow : Flow) where
       → ((setup .uses .a || setup .uses .b) || setup .uses .c) ≡ false → Taken n setup width flow
   bare-taken inside most uses is told none =
       row-taken inside most uses is told
-      (sources-fit (idle-fits (setup .uses .a) (flow .pointers .a .word) (left (setup .uses .a) (setup .uses .b) (left (setup .uses .a || setup .uses .b) (setup .uses .c) none)))
-      (idle-fits (setup .uses .b) (flow .pointers .b .word) (right (setup .uses .a) (setup .uses .b) (left (setup .uses .a || setup .uses .b) (setup .uses .c) none)))
-      (idle-fits (setup .uses .c) (flow .pointers .c .word) (right (setup .uses .a || setup .uses .b) (setup .uses .c) none)))
+      (sources-fit (idle-fits (setup .uses .a) (flow .pointers .a .word) (or-left (setup .uses .a) (setup .uses .b) (or-left (setup .uses .a || setup .uses .b) (setup .uses .c) none)))
+      (idle-fits (setup .uses .b) (flow .pointers .b .word) (or-right (setup .uses .a) (setup .uses .b) (or-left (setup .uses .a || setup .uses .b) (setup .uses .c) none)))
+      (idle-fits (setup .uses .c) (flow .pointers .c .word) (or-right (setup .uses .a || setup .uses .b) (setup .uses .c) none)))
     where
-      left : (a b : Bool) → (a || b) ≡ false → a ≡ false
-      left true b none = none
-      left false b none = refl
-
-      right : (a b : Bool) → (a || b) ≡ false → b ≡ false
-      right true b none = untrue (sym none)
-      right false b none = none
-
       idle-fits : (used : Bool) (from : ℕ) → used ≡ false
           → SourceFits n (setup .direction) used width (flow .pointers .d .word) from × ClearOf used (flow .pending) from
-      idle-fits used from idle = ((λ uses. untrue (sym idle ∙ uses)), (λ uses waiting. untrue (sym idle ∙ uses)))
+      idle-fits used from idle = ((λ uses. nothing-promised (sym idle ∙ uses)), (λ uses waiting. nothing-promised (sym idle ∙ uses)))
 
 -- the last word of each used channel's row lies inside
 inside-up-to : (n last from : ℕ) (direction : Direction) → direction ≡ Ascending → Inside n direction (last + 1) from → from + last < n

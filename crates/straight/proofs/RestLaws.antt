@@ -5,14 +5,13 @@ use native.Mathlib.Omega.{arith}
 use mathlib.Core.Bool.{Bool, true, false, _&&_}
 use mathlib.Core.List.{List}
 use lib.Dec.{T, leb, leb→le}
-use Rattle.word.specs.declared.types.Pointer.{Pointer}
 use Rattle.word.specs.Repeat.{repeated}
 use Rattle.word.proofs.ChoiceLaws.{and-left, and-right}
 use Rattle.word.proofs.RepeatLaws.{repeated-turn, repeated-keeps}
 use Rattle.area.specs.declared.types.Setup.{Setup}
 use Rattle.area.specs.declared.types.Flow.{Flow}
 use Rattle.area.specs.Flow.{State, state}
-use Rattle.area.specs.Fetch.{fetched, fetch}
+use Rattle.area.specs.Fetch.{fetch}
 use Rattle.area.specs.Finish.{finish}
 use Rattle.area.specs.Store.{wait, storePending}
 use Rattle.area.specs.Move.{moveOn, rowEnd}
@@ -20,24 +19,21 @@ use Rattle.area.specs.Rows.{finishedWord, storedBefore, oneWord, words, rowStar
 use Rattle.area.proofs.RowsLaws.{oneRow-counts}
 use Rattle.straight.specs.declared.types.Two.{Two}
 use Rattle.straight.specs.Sets.{Known, Ready}
+use Rattle.straight.proofs.EarlyLaws.{fetched-unused}
 use Rattle.straight.proofs.SetsLaws.{at-least-two, rest-c}
-
-idle : (used : Bool) (memory : List ℕ) (pointer : Pointer) (source : ℕ) → used ≡ false → fetched used memory pointer source ≡ source
-unfolding fetched
-idle used memory pointer source off = rw off
 
 module _ (setup : Setup) (width : ℕ) where
   word-keeps-b : setup .uses .b ≡ false → (left : ℕ) (now : State) → oneWord setup width left now .flow .sources .b ≡ now .flow .sources .b
   unfolding oneWord storedBefore storePending wait moveOn finishedWord finish fetch
-  word-keeps-b off left now = idle (setup .uses .b) (now .memory) (now .flow .pointers .b) (now .flow .sources .b) off
+  word-keeps-b off left now = fetched-unused (setup .uses .b) (now .memory) (now .flow .pointers .b) (now .flow .sources .b) off
 
   word-keeps-c : setup .uses .c ≡ false → (left : ℕ) (now : State) → oneWord setup width left now .flow .sources .c ≡ now .flow .sources .c
   unfolding oneWord storedBefore storePending wait moveOn finishedWord finish fetch
-  word-keeps-c off left now = idle (setup .uses .c) (now .memory) (now .flow .pointers .c) (now .flow .sources .c) off
+  word-keeps-c off left now = fetched-unused (setup .uses .c) (now .memory) (now .flow .pointers .c) (now .flow .sources .c) off
 
   word-earlier-b : setup .uses .b ≡ false → (left : ℕ) (now : State) → oneWord setup width left now .flow .earlier .b ≡ now .flow .sources .b
   unfolding oneWord storedBefore storePending wait moveOn finishedWord finish fetch
-  word-earlier-b off left now = idle (setup .uses .b) (now .memory) (now .flow .pointers .b) (now .flow .sources .b) off
+  word-earlier-b off left now = fetched-unused (setup .uses .b) (now .memory) (now .flow .pointers .b) (now .flow .sources .b) off
 
   words-earlier-b : setup .uses .b ≡ false → (left : ℕ) (now : State) → words setup width (suc left) now .flow .earlier .b ≡ now .flow .sources .b
   unfolding repeated

@@ -13,7 +13,7 @@ use Rattle.area.specs.declared.types.Flow.{Flow}
 use Rattle.straight.specs.declared.types.Two.{Two}
 use Rattle.straight.specs.Fold.{Folds, Rests}
 use Rattle.straight.specs.Sets.{Known, Ready}
-use Rattle.straight.proofs.FitsLaws.{untrue}
+use Rattle.word.proofs.EvenLaws.{nothing-promised}
 
 -- down is not up
 pub not-up : (direction : Direction) (fill : Fill) → direction ≡ Descending → direction ≡ Ascending → fill ≡ Off
@@ -25,7 +25,7 @@ not-up direction fill down up = absurd (subst Down (sym down ∙ up) tt)
 
 -- a test that is on and off
 both : {Fact : Type 0} (test : Bool) → test ≡ true → test ≡ false → Fact
-both test on off = untrue (sym off ∙ on)
+both test on off = nothing-promised (sym off ∙ on)
 
 pub plain-up-told : (direction : Direction) (fill : Fill) (told : Bool) → direction ≡ Ascending → (told ≡ true → fill ≡ Off) → told ≡ true
     → (direction ≡ Ascending) × (fill ≡ Off)

@@ -1,4 +1,4 @@
--- The rows that the straight loops take: inside memory, without going round, and in an order that W2's can't be told from.
+-- The rows that the straight loops take: inside memory, without going round, and no word fetched while it is pending.
 use Prim.Native.Nat.{ℕ, _+_, _<_, _≤_}
 use mathlib.Core.Path.{_≡_}
 use mathlib.Core.Logic.{_≢_}

@@ -4,7 +4,7 @@ use mathlib.Core.Path.{_≡_, refl}
 use lib.ListN.{length}
 use Rattle.word.specs.Even.{RowsInside}
 use Rattle.straight.specs.Column.{Goes}
-use Rattle.straight.proofs.ColumnLaws.{goes-start, goes-turn, goes-end, inside-turn, inside-now, far-lt, place-inside, moved-lt}
+use Rattle.straight.proofs.ColumnLaws.{goes-start, goes-turn, goes-end, inside-turn, inside-now, far-lt, place-inside, round-lt}
 use borrow.Author.Needs.{needs}
 use Rattle.straight.proofs.column.bands.Statement.{statement}
 use Rattle.straight.proofs.column.bands.Tie as tie
@@ -52,8 +52,8 @@ loop-again : tie.Need-loop-again Inv-loop μ-loop
 loop-again c = (
   search needs,
   search needs,
-  moved-lt _ _ _ (c .next .ensures .0),
-  moved-lt _ _ _ (c .next .ensures .1),
+  round-lt _ _ _ (c .next .ensures .0),
+  round-lt _ _ _ (c .next .ensures .1),
   place-inside _ _ _ _ _ _ (search (needs, c .before .before .loop-test .taken)) (c .before .before .before .loop .inv .6) (c .next .ensures .6),
   inside-turn _ _ _ _ _ _ _ (search (needs, c .before .before .loop-test .taken)) (c .before .before .before .loop .inv .2) (c .before .before .before .before .before .stride .ensures) (c .next .ensures .0) (c .before .before .before .loop .inv .5),
   inside-turn _ _ _ _ _ _ _ (search (needs, c .before .before .loop-test .taken)) (c .before .before .before .loop .inv .3) (c .before .before .before .before .stride2 .ensures) (c .next .ensures .1) (c .before .before .before .loop .inv .6),

@@ -1,5 +1,5 @@
 -- `straight::column::inside` meets its contract: told from the first and last row.
-use Rattle.straight.proofs.FitsLaws.{untrue}
+use Rattle.word.proofs.EvenLaws.{nothing-promised}
 use Rattle.straight.proofs.ColumnLaws.{inside-told}
 use borrow.Author.Needs.{needs}
 use Rattle.straight.proofs.column.inside.Statement.{statement}
@@ -12,7 +12,7 @@ returns : tie.Need-returns
 returns c = search (needs, inside-told, c .evenly-inside .ensures)
 
 returns-2 : tie.Need-returns-2
-returns-2 c = search untrue
+returns-2 c = search nothing-promised
 
 pub inside-spec : {M : Type 1} → statement M
 inside-spec = tie.close (tie.spec evenly-inside-requires returns returns-2)

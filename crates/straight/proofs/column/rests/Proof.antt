@@ -1,5 +1,5 @@
 -- `straight::column::rests` meets its contract: each of its tests.
-use Rattle.straight.proofs.FitsLaws.{untrue}
+use Rattle.word.proofs.EvenLaws.{nothing-promised}
 use Rattle.straight.proofs.ColumnLaws.{resting-told}
 use borrow.Author.Needs.{needs}
 use Rattle.straight.proofs.column.rests.Statement.{statement}
@@ -12,7 +12,7 @@ returns : tie.Need-returns
 returns c = λ told. resting-told _ _ (c .before .before .before .before .before .before .args .flow) (c .before .before .before .before .if1 .taken) told
 
 returns-2 : tie.Need-returns-2
-returns-2 c = search untrue
+returns-2 c = search nothing-promised
 
 pub rests-spec : {M : Type 1} → statement M
 rests-spec = tie.close (tie.spec cast-result returns returns-2)

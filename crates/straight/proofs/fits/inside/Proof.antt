@@ -1,5 +1,6 @@
 -- `straight::fits::inside` meets its contract: the row's ends tell.
-use Rattle.straight.proofs.FitsLaws.{untrue, inside-up, inside-down}
+use Rattle.word.proofs.EvenLaws.{nothing-promised}
+use Rattle.straight.proofs.FitsLaws.{inside-up, inside-down}
 use borrow.Author.Needs.{needs}
 use Rattle.straight.proofs.fits.inside.Statement.{statement}
 use Rattle.straight.proofs.fits.inside.Tie as tie
@@ -14,7 +15,7 @@ enum-told-2 : tie.Need-enum-told-2
 enum-told-2 c = search needs
 
 returns : tie.Need-returns
-returns c = search untrue
+returns c = search nothing-promised
 
 add-result-2 : tie.Need-add-result-2
 add-result-2 c = search needs

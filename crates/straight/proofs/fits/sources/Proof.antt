@@ -1,5 +1,6 @@
 -- `straight::fits::sources` meets its contract: its three calls.
-use Rattle.straight.proofs.FitsLaws.{untrue, told-not, sources-fit}
+use Rattle.word.proofs.EvenLaws.{nothing-promised}
+use Rattle.straight.proofs.FitsLaws.{told-not, sources-fit}
 use borrow.Author.Needs.{needs}
 use Rattle.straight.proofs.fits.sources.Statement.{statement}
 use Rattle.straight.proofs.fits.sources.Tie as tie
@@ -8,13 +9,13 @@ source-requires : tie.Need-source-requires
 source-requires c κs = search needs
 
 returns : tie.Need-returns
-returns c = search untrue
+returns c = search nothing-promised
 
 source-requires-2 : tie.Need-source-requires-2
 source-requires-2 c κs = search needs
 
 returns-2 : tie.Need-returns-2
-returns-2 c = search untrue
+returns-2 c = search nothing-promised
 
 source-requires-3 : tie.Need-source-requires-3
 source-requires-3 c κs = search needs

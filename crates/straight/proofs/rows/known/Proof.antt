@@ -1,12 +1,12 @@
 -- `straight::rows::known` meets its contract: the set is known, and memory is no larger than a pointer reaches.
-use Rattle.straight.proofs.FitsLaws.{untrue}
+use Rattle.word.proofs.EvenLaws.{nothing-promised}
 use Rattle.straight.proofs.RestLaws.{known-small}
 use borrow.Author.Needs.{needs}
 use Rattle.straight.proofs.rows.known.Statement.{statement}
 use Rattle.straight.proofs.rows.known.Tie as tie
 
 returns : tie.Need-returns
-returns c = search untrue
+returns c = search nothing-promised
 
 known-requires : tie.Need-known-requires
 known-requires c κs = search needs

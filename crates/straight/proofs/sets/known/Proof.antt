@@ -1,12 +1,12 @@
 -- `straight::sets::known` meets its contract, at each set.
-use Rattle.straight.proofs.FitsLaws.{untrue}
+use Rattle.word.proofs.EvenLaws.{nothing-promised}
 use Rattle.straight.proofs.SetsLaws.{known-three, known-alone, known-bare}
 use borrow.Author.Needs.{needs}
 use Rattle.straight.proofs.sets.known.Statement.{statement}
 use Rattle.straight.proofs.sets.known.Tie as tie
 
 returns : tie.Need-returns
-returns c = search untrue
+returns c = search nothing-promised
 
 plain-up-requires : tie.Need-plain-up-requires
 plain-up-requires c κs = search needs
@@ -15,7 +15,7 @@ returns-2 : tie.Need-returns-2
 returns-2 c = search (known-three, c .before .plain-up .ensures)
 
 returns-3 : tie.Need-returns-3
-returns-3 c = search untrue
+returns-3 c = search nothing-promised
 
 plain-or-down-requires : tie.Need-plain-or-down-requires
 plain-or-down-requires c κs = search needs
@@ -30,7 +30,7 @@ returns-5 : tie.Need-returns-5
 returns-5 c = search (known-bare, c .off .ensures)
 
 returns-6 : tie.Need-returns-6
-returns-6 c = search untrue
+returns-6 c = search nothing-promised
 
 pub known-spec : {M : Type 1} → statement M
 known-spec =

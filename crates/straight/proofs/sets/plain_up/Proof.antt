@@ -1,5 +1,5 @@
 -- `straight::sets::plain_up` meets its contract, in each direction.
-use Rattle.straight.proofs.FitsLaws.{untrue}
+use Rattle.word.proofs.EvenLaws.{nothing-promised}
 use Rattle.straight.proofs.SetsLaws.{plain-up-told}
 use borrow.Author.Needs.{needs}
 use Rattle.straight.proofs.sets.plain_up.Statement.{statement}
@@ -18,7 +18,7 @@ returns : tie.Need-returns
 returns c = search (plain-up-told, c .off .ensures)
 
 returns-2 : tie.Need-returns-2
-returns-2 c = search untrue
+returns-2 c = search nothing-promised
 
 pub plain-up-spec : {M : Type 1} → statement M
 plain-up-spec = tie.close (tie.spec enum-told off-requires enum-told-2 returns returns-2)

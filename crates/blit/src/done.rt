@@ -15,7 +15,7 @@ fn done(ram: &mut [u16], file: &mut [u16], size: u16) -> u32
     let flow = area::flow::start(file);
     let width = word::size::width(size);
     let height = word::size::height(size);
-    let end = straight::rows::area_blit(ram, setup, width, height, flow);
+    let end = engine::rows::area_blit(ram, setup, width, height, flow);
     let uses = setup.uses;
     let pointers = end.pointers;
     let sources = end.sources;

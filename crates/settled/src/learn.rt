@@ -103,5 +103,5 @@ pub fn settled_end(file: &[u16], size: u16) -> Flow
     let flow = area::flow::start(file);
     let width = word::size::width(size);
     let height = word::size::height(size);
-    straight::rows::rows(&mut none, setup, width, height, flow)
+    engine::rows::rows(&mut none, setup, width, height, flow)
 }

@@ -8,7 +8,7 @@ use mathlib.Core.Bool.{Bool, true, false, _&&_}
 use mathlib.Core.List.{List}
 use lib.Dec.{T, eqb, eqb→eq, eqb-refl, eqb·suc-zero}
 use lib.Bits.{bitOr, or-zero-l, or-add-and, and-le-r}
-use lib.ListN.{getD, set}
+use lib.ListN.{length, getD, set, List·getD-eq-default}
 use Rattle.word.specs.declared.types.Direction.{Direction}
 use Rattle.word.specs.declared.types.Direction.the-variants.{Ascending, Descending}
 use Rattle.word.specs.declared.types.Fill.{Fill}
@@ -242,6 +242,10 @@ given-used used memory place source uses = rw uses
 pub given-unused : (used : Bool) (memory : List ℕ) (place source : ℕ) → used ≡ false → source ≡ given used memory place source
 unfolding given
 given-unused used memory place source idle = rw idle
+
+-- past the end of memory a source gives nought
+pub given-past : (used : Bool) (memory : List ℕ) (at source : ℕ) → used ≡ true → length memory ≤ at → 0 ≡ given used memory at source
+given-past used memory at source uses past = sym (List·getD-eq-default memory 0 past) ∙ given-used used memory at source uses
 
 pub filled-off : (fill : Fill) (carry word : ℕ) → fill ≡ Off → record { word = word; carry = carry } ≡ filled fill carry word
 unfolding filled

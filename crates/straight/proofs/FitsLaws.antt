@@ -170,3 +170,12 @@ fits-most n width setup pointers fits = (
     (λ uses. (inside-most n width (pointers .c .word) (setup .direction) (fits .0) (fits .3 .2 uses .0), fits .3 .2 uses .1)),
   ),
 )
+
+-- the first word of a row inside lies inside
+pub inside-first : (n last : ℕ) (direction : Direction) (from : ℕ) → Inside n direction (last + 1) from → from < n
+inside-first n last Ascending from inside = omega arith
+inside-first n last Descending from inside = inside .0
+
+pub d-inside : (n last : ℕ) (setup : Setup) (pointers : Pointers) → Fits n setup (last + 1) pointers → pointers .d .word < n
+unfolding Fits
+d-inside n last setup pointers fits = inside-first n last (setup .direction) (pointers .d .word) (fits .2)

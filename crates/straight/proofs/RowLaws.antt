@@ -5,7 +5,7 @@ use native.Mathlib.Nat.{add-zero}
 use native.Mathlib.Omega.{arith}
 use mathlib.Core.Bool.{Bool, true, false}
 use mathlib.Core.List.{List}
-use lib.ListN.{length, getD, set, List·getD-eq-default}
+use lib.ListN.{getD, set}
 use Rattle.word.specs.declared.types.Direction.{Direction}
 use Rattle.word.specs.declared.types.Direction.the-variants.{Ascending, Descending}
 use Rattle.area.specs.declared.types.Sources.{Sources}
@@ -22,10 +22,6 @@ use Rattle.straight.specs.Fits.{Inside, SourcesFit, Fits}
 use Rattle.straight.specs.Fold.{Folds, Rests, AtRest}
 use Rattle.straight.specs.Sets.{Alone, Bare}
 use Rattle.straight.proofs.AlongLaws.{given-used, given-unused, first-turn, last-waits}
-
--- past the end of memory a source gives nought
-pub given-past : (used : Bool) (memory : List ℕ) (at source : ℕ) → used ≡ true → length memory ≤ at → 0 ≡ given used memory at source
-given-past used memory at source uses past = sym (List·getD-eq-default memory 0 past) ∙ given-used used memory at source uses
 
 pub fits-kept : (n m width : ℕ) (setup : Setup) (pointers : Pointers) → n ≡ m → Fits m setup width pointers → Fits n setup width pointers
 fits-kept n m width setup pointers same fits = rw same fits

@@ -1,6 +1,5 @@
 -- `straight::words::given` meets its contract, used or not, inside memory or past its end.
-use Rattle.straight.proofs.AlongLaws.{given-used, given-unused}
-use Rattle.straight.proofs.RowLaws.{given-past}
+use Rattle.straight.proofs.AlongLaws.{given-used, given-unused, given-past}
 use borrow.Author.Needs.{needs}
 use Rattle.straight.proofs.words.given.Statement.{statement}
 use Rattle.straight.proofs.words.given.Tie as tie

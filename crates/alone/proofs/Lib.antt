@@ -1,0 +1,2 @@
+-- The laws of the loops for A alone.
+pub mod AloneLaws

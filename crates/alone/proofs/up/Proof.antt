@@ -1,0 +1,109 @@
+-- `alone::up` meets its contract: a turn is a word of the definition, stored before the next is fetched.
+use Prim.Native.Nat.{_+_, _-_, _<_, _≤_}
+use mathlib.Core.Path.{_≡_}
+use lib.ListN.{length}
+use Rattle.area.specs.Flow.{state}
+use Rattle.area.specs.Rows.{words}
+use Rattle.straight.specs.Line.{along}
+use Rattle.straight.specs.Fold.{AtRest}
+use Rattle.straight.proofs.FitsLaws.{up-to-a, up-to-d}
+use Rattle.straight.proofs.AlongLaws.{one-done, one-left}
+use Rattle.alone.proofs.AloneLaws.{rest-on, alone-up-turn}
+use borrow.Author.Needs.{needs}
+use Rattle.alone.proofs.up.Statement.{statement}
+use Rattle.alone.proofs.up.Tie as tie
+
+abbrev Inv-loop : tie.InvT-loop
+Inv-loop ram₀ setup two last base here₀ i₀ ram here i = (1 ≤ i) × (i ≤ last) × (length ram ≡ length ram₀)
+    × (base .pointers .a .word + last < length ram₀) × (base .pointers .d .word + last < length ram₀)
+    × AtRest here₀ here
+    × (words setup (last + 1) (last + 1 - i) (state ram (along setup base i here))
+    ≡ words setup (last + 1) last (state ram₀ (along setup base 1 here₀)))
+
+abbrev μ-loop : tie.MeasureT-loop
+μ-loop ram₀ setup two last base here₀ i₀ ram here i = last - i
+
+loop-holds : tie.Need-loop-holds Inv-loop μ-loop
+loop-holds c = (search needs, search needs, search needs, search (up-to-a, needs), search (up-to-d, needs), search needs, search one-done)
+
+cast-a : tie.Need-cast-a Inv-loop μ-loop
+cast-a c = search needs
+
+add-a : tie.Need-add-a Inv-loop μ-loop
+add-a c = search needs
+
+mul-a : tie.Need-mul-a Inv-loop μ-loop
+mul-a c = search needs
+
+slice-read-a : tie.Need-slice-read-a Inv-loop μ-loop
+slice-read-a c = search needs
+
+ascending-requires : tie.Need-ascending-requires Inv-loop μ-loop
+ascending-requires c κs = search needs
+
+folded-requires : tie.Need-folded-requires Inv-loop μ-loop
+folded-requires c κs = search needs
+
+cast-ram : tie.Need-cast-ram Inv-loop μ-loop
+cast-ram c = search needs
+
+add-ram : tie.Need-add-ram Inv-loop μ-loop
+add-ram c = search needs
+
+mul-ram : tie.Need-mul-ram Inv-loop μ-loop
+mul-ram c = search needs
+
+slice-write-ram : tie.Need-slice-write-ram Inv-loop μ-loop
+slice-write-ram c = search needs
+
+handed-on-requires : tie.Need-handed-on-requires Inv-loop μ-loop
+handed-on-requires c κs = search needs
+
+add-i : tie.Need-add-i Inv-loop μ-loop
+add-i c = search needs
+
+loop-less : tie.Need-loop-less Inv-loop μ-loop
+loop-less c = search needs
+
+loop-again : tie.Need-loop-again Inv-loop μ-loop
+loop-again c = (
+  search needs,
+  search needs,
+  search needs,
+  search needs,
+  search needs,
+  search rest-on,
+  alone-up-turn _ _ (c .before .before .before .before .before .before .before .loop .i) _ _ (c .before .before .before .before .before .before .before .loop .ram) _ (c .before .before .before .before .before .before .before .before .before .args .line) (c .before .before .before .before .before .before .before .loop .here) _ _ _ _
+      (c .before .before .before .before .before .before .before .before .before .pre .4) (c .before .before .before .before .before .before .before .before .before .pre .5) (c .before .before .before .before .before .before .before .before .before .pre .3) (c .before .before .before .before .before .before .before .before .before .pre .6) (search needs) (search needs) (c .before .before .before .before .before .before .before .before .before .pre .7)
+      (c .before .before .before .before .before .before .before .loop .inv .5) (c .before .before .before .ascending .ensures) (c .before .before .folded .ensures) (c .handed-on .ensures) (c .before .before .before .before .before .before .before .loop .inv .6),
+)
+
+same-length : tie.Need-same-length Inv-loop μ-loop
+same-length c = search needs
+
+returns : tie.Need-returns Inv-loop μ-loop
+returns c = search (needs, one-left)
+
+pub up-spec : {M : Type 1} → statement M
+up-spec =
+    tie.close
+    (tie.spec
+    Inv-loop
+    μ-loop
+    loop-holds
+    cast-a
+    add-a
+    mul-a
+    slice-read-a
+    ascending-requires
+    folded-requires
+    cast-ram
+    add-ram
+    mul-ram
+    slice-write-ram
+    handed-on-requires
+    add-i
+    loop-less
+    loop-again
+    same-length
+    returns)

@@ -1,0 +1,2 @@
+-- The laws of a column.
+pub mod ColumnLaws

@@ -1,0 +1,2 @@
+-- What the contracts of a column speak of.
+pub mod Column

@@ -1,0 +1,2 @@
+-- The laws of the loops for D alone.
+pub mod SameLaws

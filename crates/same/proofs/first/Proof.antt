@@ -1,0 +1,39 @@
+-- `same::first` meets its contract: the first word, stored.
+use Rattle.straight.proofs.FitsLaws.{d-inside}
+use Rattle.straight.proofs.RowLaws.{folds-open, rests-open, folds-next, rests-next, same-first}
+use borrow.Author.Needs.{needs}
+use Rattle.same.proofs.first.Statement.{statement}
+use Rattle.same.proofs.first.Tie as tie
+
+opened-requires : tie.Need-opened-requires
+opened-requires c κs = search needs
+
+same-word-requires : tie.Need-same-word-requires
+same-word-requires c κs = search (needs, folds-open, rests-open)
+
+cast-ram : tie.Need-cast-ram
+cast-ram c = search needs
+
+mul-ram : tie.Need-mul-ram
+mul-ram c = search needs
+
+slice-write-ram : tie.Need-slice-write-ram
+slice-write-ram c = search (needs, d-inside)
+
+same-length : tie.Need-same-length
+same-length c = search needs
+
+returns : tie.Need-returns
+returns c = search (rests-next, folds-open, folds-next, same-first)
+
+pub first-spec : {M : Type 1} → statement M
+first-spec =
+    tie.close
+    (tie.spec
+    opened-requires
+    same-word-requires
+    cast-ram
+    mul-ram
+    slice-write-ram
+    same-length
+    returns)

@@ -1,0 +1,2 @@
+-- The laws of the loops for three sources.
+pub mod ThreeLaws

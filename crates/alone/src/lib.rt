@@ -10,12 +10,12 @@ ghost use Rattle.straight.specs.Line.{along, ended};
 ghost use Rattle.straight.specs.Fits.{Fits};
 ghost use Rattle.straight.specs.Fold.{Folds, Rests, AtRest};
 ghost use Rattle.straight.specs.Sets.{Alone};
-use straight::types::Ended;
-use straight::types::Line;
-use straight::types::Two;
 use area::types::Flow;
 use area::types::Setup;
 use area::types::Sources;
+use straight::types::Ended;
+use straight::types::Line;
+use straight::types::Two;
 use word::types::Direction;
 use word::types::Fill;
 use word::types::Filled;
@@ -142,7 +142,14 @@ fn first(ram: &mut [u16], setup: Setup, two: Two, last: u32, base: Flow) -> Line
         ≡ words setup (last + 1) (last + 1) (state (now (ram .entry)) base)) ⌝ }
 {
     let a = word::memory::read(ram, base.pointers.a.word);
-    let end = straight::words::alone_word(setup, two, true, false, a, straight::words::opened(base));
+    let end = straight::words::alone_word(
+        setup,
+        two,
+        true,
+        false,
+        a,
+        straight::words::opened(base),
+    );
     ram[base.pointers.d.word as usize] = end.word;
     let line = end.line;
     line

@@ -7,3 +7,4 @@ pub mod Finish
 pub mod Store
 pub mod Move
 pub mod Rows
+pub mod Left

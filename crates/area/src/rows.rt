@@ -3,7 +3,8 @@ ghost use mathlib.Core.Path.{_≡_};
 ghost use Prim.Native.Nat.{_+_, _*_, _<_, _≤_};
 ghost use Rattle.area.specs.Flow.{state};
 ghost use Rattle.area.specs.With.{withCarry};
-ghost use Rattle.area.specs.Rows.{oneWord, words, rowStart, rows};
+ghost use Rattle.area.specs.Rows.{oneWord, words, rowStart};
+ghost use Rattle.area.specs.Left.{Left};
 use crate::types::Earlier;
 use crate::types::Flow;
 use crate::types::Setup;
@@ -85,9 +86,8 @@ pub struct Rest {
 pub fn some_rows(ram: &mut [u16], setup: Setup, width: u32, left: u32, flow: Flow) -> Rest
     requires { ⌜ (setup .shifts .a < 16) × (setup .shifts .b < 16)
         × (0 < left) × (width ≤ 64) × (flow .stored + left * 64 < 4294967296) ⌝ }
-    ensures { λ rest. ⌜ (rest .left < left) × (rest .flow .stored + rest .left * 64 < 4294967296)
-        × (rows setup width (rest .left) (state (now (ram .exit)) (rest .flow))
-        ≡ rows setup width left (state (now (ram .entry)) flow)) ⌝ }
+    ensures { λ rest. ⌜ (rest .left < left)
+        × Left setup width (now (ram .exit)) rest left (now (ram .entry)) flow ⌝ }
 {
     let uses = setup.uses;
     let direction = setup.direction;

@@ -14,13 +14,13 @@ ghost use Rattle.straight.specs.Line.{maskedOf};
 ghost use Rattle.straight.specs.Fold.{folded, Folds};
 ghost use Rattle.column.specs.Column.{origin, Column, begun, columnAt, Goes, Resting, Stands};
 use crate::types::Band;
-use straight::types::Two;
 use area::types::Earlier;
 use area::types::Flow;
 use area::types::Pending;
 use area::types::Pointers;
 use area::types::Setup;
 use area::types::Sources;
+use straight::types::Two;
 use word::types::Direction;
 use word::types::Pointer;
 

@@ -8,13 +8,13 @@ ghost use Rattle.area.specs.Rows.{words, rowStart};
 ghost use Rattle.straight.specs.Line.{gone, ended};
 ghost use Rattle.straight.specs.Fits.{Fits, Taken};
 ghost use Rattle.straight.specs.Sets.{Known, Ready};
-use straight::types::Ended;
-use straight::types::Two;
 use area::types::Earlier;
 use area::types::Flow;
 use area::types::Pending;
 use area::types::Pointers;
 use area::types::Setup;
+use straight::types::Ended;
+use straight::types::Two;
 use word::types::Direction;
 use word::types::Pointer;
 

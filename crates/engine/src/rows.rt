@@ -5,13 +5,14 @@ ghost use Prim.Native.Nat.{_+_, _*_, _<_, _≤_};
 ghost use lib.ListN.{length};
 ghost use Rattle.area.specs.Flow.{state};
 ghost use Rattle.area.specs.Rows.{oneRow, rows, areaBlit};
+ghost use Rattle.area.specs.Left.{Left};
 ghost use Rattle.straight.specs.Fits.{Taken};
 ghost use Rattle.straight.specs.Sets.{Known, Ready};
 ghost use Rattle.column.specs.Column.{Column};
-use straight::types::Two;
 use area::rows::Rest;
 use area::types::Flow;
 use area::types::Setup;
+use straight::types::Two;
 
 // A row that is taken, and its modulos.
 fn one_row(ram: &mut [u16], setup: Setup, two: Two, width: u32, flow: Flow) -> Flow
@@ -32,9 +33,8 @@ fn one_row(ram: &mut [u16], setup: Setup, two: Two, width: u32, flow: Flow) -> F
 fn straight_rows(ram: &mut [u16], setup: Setup, two: Two, width: u32, left: u32, flow: Flow) -> Rest
     requires { ⌜ (setup .shifts .a < 16) × (setup .shifts .b < 16) × (width ≤ 64) × (length (now ram) ≤ 262144)
         × (flow .stored + left * 64 < 4294967296) × Known setup width × Ready setup two flow ⌝ }
-    ensures { λ rest. ⌜ (rest .left ≤ left) × (rest .flow .stored + rest .left * 64 < 4294967296)
-        × (rows setup width (rest .left) (state (now (ram .exit)) (rest .flow))
-        ≡ rows setup width left (state (now (ram .entry)) flow)) ⌝ }
+    ensures { λ rest. ⌜ (rest .left ≤ left)
+        × Left setup width (now (ram .exit)) rest left (now (ram .entry)) flow ⌝ }
 {
     let mut here = flow;
     let mut more = left;
@@ -58,9 +58,8 @@ fn straight_rows(ram: &mut [u16], setup: Setup, two: Two, width: u32, left: u32,
 fn fast_rows(ram: &mut [u16], setup: Setup, width: u32, left: u32, flow: Flow) -> Rest
     requires { ⌜ (setup .shifts .a < 16) × (setup .shifts .b < 16) × (width ≤ 64) × (length (now ram) ≤ 262144)
         × (flow .stored + left * 64 < 4294967296) × Known setup width ⌝ }
-    ensures { λ rest. ⌜ (rest .left ≤ left) × (rest .flow .stored + rest .left * 64 < 4294967296)
-        × (rows setup width (rest .left) (state (now (ram .exit)) (rest .flow))
-        ≡ rows setup width left (state (now (ram .entry)) flow)) ⌝ }
+    ensures { λ rest. ⌜ (rest .left ≤ left)
+        × Left setup width (now (ram .exit)) rest left (now (ram .entry)) flow ⌝ }
 {
     let two = straight::fold::two(setup, flow);
     if straight::sets::ready(setup, two, flow) {
@@ -73,9 +72,8 @@ fn fast_rows(ram: &mut [u16], setup: Setup, width: u32, left: u32, flow: Flow) -
 fn plain_rows(ram: &mut [u16], known: bool, setup: Setup, width: u32, left: u32, flow: Flow) -> Rest
     requires { ⌜ (setup .shifts .a < 16) × (setup .shifts .b < 16) × (0 < left) × (width ≤ 64)
         × (flow .stored + left * 64 < 4294967296) ⌝ }
-    ensures { λ rest. ⌜ (rest .left < left) × (rest .flow .stored + rest .left * 64 < 4294967296)
-        × (rows setup width (rest .left) (state (now (ram .exit)) (rest .flow))
-        ≡ rows setup width left (state (now (ram .entry)) flow)) ⌝ }
+    ensures { λ rest. ⌜ (rest .left < left)
+        × Left setup width (now (ram .exit)) rest left (now (ram .entry)) flow ⌝ }
 {
     let mut here = flow;
     let mut more = left;
@@ -104,9 +102,8 @@ fn some_rows(ram: &mut [u16], known: bool, setup: Setup, width: u32, left: u32, 
     requires { ⌜ (setup .shifts .a < 16) × (setup .shifts .b < 16) × (width ≤ 64)
         × (flow .stored + left * 64 < 4294967296)
         × (known ≡ true → Known setup width × (length (now ram) ≤ 262144)) ⌝ }
-    ensures { λ rest. ⌜ (rest .left ≤ left) × (rest .flow .stored + rest .left * 64 < 4294967296)
-        × (rows setup width (rest .left) (state (now (ram .exit)) (rest .flow))
-        ≡ rows setup width left (state (now (ram .entry)) flow)) ⌝ }
+    ensures { λ rest. ⌜ (rest .left ≤ left)
+        × Left setup width (now (ram .exit)) rest left (now (ram .entry)) flow ⌝ }
 {
     if known {
         return fast_rows(ram, setup, width, left, flow);
@@ -149,9 +146,8 @@ pub fn rows(ram: &mut [u16], setup: Setup, width: u32, height: u32, flow: Flow) 
 fn first_rows(ram: &mut [u16], setup: Setup, width: u32, left: u32, flow: Flow) -> Rest
     requires { ⌜ (setup .shifts .a < 16) × (setup .shifts .b < 16) × (width ≤ 64)
         × (flow .stored + left * 64 < 4294967296) ⌝ }
-    ensures { λ rest. ⌜ (rest .left ≤ left) × (rest .flow .stored + rest .left * 64 < 4294967296)
-        × (rows setup width (rest .left) (state (now (ram .exit)) (rest .flow))
-        ≡ rows setup width left (state (now (ram .entry)) flow)) ⌝ }
+    ensures { λ rest. ⌜ (rest .left ≤ left)
+        × Left setup width (now (ram .exit)) rest left (now (ram .entry)) flow ⌝ }
 {
     if known(ram.len(), setup, width) {
         return fast_rows(ram, setup, width, left, flow);

@@ -10,11 +10,11 @@ ghost use Rattle.straight.specs.Line.{along, ended};
 ghost use Rattle.straight.specs.Fits.{Fits};
 ghost use Rattle.straight.specs.Fold.{Folds, Rests, AtRest};
 ghost use Rattle.straight.specs.Sets.{Bare};
+use area::types::Flow;
+use area::types::Setup;
 use straight::types::Ended;
 use straight::types::Line;
 use straight::types::Two;
-use area::types::Flow;
-use area::types::Setup;
 use word::types::Direction;
 
 fn up(ram: &mut [u16], setup: Setup, two: Two, last: u32, base: Flow, line: Line) -> Line

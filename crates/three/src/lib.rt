@@ -10,11 +10,11 @@ ghost use Rattle.area.specs.Rows.{words};
 ghost use Rattle.straight.specs.Line.{given, along, ended};
 ghost use Rattle.straight.specs.Fits.{Fits};
 ghost use Rattle.straight.specs.Sets.{Three};
-use straight::types::Ended;
-use straight::types::Line;
 use area::types::Flow;
 use area::types::Setup;
 use area::types::Sources;
+use straight::types::Ended;
+use straight::types::Line;
 
 // A, B and C fetched.
 fn abc(ram: &mut [u16], setup: Setup, last: u32, base: Flow, line: Line) -> Line

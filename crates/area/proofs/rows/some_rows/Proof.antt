@@ -17,7 +17,7 @@ same-length : tie.Need-same-length
 same-length c = search needs
 
 returns : tie.Need-returns
-returns c = (search needs, search rows-room, search rows-turn)
+returns c = (search needs, (search rows-room, search rows-turn))
 
 pub some-rows-spec : {M : Type 1} → statement M
 some-rows-spec =

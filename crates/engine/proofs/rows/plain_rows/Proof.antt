@@ -28,7 +28,7 @@ same-length : tie.Need-same-length Inv-loop μ-loop
 same-length c = search needs
 
 returns : tie.Need-returns Inv-loop μ-loop
-returns c = (search needs, search needs, cc)
+returns c = (search needs, (search needs, cc))
 
 loop-less : tie.Need-loop-less Inv-loop μ-loop
 loop-less c = search needs

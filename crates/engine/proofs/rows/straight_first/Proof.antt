@@ -14,7 +14,7 @@ same-length : tie.Need-same-length
 same-length c = search needs
 
 returns : tie.Need-returns
-returns c = rest-done _ _ _ _ _ _ _ _ _ _ (c .before .before .before .before .before .before .before .first-rows .ensures .2) (c .before .before .rows .ensures)
+returns c = rest-done _ _ _ _ _ _ _ _ _ _ (c .before .before .before .before .before .before .before .first-rows .ensures .1 .1) (c .before .before .rows .ensures)
 
 pub straight-first-spec : {M : Type 1} → statement M
 straight-first-spec = tie.close (tie.spec first-rows-requires rows-requires same-length returns)

@@ -1,4 +1,4 @@
--- What is left of a blit's rows.
+-- What is left of a blit's rows. For contracts alone: no blit is defined by it.
 use Prim.Native.Nat.{ℕ, _+_, _*_, _<_}
 use mathlib.Core.Path.{_≡_}
 use mathlib.Core.List.{List}

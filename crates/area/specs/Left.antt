@@ -4,7 +4,7 @@ use mathlib.Core.Path.{_≡_}
 use mathlib.Core.List.{List}
 use Rattle.area.specs.declared.types.Setup.{Setup}
 use Rattle.area.specs.declared.types.Flow.{Flow}
-use Rattle.area.specs.declared.rows.Rest.{Rest}
+use Rattle.area.specs.declared.types.Rest.{Rest}
 use Rattle.area.specs.Flow.{state}
 use Rattle.area.specs.Rows.{rows}
 

@@ -6,7 +6,6 @@ use crate::types::Earlier;
 use crate::types::Finished;
 use crate::types::Flow;
 use crate::types::Setup;
-use word::types::Filled;
 
 fn masked_a(setup: Setup, first: bool, last: bool, flow: Flow) -> u16
     ensures { λ word. ⌜ word ≡ maskedA setup first last flow ⌝ }

@@ -1,9 +1,8 @@
-// The words of an area blit: set-up and flow, one word, a row, all rows.
+// The parts of an area blit: set-up and flow; the fetches, the result, the store and the moves of one word.
 pub mod fetch;
 pub mod finish;
 pub mod flow;
 pub mod moves;
-pub mod rows;
 pub mod setup;
 pub mod store;
 pub mod types;

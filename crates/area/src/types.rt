@@ -88,3 +88,9 @@ pub struct Finished {
     pub word: u16,
     pub flow: Flow,
 }
+
+// The flow after some rows, and how many rows are left.
+pub struct Rest {
+    pub left: u32,
+    pub flow: Flow,
+}

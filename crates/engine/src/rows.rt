@@ -9,8 +9,8 @@ ghost use Rattle.area.specs.Left.{Left};
 ghost use Rattle.straight.specs.Fits.{Taken};
 ghost use Rattle.straight.specs.Sets.{Known, Ready};
 ghost use Rattle.column.specs.Column.{Column};
-use area::rows::Rest;
 use area::types::Flow;
+use area::types::Rest;
 use area::types::Setup;
 use straight::types::Two;
 
@@ -78,7 +78,7 @@ fn plain_rows(ram: &mut [u16], known: bool, setup: Setup, width: u32, left: u32,
     let mut here = flow;
     let mut more = left;
     while 0 < more {
-        let one = area::rows::some_rows(ram, setup, width, more, here);
+        let one = by_word::some_rows(ram, setup, width, more, here);
         more = one.left;
         here = one.flow;
         if known {

@@ -1,8 +1,6 @@
 -- The laws of the folder.
 pub mod PieceLaws
 pub mod MeasureLaws
-pub mod PutLaws
-pub mod StoresLaws
 pub mod WriteLaws
 pub mod FoldingLaws
 pub mod OneAnswerLaws

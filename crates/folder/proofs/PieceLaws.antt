@@ -1,7 +1,6 @@
 -- Laws of what a step becomes: how many words, and what is known after it.
 use mathlib.Core.Path.{_≡_, refl, sym, ap, _∙_}
-use Prim.Native.Nat.{ℕ, zero, suc, _+_, _*_, _<_, _≤_}
-use native.Mathlib.Nat.{suc-mul}
+use Prim.Native.Nat.{ℕ, _+_, _*_, _<_, _≤_}
 use native.Mathlib.Omega.{arith}
 use mathlib.Core.Bool.{Bool, true, false, _&&_}
 use mathlib.Core.List.{List, []}
@@ -15,40 +14,24 @@ use native.Mathlib.Decide.{decLt}
 use Rattle.word.specs.Choice.{if_then_else_}
 use Rattle.word.specs.Size.{height, width}
 use Rattle.word.proofs.SizeLaws.{words-le}
-use Rattle.area.specs.declared.types.Setup.{Setup}
 use Rattle.area.specs.declared.types.Flow.{Flow}
 use Rattle.area.specs.Setup.{con0, function, setup}
 use Rattle.area.specs.Flow.{State, state, start}
-use Rattle.area.specs.Rows.{oneWord, rowStart, oneRow}
 use Rattle.job.specs.declared.types.Step.{Step}
 use Rattle.job.specs.declared.types.Read.{Read}
 use Rattle.job.specs.Step.{operands, stepAt}
 use Rattle.job.proofs.StepLaws.{stepAt-moves, stepAt-next}
-use Rattle.settled.specs.Words.{rowStores, blitStores, settledEnd, settledWords}
+use Rattle.settled.specs.Words.{blitStores, settledEnd, settledWords}
 use Rattle.knowledge.specs.declared.types.Known.{Known}
 use Rattle.knowledge.specs.Knowledge.{numbers}
 use Rattle.settled.specs.Learn.{written, forgotten, movedD}
 use Rattle.blit.specs.Refusal.{stepRefusal}
 use Rattle.settled.specs.Settled.{controlsKnown, onlyDUsed, sourcesKnown, settled}
+use Rattle.output.proofs.StoresLaws.{blitStores-length}
 use Rattle.folder.specs.Fold.{folded, learned, rawWords}
 use Rattle.folder.specs.PieceLength.{settledLength, pieceLength}
 
 -- the words of a settled blit
-pub rowStores-length : (setup : Setup) (width left : ℕ) (now : State) → length (rowStores setup width left now) ≡ 3 * left
-unfolding rowStores
-rowStores-length setup width zero now = refl
-rowStores-length setup width (suc left) now =
-    let rest = rowStores-length setup width left (oneWord setup width left now) in omega arith
-
-pub blitStores-length : (setup : Setup) (width left : ℕ) (now : State) → length (blitStores setup width left now) ≡ 3 * (left * width)
-unfolding blitStores
-blitStores-length setup width zero now = omega arith
-blitStores-length setup width (suc left) now =
-    let row = rowStores-length setup width width (rowStart setup now) in
-    let rest = blitStores-length setup width left (oneRow setup width now) in
-    length-append (rowStores setup width width (rowStart setup now)) (blitStores setup width left (oneRow setup width now))
-    ∙ rw (row, rest, suc-mul left width) (omega arith)
-
 pub settledWords-length : (file : List ℕ) (size : ℕ) → length (settledWords file size) ≡ settledLength size
 unfolding settledWords
 settledWords-length file size =
@@ -56,10 +39,6 @@ settledWords-length file size =
     ∙ ap (λ (stores : ℕ). stores + 5) (blitStores-length (setup file) (width size) (height size) (state [] (start file)))
 
 -- room for them
-pub settledLength-fits : (size rows words : ℕ) → rows ≡ height size → words ≡ width size
-    → Fits w32 (3 * (rows * words))
-settledLength-fits size rows words tall wide = rw (tall, wide) (record { fits = omega (arith, words-le size) })
-
 pub settledLength-fits-all : (size rows words : ℕ) → rows ≡ height size → words ≡ width size
     → Fits w32 (3 * (rows * words) + 5)
 settledLength-fits-all size rows words tall wide = rw (tall, wide) (record { fits = omega (arith, words-le size) })

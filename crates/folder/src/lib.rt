@@ -2,8 +2,6 @@
 pub mod answer;
 mod measure;
 mod piece;
-mod put;
-mod stores;
 pub mod theorems;
 pub mod types;
 mod write;

@@ -24,7 +24,7 @@ fn put_blit(out: &mut [u16], at: u32, known: Knowledge, size: u16) -> Knowledge
         × (listed after ≡ movedD (settledEnd (numbers (listed known)) size .flow .pointers .d) (listed known)) ⌝ }
 {
     let file = known.numbers();
-    let end = crate::stores::put_settled(out, at, &file, size);
+    let end = output::stores::put_settled(out, at, &file, size);
     let pointers = end.pointers;
     let d = pointers.d;
     settled::learn::moved_d(known, d)
@@ -52,7 +52,7 @@ fn put_size(
             known: after,
         };
     }
-    crate::put::put_copied(out, at, job, from, 2);
+    output::put::put_copied(out, at, job, from, 2);
     let after = settled::learn::forgotten(known);
     Piece {
         length: 2,
@@ -78,7 +78,7 @@ fn put_step(
 {
     match step {
         Step::Register(place, value) => {
-            crate::put::put_copied(out, at, job, from, 2);
+            output::put::put_copied(out, at, job, from, 2);
             let after = settled::learn::written(known, place, value);
             Piece {
                 length: 2,
@@ -87,11 +87,11 @@ fn put_step(
         }
         Step::Size(size) => put_size(out, at, n, known, size, job, from),
         Step::Store(_, _) => {
-            crate::put::put_copied(out, at, job, from, 3);
+            output::put::put_copied(out, at, job, from, 3);
             Piece { length: 3, known }
         }
         Step::Flag(_) => {
-            crate::put::put_copied(out, at, job, from, 1);
+            output::put::put_copied(out, at, job, from, 1);
             Piece { length: 1, known }
         }
     }

@@ -1,0 +1,57 @@
+-- `by_word::words` meets its contract: what is left from here gives what the whole gives.
+use Prim.Native.Nat.{_+_, _<_, _≤_}
+use mathlib.Core.Path.{_≡_}
+use lib.ListN.{length}
+use Rattle.word.proofs.RepeatLaws.{repeated-turn, repeated-done}
+use Rattle.area.specs.Flow.{state}
+use Rattle.area.specs.Rows.{words}
+use Rattle.area.proofs.RowsLaws.{words-room}
+use borrow.Author.Needs.{needs}
+use Rattle.by_word.proofs.words.Statement.{statement}
+use Rattle.by_word.proofs.words.Tie as tie
+
+abbrev Inv-loop : tie.InvT-loop
+Inv-loop ram₀ setup width here₀ left₀ ram here left = (words setup width left (state ram here) ≡ words setup width left₀ (state ram₀ here₀))
+    × (here .stored + left < 4294967296) × (left ≤ width) × (length ram ≡ length ram₀)
+
+abbrev μ-loop : tie.MeasureT-loop
+μ-loop ram₀ setup width here₀ left₀ ram here left = left
+
+loop-holds : tie.Need-loop-holds Inv-loop μ-loop
+loop-holds c = search needs
+
+sub-one-word : tie.Need-sub-one-word Inv-loop μ-loop
+sub-one-word c = search needs
+
+one-word-requires : tie.Need-one-word-requires Inv-loop μ-loop
+one-word-requires c κs = search needs
+
+sub-left : tie.Need-sub-left Inv-loop μ-loop
+sub-left c = search needs
+
+loop-less : tie.Need-loop-less Inv-loop μ-loop
+loop-less c = search needs
+
+loop-again : tie.Need-loop-again Inv-loop μ-loop
+loop-again c = (search repeated-turn, search words-room, search needs, search needs)
+
+same-length : tie.Need-same-length Inv-loop μ-loop
+same-length c = search needs
+
+returns : tie.Need-returns Inv-loop μ-loop
+returns c = search repeated-done
+
+pub words-spec : {M : Type 1} → statement M
+words-spec =
+    tie.close
+    (tie.spec
+    Inv-loop
+    μ-loop
+    loop-holds
+    sub-one-word
+    one-word-requires
+    sub-left
+    loop-less
+    loop-again
+    same-length
+    returns)

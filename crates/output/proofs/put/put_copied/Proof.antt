@@ -1,0 +1,70 @@
+-- `output::put::put_copied` meets its contract: what is left to copy from here gives what the whole gives.
+use mathlib.Core.Path.{_≡_}
+use Prim.Native.Nat.{_+_, _<_, _≤_}
+use lib.ListN.{length, take, drop}
+use Rattle.word.specs.Laid.{laid}
+use Rattle.output.proofs.PutLaws.{copied-turn, copied-done}
+use borrow.Author.Needs.{needs}
+use Rattle.output.proofs.put.put_copied.Statement.{statement}
+use Rattle.output.proofs.put.put_copied.Tie as tie
+
+abbrev Inv-loop : tie.InvT-loop
+Inv-loop out₀ at job from count left₀ to₀ here₀ out left to here =
+    (laid (take left (drop here job)) to out ≡ laid (take count (drop from job)) at out₀)
+    × (to + left < 4294967000)
+    × (here + left ≤ length job)
+    × (length out ≡ length out₀)
+
+abbrev μ-loop : tie.MeasureT-loop
+μ-loop out₀ at job from count left₀ to₀ here₀ out left to here = left
+
+loop-holds : tie.Need-loop-holds Inv-loop μ-loop
+loop-holds c = search needs
+
+mul-write : tie.Need-mul-write Inv-loop μ-loop
+mul-write c = search needs
+
+shared-slice-read-write : tie.Need-shared-slice-read-write Inv-loop μ-loop
+shared-slice-read-write c = search needs
+
+write-requires : tie.Need-write-requires Inv-loop μ-loop
+write-requires c κs = search needs
+
+add-to : tie.Need-add-to Inv-loop μ-loop
+add-to c = search needs
+
+add-here : tie.Need-add-here Inv-loop μ-loop
+add-here c = search needs
+
+sub-left : tie.Need-sub-left Inv-loop μ-loop
+sub-left c = search needs
+
+loop-less : tie.Need-loop-less Inv-loop μ-loop
+loop-less c = search needs
+
+loop-again : tie.Need-loop-again Inv-loop μ-loop
+loop-again c = (search copied-turn, search needs, search needs, search needs)
+
+same-length : tie.Need-same-length Inv-loop μ-loop
+same-length c = search needs
+
+returns : tie.Need-returns Inv-loop μ-loop
+returns c = search copied-done
+
+pub put-copied-spec : {M : Type 1} → statement M
+put-copied-spec =
+    tie.close
+    (tie.spec
+    Inv-loop
+    μ-loop
+    loop-holds
+    mul-write
+    shared-slice-read-write
+    write-requires
+    add-to
+    add-here
+    sub-left
+    loop-less
+    loop-again
+    same-length
+    returns)

@@ -12,14 +12,14 @@ use Rattle.word.specs.declared.types.Direction.{Direction}
 use Rattle.word.specs.declared.types.Pointer.{Pointer}
 use Rattle.word.specs.declared.types.Fill.the-variants.{Off}
 use Rattle.word.specs.Repeat.{repeated}
-use Rattle.word.specs.Pointer.{moved, passed}
+use Rattle.word.specs.Pointer.{moved}
 use Rattle.word.specs.Shift.{shifted}
 use Rattle.word.specs.Logic.{logic}
 use Rattle.word.specs.Fill.{filled}
 use Rattle.word.specs.Even.{nextRow, RowsInside}
 use Rattle.word.proofs.ChoiceLaws.{and-left, and-right, or-left, or-right}
 use Rattle.word.proofs.RepeatLaws.{repeated-turn}
-use Rattle.word.proofs.StrideLaws.{nextRow-lt, nextRow-evenly}
+use Rattle.word.proofs.StrideLaws.{origin, nextRow-evenly}
 use Rattle.word.proofs.EvenLaws.{RowsInside-turn, RowsInside-lt}
 use Rattle.area.specs.declared.types.Setup.{Setup}
 use Rattle.area.specs.declared.types.Flow.{Flow}
@@ -33,7 +33,7 @@ use Rattle.straight.specs.declared.types.Two.{Two}
 use Rattle.column.specs.declared.types.Band.{Band}
 use Rattle.straight.specs.Line.{maskedOf}
 use Rattle.straight.specs.Fold.{folded, Folds}
-use Rattle.column.specs.Column.{origin, Column, columnAt, begun, Goes, Resting, Stands}
+use Rattle.column.specs.Column.{Column, columnAt, begun, Goes, Resting, Stands}
 use Rattle.straight.proofs.FoldLaws.{shifted-lt}
 use Rattle.straight.proofs.EarlyLaws.{fetched-unused}
 use Rattle.straight.proofs.AlongLaws.{still-nought, filled-off, and-true}
@@ -184,11 +184,6 @@ module _ (setup : Setup) (two : Two) (n height : ℕ) (flow : Flow) (stands : St
   unfolding begun Stands
   stands-inside-d start starts = rw starts (stands .2 .1)
 
-pub stride-is : (direction : Direction) (modulo : ℕ) (start step next : Pointer) → start ≡ origin → step ≡ moved direction start → next ≡ passed direction modulo step
-    → next .word ≡ nextRow direction 1 modulo origin .word
-unfolding nextRow repeated
-stride-is direction modulo start step next starts steps passes = rw (passes, steps, starts)
-
 pub ended-is : (setup : Setup) (height : ℕ) (flow after : Flow) (band : Band)
     → after ≡ record {
       pointers = record { a = record { word = band .a }; b = flow .pointers .b; c = flow .pointers .c; d = record { word = band .d } };
@@ -202,9 +197,6 @@ pub ended-is : (setup : Setup) (height : ℕ) (flow after : Flow) (band : Band)
     → after ≡ columnAt setup flow height band
 unfolding columnAt
 ended-is setup height flow after band is = is
-
-pub far-lt : (direction : Direction) (modulo to : ℕ) → to ≡ nextRow direction 1 modulo origin .word → to < 262144
-far-lt direction modulo to strides = rw strides (nextRow-lt direction 1 modulo origin)
 
 pub place-inside : (n modulo left at next : ℕ) (direction : Direction) → 0 < left → RowsInside n direction 1 modulo left (record { word = at })
     → next ≡ at → next < n

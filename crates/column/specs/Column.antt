@@ -4,7 +4,6 @@ use mathlib.Core.Path.{_≡_}
 use mathlib.Core.Bool.{true, false, _&&_}
 use mathlib.Core.List.{List}
 use lib.Dec.{eqb}
-use Rattle.word.specs.declared.types.Pointer.{Pointer}
 use Rattle.word.specs.declared.types.Fill.the-variants.{Off}
 use Rattle.word.specs.Even.{RowsInside}
 use Rattle.area.specs.declared.types.Setup.{Setup}
@@ -14,10 +13,6 @@ use Rattle.area.specs.Rows.{rows}
 use Rattle.straight.specs.declared.types.Two.{Two}
 use Rattle.column.specs.declared.types.Band.{Band}
 use Rattle.straight.specs.Fold.{Folds}
-
--- word 0, from which a stride is measured
-abbrev pub origin : Pointer
-origin = record { word = 0 }
 
 -- A alone, not filled
 abbrev pub Column : Setup → Type 0

@@ -7,12 +7,12 @@ ghost use Prim.Native.Nat.{_+_, _%_, _<_, _≤_};
 ghost use lib.Bits.{bitOr};
 ghost use lib.ListN.{length};
 ghost use Rattle.word.specs.Shift.{shifted};
-ghost use Rattle.word.specs.Even.{nextRow, RowsInside};
+ghost use Rattle.word.specs.Even.{RowsInside};
 ghost use Rattle.area.specs.Flow.{state};
 ghost use Rattle.area.specs.Rows.{rows};
 ghost use Rattle.straight.specs.Line.{maskedOf};
 ghost use Rattle.straight.specs.Fold.{folded, Folds};
-ghost use Rattle.column.specs.Column.{origin, Column, begun, columnAt, Goes, Resting, Stands};
+ghost use Rattle.column.specs.Column.{Column, begun, columnAt, Goes, Resting, Stands};
 use crate::types::Band;
 use area::types::Earlier;
 use area::types::Flow;
@@ -23,16 +23,6 @@ use area::types::Sources;
 use straight::types::Two;
 use word::types::Direction;
 use word::types::Pointer;
-
-// How far a row of one word and its modulo take a pointer.
-fn stride(direction: Direction, modulo: u32) -> usize
-    ensures { λ words. ⌜ words ≡ nextRow direction 1 modulo origin .word ⌝ }
-{
-    let start = Pointer { word: 0 };
-    let step = start.moved(direction);
-    let next = step.passed(direction, modulo);
-    next.word as usize
-}
 
 // The band that a flow begins with.
 fn begun(flow: Flow) -> Band
@@ -123,8 +113,8 @@ fn bands(ram: &mut [u16], setup: Setup, two: Two, rows: u32, start: Band) -> Ban
         × Goes setup two 0 (now (ram .exit)) after rows (now (ram .entry)) start ⌝ }
 {
     let direction = setup.direction;
-    let far_a = stride(direction, setup.modulos.a);
-    let far_d = stride(direction, setup.modulos.d);
+    let far_a = word::even::stride(direction, 1, setup.modulos.a) as usize;
+    let far_d = word::even::stride(direction, 1, setup.modulos.d) as usize;
     let mut band = start;
     let mut left = rows;
     while 0 < left {

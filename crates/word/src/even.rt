@@ -17,7 +17,7 @@ fn reached(n: usize) -> u32
 }
 
 // How far above a row's start the next row starts, modulo 262,144; it is the same for every row.
-fn stride(direction: Direction, width: u32, modulo: u32) -> u32
+pub fn stride(direction: Direction, width: u32, modulo: u32) -> u32
     requires { ⌜ width ≤ 64 ⌝ }
     ensures { λ words. ⌜ (words ≡ nextRow direction width modulo (record { word = 0 }) .word) × (words < 262144) ⌝ }
 {

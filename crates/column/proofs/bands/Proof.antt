@@ -4,7 +4,7 @@ use mathlib.Core.Path.{_≡_, refl}
 use lib.ListN.{length}
 use Rattle.word.specs.Even.{RowsInside}
 use Rattle.column.specs.Column.{Goes}
-use Rattle.column.proofs.ColumnLaws.{goes-start, goes-turn, goes-end, inside-turn, inside-now, far-lt, place-inside, round-lt}
+use Rattle.column.proofs.ColumnLaws.{goes-start, goes-turn, goes-end, inside-turn, inside-now, place-inside, round-lt}
 use borrow.Author.Needs.{needs}
 use Rattle.column.proofs.bands.Statement.{statement}
 use Rattle.column.proofs.bands.Tie as tie
@@ -21,8 +21,14 @@ abbrev μ-loop : tie.MeasureT-loop
 stride-requires : tie.Need-stride-requires Inv-loop μ-loop
 stride-requires c κs = search needs
 
+cast-far-a : tie.Need-cast-far-a Inv-loop μ-loop
+cast-far-a c = search needs
+
 stride-requires-2 : tie.Need-stride-requires-2 Inv-loop μ-loop
 stride-requires-2 c κs = search needs
+
+cast-far-d : tie.Need-cast-far-d Inv-loop μ-loop
+cast-far-d c = search needs
 
 loop-holds : tie.Need-loop-holds Inv-loop μ-loop
 loop-holds c = (search needs, search needs, search needs, search needs, search needs, search needs, search needs, search goes-start)
@@ -40,7 +46,7 @@ slice-write-ram : tie.Need-slice-write-ram Inv-loop μ-loop
 slice-write-ram c = search needs
 
 next-requires : tie.Need-next-requires Inv-loop μ-loop
-next-requires c κs = search (needs, far-lt)
+next-requires c κs = search needs
 
 sub-left : tie.Need-sub-left Inv-loop μ-loop
 sub-left c = search needs
@@ -55,9 +61,9 @@ loop-again c = (
   round-lt _ _ _ (c .next .ensures .0),
   round-lt _ _ _ (c .next .ensures .1),
   place-inside _ _ _ _ _ _ (search (needs, c .before .before .loop-test .taken)) (c .before .before .before .loop .inv .6) (c .next .ensures .6),
-  inside-turn _ _ _ _ _ _ _ (search (needs, c .before .before .loop-test .taken)) (c .before .before .before .loop .inv .2) (c .before .before .before .before .before .stride .ensures) (c .next .ensures .0) (c .before .before .before .loop .inv .5),
-  inside-turn _ _ _ _ _ _ _ (search (needs, c .before .before .loop-test .taken)) (c .before .before .before .loop .inv .3) (c .before .before .before .before .stride2 .ensures) (c .next .ensures .1) (c .before .before .before .loop .inv .6),
-  goes-turn _ _ _ _ (c .before .before .before .loop .ram) _ (c .before .before .before .loop .band) _ _ _ _ _ (c .before .before .before .before .before .before .before .pre .1) (search (needs, c .before .before .loop-test .taken)) (c .before .before .before .loop .inv .0) (c .before .before .before .loop .inv .2) (c .before .before .before .loop .inv .3) (c .before .before .before .before .before .stride .ensures) (c .before .before .before .before .stride2 .ensures) refl
+  inside-turn _ _ _ _ _ _ _ (search (needs, c .before .before .loop-test .taken)) (c .before .before .before .loop .inv .2) (c .before .before .before .before .before .stride .ensures .0) (c .next .ensures .0) (c .before .before .before .loop .inv .5),
+  inside-turn _ _ _ _ _ _ _ (search (needs, c .before .before .loop-test .taken)) (c .before .before .before .loop .inv .3) (c .before .before .before .before .stride2 .ensures .0) (c .next .ensures .1) (c .before .before .before .loop .inv .6),
+  goes-turn _ _ _ _ (c .before .before .before .loop .ram) _ (c .before .before .before .loop .band) _ _ _ _ _ (c .before .before .before .before .before .before .before .pre .1) (search (needs, c .before .before .loop-test .taken)) (c .before .before .before .loop .inv .0) (c .before .before .before .loop .inv .2) (c .before .before .before .loop .inv .3) (c .before .before .before .before .before .stride .ensures .0) (c .before .before .before .before .stride2 .ensures .0) refl
       (c .next .ensures .0) (c .next .ensures .1) (c .next .ensures .2) (c .next .ensures .3) (c .next .ensures .4) (c .next .ensures .5) (c .next .ensures .6) (c .before .before .before .loop .inv .7),
 )
 
@@ -74,7 +80,9 @@ bands-spec =
     Inv-loop
     μ-loop
     stride-requires
+    cast-far-a
     stride-requires-2
+    cast-far-d
     loop-holds
     mul-a
     slice-read-a

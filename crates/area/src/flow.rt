@@ -1,6 +1,7 @@
 // What changes as a blit goes on, as it starts from the register file.
 ghost use mathlib.Core.Path.{_≡_};
 ghost use Prim.Native.Nat.{_<_};
+ghost use Rattle.file.specs.Places.{fileLength};
 ghost use Rattle.area.specs.Flow.{pointerAt, pointers, sources, nothing, start};
 use crate::types::Earlier;
 use crate::types::Flow;
@@ -10,7 +11,7 @@ use crate::types::Sources;
 use word::types::Pointer;
 
 fn pointer_at(file: &[u16], place: u32) -> Pointer
-    requires { ⌜ place < 20 ⌝ }
+    requires { ⌜ place < fileLength ⌝ }
     ensures { λ held. ⌜ held ≡ pointerAt (now (file .entry)) place ⌝ }
 {
     let high = word::memory::read(file, place);

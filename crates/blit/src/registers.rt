@@ -1,6 +1,7 @@
 // What a blit that is done writes back to the register file.
 ghost use mathlib.Core.Path.{_≡_};
 ghost use Prim.Native.Nat.{_<_};
+ghost use Rattle.file.specs.Places.{fileLength};
 ghost use Rattle.blit.specs.WriteBack.{putPointer, putPointers, putSource, putSources, putFlag};
 use area::types::Pointers;
 use area::types::Sources;
@@ -8,7 +9,7 @@ use area::types::Uses;
 use word::types::Pointer;
 
 fn put_pointer(file: &mut [u16], used: bool, place: u32, pointer: Pointer)
-    requires { ⌜ place < 20 ⌝ }
+    requires { ⌜ place < fileLength ⌝ }
     ensures { λ _. ⌜ now (file .exit) ≡ putPointer used place pointer (now (file .entry)) ⌝ }
 {
     if used {
@@ -50,8 +51,8 @@ pub fn put_flag(file: &mut [u16], allzero: bool)
     ensures { λ _. ⌜ now (file .exit) ≡ putFlag allzero (now (file .entry)) ⌝ }
 {
     if allzero {
-        word::memory::write(file, 19, 1);
+        word::memory::write(file, file::FLAG, 1);
     } else {
-        word::memory::write(file, 19, 0);
+        word::memory::write(file, file::FLAG, 0);
     }
 }

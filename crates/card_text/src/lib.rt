@@ -23,7 +23,7 @@ fn run_on(ram: &mut [u16], job: &[u16], out: &mut [u8]) -> usize
         ≡ writing (printedRun (run (counted 0 (lib.ListN.length (now (ram .entry)))) (zeros fileLength) (now (job .entry)))) (written 0 (now (out .entry))) ⌝ }
 {
     crate::start::count(ram);
-    let mut file = [0u16; 20];
+    let mut file = [0u16; file::WORDS];
     let answer = runner::run(ram, &mut file, job);
     let number = runner::answer::number(answer);
     let stored = runner::answer::stored(answer);

@@ -11,7 +11,7 @@ use lib.ListN.{length, getD, set, List·getD-eq-default}
 use lib.Seq.{getD-set-other, getD-set-same, set-out}
 use Rattle.word.specs.declared.types.Pointer.{Pointer}
 use Rattle.word.specs.Pointer.{high, low}
-use Rattle.file.specs.Places.{flag}
+use Rattle.file.specs.Places.{blitterLength, flag, fileLength}
 use Rattle.blit.specs.WriteBack.{putPointer, putSource}
 use Rattle.knowledge.specs.declared.types.Known.{Known}
 use Rattle.settled.specs.Learn.{forgetPointer, forgetSource}
@@ -19,24 +19,24 @@ use Rattle.settled.specs.Learn.{forgetPointer, forgetSource}
 unfoldable pub Agrees : (known : List Known) (file : List ℕ) → Type 0
 Agrees known file = (place value : ℕ) → getD known place Known.Unknown ≡ Known.Is value → getD file place 0 ≡ value
 
--- a register that is known is one of the nineteen
-pub known-lt : (known : List Known) (place value : ℕ) → length known ≡ 19 → getD known place Known.Unknown ≡ Known.Is value → place < 19
-known-lt known place value long is = by-place (decLt place 19)
+-- a register that is known is one of the Blitter's
+pub known-lt : (known : List Known) (place value : ℕ) → length known ≡ blitterLength → getD known place Known.Unknown ≡ Known.Is value → place < blitterLength
+known-lt known place value long is = by-place (decLt place blitterLength)
   where
-    by-place : Dec (place < 19) → place < 19
+    by-place : Dec (place < blitterLength) → place < blitterLength
     by-place (yes inside) = inside
     by-place (no outside) =
         let none : getD known place Known.Unknown ≡ Known.Unknown = List·getD-eq-default known Known.Unknown (omega arith) in
         let wrong : _≡_ {A = ℕ} 0 1 = cc in
         absurd (omega arith)
 
--- a register that is written becomes known
-pub agrees-of-set : (known : List Known) (file : List ℕ) (at word : ℕ) → length known ≡ 19 → length file ≡ 20
+-- a register that is written becomes known; COPCON and the colours, which stand past the Blitter's, don't
+pub agrees-of-set : (known : List Known) (file : List ℕ) (at word : ℕ) → length known ≡ blitterLength → length file ≡ fileLength
     → Agrees known file → Agrees (set known at (Known.Is word)) (set file at word)
 unfolding Agrees
-agrees-of-set known file at word long full agrees place value is = by-place (eqb at place) refl (decLt at 19)
+agrees-of-set known file at word long full agrees place value is = by-place (eqb at place) refl (decLt at blitterLength)
   where
-    by-place : (here : Bool) → eqb at place ≡ here → Dec (at < 19) → getD (set file at word) place 0 ≡ value
+    by-place : (here : Bool) → eqb at place ≡ here → Dec (at < blitterLength) → getD (set file at word) place 0 ≡ value
     by-place false apart inside =
         getD-set-other file at place word 0 (λ same. eqb-false at place apart (sym same))
         ∙ agrees place value (sym (getD-set-other known at place (Known.Is word) Known.Unknown (λ same. eqb-false at place apart (sym same))) ∙ is)
@@ -51,14 +51,14 @@ agrees-of-set known file at word long full agrees place value is = by-place (eqb
         let here : at ≡ place = eqb-true at place same in
         let kept : set known at (Known.Is word) ≡ known = set-out known at (Known.Is word) (omega arith) in
         let told : getD known place Known.Unknown ≡ Known.Is value = rw (← kept) is in
-        let inside : place < 19 = known-lt known place value long told in
+        let inside : place < blitterLength = known-lt known place value long told in
         absurd (omega arith)
 
--- the flag isn't tracked
-pub agrees-of-flag : (known : List Known) (file : List ℕ) (word : ℕ) → length known ≡ 19 → Agrees known file → Agrees known (set file flag word)
+-- nor is the flag tracked
+pub agrees-of-flag : (known : List Known) (file : List ℕ) (word : ℕ) → length known ≡ blitterLength → Agrees known file → Agrees known (set file flag word)
 unfolding Agrees
 agrees-of-flag known file word long agrees place value is =
-    let inside : place < 19 = known-lt known place value long is in
+    let inside : place < blitterLength = known-lt known place value long is in
     getD-set-other file flag place word 0 (λ same. omega arith) ∙ agrees place value is
 
 -- what is forgotten may change, and what may not change stays

@@ -11,7 +11,7 @@ use Rattle.word.specs.declared.types.Pointer.{Pointer}
 use Rattle.word.specs.Choice.{if_then_else_, given}
 use Rattle.word.specs.Pointer.{high, low}
 use Rattle.file.specs.File.{accepted}
-use Rattle.file.specs.Places.{pointerD, flag, fileLength}
+use Rattle.file.specs.Places.{blitterLength, pointerD, flag, fileLength}
 use Rattle.area.specs.Setup.{setup}
 use Rattle.blit.specs.Refusal.{memorySize, stepRefusal}
 use Rattle.blit.specs.Blit.{refused, blitStep}
@@ -75,9 +75,9 @@ module _ (n : ℕ) (known : List Known) (before : Machine) (stands : Stands n kn
   stands-after-settled next =
       let to : Pointer = settledEnd (numbers known) size .flow .pointers .d in
       let high-known : List Known = set known pointerD (Known.Is (high to)) in
-      let long : length high-known ≡ 19 = length-set known pointerD (Known.Is (high to)) ∙ stands .long in
-      let long-too : length (set high-known (pointerD + 1) (Known.Is (low to))) ≡ 19 = length-set high-known (pointerD + 1) (Known.Is (low to)) ∙ long in
-      let full : length (set (before .file) pointerD (high to)) ≡ 20 = length-set (before .file) pointerD (high to) ∙ stands .file in
+      let long : length high-known ≡ blitterLength = length-set known pointerD (Known.Is (high to)) ∙ stands .long in
+      let long-too : length (set high-known (pointerD + 1) (Known.Is (low to))) ≡ blitterLength = length-set high-known (pointerD + 1) (Known.Is (low to)) ∙ long in
+      let full : length (set (before .file) pointerD (high to)) ≡ fileLength = length-set (before .file) pointerD (high to) ∙ stands .file in
       let one : Agrees high-known (set (before .file) pointerD (high to)) =
       agrees-of-set known (before .file) pointerD (high to) (stands .long) (stands .file) (stands .agrees) in
       let two : Agrees (set high-known (pointerD + 1) (Known.Is (low to))) (set (set (before .file) pointerD (high to)) (pointerD + 1) (low to)) =
@@ -139,14 +139,14 @@ getD-of-nothing zero place = refl
 getD-of-nothing (suc n) zero = refl
 getD-of-nothing (suc n) (suc place) = getD-of-nothing n place
 
-accepted-length : (file : List ℕ) → accepted file ≡ true → length file ≡ 20
+accepted-length : (file : List ℕ) → accepted file ≡ true → length file ≡ fileLength
 unfolding accepted
 accepted-length file fine = eqb-true (length file) fileLength (both-first (eqb (length file) fileLength) _ fine)
 
 -- nothing known agrees with every file
 nothing-agrees : (file : List ℕ) → Agrees nothing file
 unfolding Agrees
-nothing-agrees file place value is = let none : getD nothing place Known.Unknown ≡ Known.Unknown = getD-of-nothing 19 place in let n : _≡_ {A = ℕ} 0 1 = cc in absurd (omega arith)
+nothing-agrees file place value is = let none : getD nothing place Known.Unknown ≡ Known.Unknown = getD-of-nothing blitterLength place in let n : _≡_ {A = ℕ} 0 1 = cc in absurd (omega arith)
 
 -- none of 1 to 3 applies to a run
 start-of-none : (memory file job : List ℕ) → memorySize (length memory) ≡ false → accepted file ≡ true → jobLength job ≡ false

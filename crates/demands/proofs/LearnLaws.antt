@@ -6,7 +6,7 @@ use mathlib.Core.Bool.{Bool, true, false}
 use mathlib.Core.List.{List}
 use lib.ListN.{length, length-set}
 use Rattle.word.specs.Choice.{if_then_else_}
-use Rattle.file.specs.Places.{control0, pointerA, pointerB, pointerC, pointerD, sourceA, sourceB, sourceC}
+use Rattle.file.specs.Places.{blitterLength, control0, pointerA, pointerB, pointerC, pointerD, sourceA, sourceB, sourceC}
 use Rattle.area.specs.declared.types.Uses.{Uses}
 use Rattle.area.specs.declared.types.Pointers.{Pointers}
 use Rattle.area.specs.declared.types.Sources.{Sources}
@@ -85,7 +85,7 @@ unfolding forgotten forgetUsed
 forgotten-keeps-length known = simp (forgetSource-keeps-length, forgetPointer-keeps-length)
 
 -- a kept blit, done or refused
-pub agrees-of-kept : (known : List Known) (memory file : List ℕ) (size : ℕ) → length known ≡ 19
+pub agrees-of-kept : (known : List Known) (memory file : List ℕ) (size : ℕ) → length known ≡ blitterLength
     → Agrees known file → Agrees (forgotten known) (blitStep memory file size .file)
 unfolding blitStep done refused putFlag forgotten setup
 agrees-of-kept known memory file size long agrees =

@@ -8,7 +8,7 @@ use borrow.Author.Tests.{eqb-true, not-true}
 use lib.Dec.{eqb, leb, lit<}
 use lib.ListN.{length, getD}
 use Rattle.word.specs.Size.{height, width}
-use Rattle.file.specs.Places.{control0, control1, firstMask, lastMask, pointerD, moduloD, sourceA, sourceB, sourceC}
+use Rattle.file.specs.Places.{blitterLength, control0, control1, firstMask, lastMask, pointerD, moduloD, sourceA, sourceB, sourceC}
 use Rattle.area.specs.declared.types.Uses.{Uses}
 use Rattle.area.specs.Setup.{con0, uses, function, setup}
 use Rattle.blit.specs.Refusal.{stepRefusal}
@@ -38,11 +38,11 @@ asked true holds either needed = either
 asked false holds either needed = let n : _≡_ {A = ℕ} 0 1 = cc in absurd (omega arith)
 
 -- a known register's number stands in the file
-pub known-agrees : (known : List Known) (file : List ℕ) (place : ℕ) → length known ≡ 19 → place < 19 → Agrees known file
+pub known-agrees : (known : List Known) (file : List ℕ) (place : ℕ) → length known ≡ blitterLength → place < blitterLength → Agrees known file
     → has known place ≡ true → getD (numbers known) place 0 ≡ getD file place 0
 unfolding Agrees
 known-agrees known file place long inside agrees is =
-    numbers-at known place long inside
+    numbers-at known place (omega (arith, long, inside))
     ∙ sym (agrees place (number (knownAt known place)) (known-is-number (knownAt known place) is))
 
 module _ (n : ℕ) (known : List Known) (size : ℕ) (holds : settled n known size ≡ true) where
@@ -80,7 +80,7 @@ module _ (n : ℕ) (known : List Known) (size : ℕ) (holds : settled n known si
         d = both-second (not (used .a) && not (used .b) && not (used .c)) (used .d) all;
       }
 
-  pub settled-agrees : (file : List ℕ) → length known ≡ 19 → Agrees known file → Agree (numbers known) file
+  pub settled-agrees : (file : List ℕ) → length known ≡ blitterLength → Agrees known file → Agree (numbers known) file
   unfolding controlsKnown sourcesKnown
   settled-agrees file long agrees =
       let controls : controlsKnown known ≡ true = both-first (controlsKnown known) (onlyDUsed (con0 (numbers known))) two in

@@ -4,6 +4,7 @@ use Prim.Native.Nat.{ℕ}
 use mathlib.Core.List.{List}
 use lib.ListN.{length, length-set}
 use Rattle.file.specs.File.{kept}
+use Rattle.file.specs.Places.{blitterLength, fileLength}
 use Rattle.blit.specs.Blit.{Outcome, refused}
 use Rattle.job.specs.declared.types.Step.{Step}
 use Rattle.job.specs.declared.types.Read.{Read}
@@ -17,11 +18,11 @@ use Rattle.folder.specs.Fold.{learned}
 use Rattle.demands.proofs.AgreesLaws.{Agrees, agrees-of-set, agrees-of-flag}
 use Rattle.demands.proofs.LearnLaws.{forgotten-keeps-length, agrees-of-kept}
 
--- what a run has at a step of the machine that it stands on: memory of n words, a file of 20, and knowledge that agrees with it
+-- what a run has at a step of the machine that it stands on: memory of n words, a whole file, and knowledge that agrees with it
 pub record Stands (n : ℕ) (known : List Known) (before : Machine) : Type 0 where
   pub memory : length (before .memory) ≡ n
-  pub file : length (before .file) ≡ 20
-  pub long : length known ≡ 19
+  pub file : length (before .file) ≡ fileLength
+  pub long : length known ≡ blitterLength
   pub agrees : Agrees known (before .file)
 
 storeEffect-keeps-file : (to value : ℕ) (memory file : List ℕ) → storeEffect to value memory file .file ≡ file
@@ -30,7 +31,7 @@ storeEffect-keeps-file to value memory file = storeEffect-either (λ (end : Outc
 
 -- after a step that is copied, knowledge agrees
 module _ (n : ℕ) (known : List Known) (before : Machine) (stands : Stands n known before) where
-  pub after-lengths : (step : Step) (next : ℕ) (learned : List Known) → length learned ≡ 19
+  pub after-lengths : (step : Step) (next : ℕ) (learned : List Known) → length learned ≡ blitterLength
       → Agrees learned (stepEffect step (before .memory) (before .file) .file)
       → Stands n learned (after before (stepEffect step (before .memory) (before .file)))
   unfolding effect

@@ -45,7 +45,7 @@ fn main() {
         0,
         0,
     ];
-    let mut file = [0u16; 20];
+    let mut file = [0u16; file::WORDS];
     // Use B, C and D, function CA; the constant A, masked to FE00 in a row's last word, chooses between B and C.
     file[0] = 0x07CA;
     file[2] = 0xFFFF;

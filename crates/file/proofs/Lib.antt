@@ -1,2 +1,3 @@
 -- The laws of the register file.
+pub mod PlaceLaws
 pub mod FileLaws

@@ -1,12 +1,13 @@
--- Paper 01, "Memory and registers": "A register file is a lent run of exactly 20 16-bit words, in this order".
-use Prim.Native.Nat.{ℕ, suc}
+-- Paper 01, "Memory and registers", with paper 02's W7: a register file is "a lent run of exactly" 53 "16-bit words, in this
+-- order".
+use Prim.Native.Nat.{ℕ, zero, suc, _+_}
 use mathlib.Core.Bool.{Bool, _&&_}
 use mathlib.Core.List.{List, [], _∷_, _++_, map}
 use lib.Dec.{eqb, ltb}
 use lib.Bits.{bitAnd}
 use lib.ListN.{length, getD}
 use Rattle.word.specs.Choice.{if_then_else_, every}
-use Rattle.file.specs.Places.{flag, fileLength}
+use Rattle.file.specs.Places.{colourCount, flag, fileLength}
 
 pub record Register : Type 0 where
   pub offset : ℕ
@@ -16,9 +17,9 @@ infix 70 _keeps_
 abbrev pub _keeps_ : (offset kept : ℕ) → Register
 offset keeps kept = record { offset = offset; kept = kept }
 
--- the paper's table: a register's offset and its kept bits; its place here is its place in the file
-unfoldable pub registers : List Register
-registers =
+-- paper 01's table, the Blitter's registers: the offset of each and its kept bits
+abbrev pub blitterRegisters : List Register
+blitterRegisters =
     -- BLTCON0, BLTCON1, BLTAFWM, BLTALWM: all
     0x040 keeps 0xFFFF
     ∷ 0x042 keeps 0xFFFF
@@ -43,6 +44,19 @@ registers =
     ∷ 0x072 keeps 0xFFFF
     ∷ 0x074 keeps 0xFFFF
     ∷ []
+
+-- so many colours from an offset on: "(180 to 1BE, bits 11-0 kept)"
+abbrev pub colours : (offset many : ℕ) → List Register
+colours offset zero = []
+colours offset (suc many) = offset keeps 0x0FFF ∷ colours (offset + 2) many
+
+-- "then COPCON (offset 02E, bit 1 kept), the 32 colours"
+abbrev pub screenRegisters : List Register
+screenRegisters = 0x02E keeps 0x0002 ∷ colours 0x180 colourCount
+
+-- a register's place here is its place in the file
+unfoldable pub registers : List Register
+registers = blitterRegisters ++ screenRegisters
 
 -- the zero flag stands last, has no offset, and is "0 or 1"
 abbrev pub flagKept : ℕ
@@ -71,8 +85,10 @@ keptBits = map (λ (register : Register). register .kept) registers ++ (flagKept
 unfoldable pub kept : (place value : ℕ) → ℕ
 kept place value = bitAnd value (getD keptBits place 0)
 
--- number 2 is given for a file "not 20 words, or a bit set that isn't kept"
+-- no bit is set at a place that isn't kept there
+unfoldable pub keptAt : (file : List ℕ) → (place : ℕ) → Bool
+keptAt file place = eqb (kept place (getD file place 0)) (getD file place 0)
+
+-- number 2 is given for a file not of 53 words, or with "a bit set that isn't kept"
 unfoldable pub accepted : (file : List ℕ) → Bool
-accepted file =
-    eqb (length file) fileLength
-    && every (λ place. eqb (kept place (getD file place 0)) (getD file place 0)) fileLength
+accepted file = eqb (length file) fileLength && every (keptAt file) fileLength

@@ -1,10 +1,14 @@
--- Paper 01, "Memory and registers": "A register file is a lent run of exactly 20 16-bit words"; their places by name.
+-- Paper 01, "Memory and registers", and paper 02, W7: "The file grows from 20 words to 53: the first 19 as they are, then
+-- COPCON .., the 32 colours .., and the zero flag last." The length of a register file, and its places by name.
 use Prim.Native.Nat.{ℕ}
 
 abbrev pub fileLength : ℕ
-fileLength = 20
+fileLength = 53
 
--- of a pointer, the place of its high half, which its low half follows
+-- "the first 19": the Blitter's registers. Of a pointer, the place of its high half, which its low half follows
+abbrev pub blitterLength : ℕ
+blitterLength = 19
+
 abbrev pub control0 : ℕ
 control0 = 0
 
@@ -50,5 +54,17 @@ sourceB = 17
 abbrev pub sourceA : ℕ
 sourceA = 18
 
+-- "then COPCON"
+abbrev pub copcon : ℕ
+copcon = 19
+
+-- "the 32 colours": how many, and the place of the first
+abbrev pub colourCount : ℕ
+colourCount = 32
+
+abbrev pub colour0 : ℕ
+colour0 = 20
+
+-- "and the zero flag last"
 abbrev pub flag : ℕ
-flag = 19
+flag = 52

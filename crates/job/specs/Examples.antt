@@ -27,15 +27,26 @@ examples =
     -- "flag: C000 or C001, sets the zero flag to 0 or 1"
     ∷ (0xC000 ∷ []) reads Read.Step (Step.Flag 0) 1 giving 0
     ∷ (0xC001 ∷ []) reads Read.Step (Step.Flag 1) 1 giving 0
+    -- paper 02, W7: COPCON and the colours
+    ∷ (0x002E ∷ 0x1234 ∷ []) reads Read.Step (Step.Register 19 0x1234) 2 giving 0
+    ∷ (0x0180 ∷ 0x1234 ∷ []) reads Read.Step (Step.Register 20 0x1234) 2 giving 0
+    ∷ (0x01AA ∷ 0x1234 ∷ []) reads Read.Step (Step.Register 41 0x1234) 2 giving 0
+    ∷ (0x01BE ∷ 0x1234 ∷ []) reads Read.Step (Step.Register 51 0x1234) 2 giving 0
     -- odd words, and words between the offsets of the table
     ∷ (0x0041 ∷ 0x0000 ∷ 0x0000 ∷ []) reads Read.NoStep giving 4
     ∷ (0x0059 ∷ 0x0000 ∷ 0x0000 ∷ []) reads Read.NoStep giving 4
     ∷ (0x005A ∷ 0x0000 ∷ 0x0000 ∷ []) reads Read.NoStep giving 4
     ∷ (0x0068 ∷ 0x0000 ∷ 0x0000 ∷ []) reads Read.NoStep giving 4
     ∷ (0x0076 ∷ 0x0000 ∷ 0x0000 ∷ []) reads Read.NoStep giving 4
+    ∷ (0x002C ∷ 0x0000 ∷ 0x0000 ∷ []) reads Read.NoStep giving 4
+    ∷ (0x002F ∷ 0x0000 ∷ 0x0000 ∷ []) reads Read.NoStep giving 4
+    ∷ (0x017E ∷ 0x0000 ∷ 0x0000 ∷ []) reads Read.NoStep giving 4
+    ∷ (0x0181 ∷ 0x0000 ∷ 0x0000 ∷ []) reads Read.NoStep giving 4
+    ∷ (0x01C0 ∷ 0x0000 ∷ 0x0000 ∷ []) reads Read.NoStep giving 4
     -- an offset's high bits count
     ∷ (0x0140 ∷ 0x0000 ∷ 0x0000 ∷ []) reads Read.NoStep giving 4
     ∷ (0x1040 ∷ 0x0000 ∷ 0x0000 ∷ []) reads Read.NoStep giving 4
+    ∷ (0x0380 ∷ 0x0000 ∷ 0x0000 ∷ []) reads Read.NoStep giving 4
     -- past the stores, past the flags, and the least and the greatest word
     ∷ (0x8008 ∷ 0x0000 ∷ 0x0000 ∷ []) reads Read.NoStep giving 4
     ∷ (0xC002 ∷ 0x0000 ∷ 0x0000 ∷ []) reads Read.NoStep giving 4
@@ -44,6 +55,7 @@ examples =
     -- "step cut off by the job's end" comes before "store's low half odd"
     ∷ (0x0040 ∷ []) reads Read.CutOff giving 5
     ∷ (0x0058 ∷ []) reads Read.CutOff giving 5
+    ∷ (0x0180 ∷ []) reads Read.CutOff giving 5
     ∷ (0x8000 ∷ 0x0010 ∷ []) reads Read.CutOff giving 5
     ∷ (0x8000 ∷ 0x0001 ∷ []) reads Read.CutOff giving 5
     ∷ (0x8000 ∷ 0x0001 ∷ 0x0000 ∷ []) reads Read.OddStore giving 6

@@ -1,9 +1,9 @@
--- Paper 01, "Folding": what the folder knows, as a list of the 19 registers in the register file's order.
--- "The zero flag isn't tracked."
+-- Paper 01, "Folding": what the folder knows, as a list of the Blitter's 19 registers in the register file's order.
+-- "The zero flag isn't tracked", and COPCON and the colours touch "neither a blit nor the folder's knowledge" (paper 02, W7).
 use Prim.Native.Nat.{ℕ}
 use mathlib.Core.List.{List, [], _∷_, _++_, map}
 use lib.ListN.{replicate}
-use Rattle.file.specs.Places.{flag}
+use Rattle.file.specs.Places.{blitterLength}
 use Rattle.knowledge.specs.declared.types.Known.{Known}
 use Rattle.knowledge.specs.declared.types.Known.the-variants.{Unknown}
 use Rattle.knowledge.specs.declared.types.Controls.{Controls}
@@ -42,8 +42,8 @@ listed knowledge =
 
 -- "at the start none is" known
 abbrev pub nothing : List Known
-nothing = replicate flag Unknown
+nothing = replicate blitterLength Unknown
 
--- the register file that holds the known numbers: 0 for a register that isn't known, and for the flag
+-- the file's first words, of which a blit is made, with the known numbers: 0 for a register that isn't known
 unfoldable pub numbers : (known : List Known) → List ℕ
-numbers known = map number known ++ (0 ∷ [])
+numbers known = map number known

@@ -1,4 +1,4 @@
-// The knowledge of the 19 registers, by their places in the register file.
+// The knowledge of the Blitter's 19 registers, by their places in the register file.
 ghost use mathlib.Core.Path.{_≡_};
 ghost use lib.ListN.{set};
 ghost use Rattle.knowledge.specs.Knowledge.{listed, nothing, numbers};
@@ -93,8 +93,8 @@ impl Knowledge {
         }
     }
 
-    // The register file that holds the known numbers, and 0 everywhere else.
-    pub fn numbers(self) -> [u16; 20]
+    // The file's first words with the known numbers, and 0 where one isn't known.
+    pub fn numbers(self) -> [u16; 19]
         ensures { λ file. ⌜ file ≡ numbers (listed self) ⌝ }
     {
         let pointers = self.pointers;
@@ -125,7 +125,6 @@ impl Knowledge {
             source[0],
             source[1],
             source[2],
-            0,
         ]
     }
 }

@@ -43,7 +43,7 @@ pub struct Sources {
     pub a: Known,
 }
 
-// The 19 registers of the file. The zero flag isn't tracked.
+// The Blitter's 19 registers. COPCON, the colours and the zero flag aren't tracked.
 pub struct Knowledge {
     pub controls: Controls,
     pub pointers: Pointers,

@@ -23,7 +23,7 @@ pub record RefusedAt (memory file job : List ℕ) (place number : ℕ) : Type 0 
 pub record ExactNumbers (memory file job : List ℕ) : Type 0 where
   -- "N outside 1 to 262,144"
   pub one : run memory file job .number ≡ 1 ↔ memorySize (length memory) ≡ true
-  -- "register file not 20 words, or a bit set that isn't kept"
+  -- "register file not" 53 "words, or a bit set that isn't kept"
   pub two : run memory file job .number ≡ 2 ↔ (memorySize (length memory) ≡ false) × (accepted file ≡ false)
   -- "job over 4,096 words"
   pub three :

@@ -31,26 +31,35 @@ fn show_words(name: &[u8], words: &[u16]) {
     io::write_all(1, b"\n");
 }
 
+// A register file: the Blitter's registers, then COPCON, the colours in two lines, and the zero flag.
+fn show_file(file: &[u16; file::WORDS]) {
+    show_words(b"  blitter", &file[..19]);
+    show_words(b"  copcon", &file[19..20]);
+    show_words(b"  colours", &file[20..36]);
+    show_words(b"         ", &file[36..52]);
+    show_words(b"  zero", &file[52..]);
+}
+
 // A job on 16 words of memory and a register file that are all zero.
 fn on_zeros(name: &[u8], job: &[u16]) {
     let mut ram = [0u16; 16];
-    let mut file = [0u16; 20];
+    let mut file = [0u16; file::WORDS];
     show(name, runner::run(&mut ram, &mut file, job));
 }
 
 // The same with what is left printed.
 fn on_zeros_whole(name: &[u8], job: &[u16]) {
     let mut ram = [0u16; 16];
-    let mut file = [0u16; 20];
+    let mut file = [0u16; file::WORDS];
     show(name, runner::run(&mut ram, &mut file, job));
     show_words(b"  memory", &ram);
-    show_words(b"  file", &file);
+    show_file(&file);
 }
 
 // "N 262,144 taken, 262,145 refused", with a store to word 262,143.
 fn memory_sizes() {
     let job = [0x8007u16, 0xFFFE, 0x1234];
-    let mut file = [0u16; 20];
+    let mut file = [0u16; file::WORDS];
     let mut none = [0u16; 0];
     show(b"memory 0", runner::run(&mut none, &mut file, &job));
     let mut most = [0u16; 262144];
@@ -59,61 +68,36 @@ fn memory_sizes() {
     show(b"memory 262145", runner::run(&mut over, &mut file, &job));
 }
 
-// A file of 19 words, one with bit 3 of a pointer's high half set, and one with a flag of 2.
-fn files() {
-    let job = [0xC001u16];
+// A register file on which a job of one flag step is run.
+fn on_file(name: &[u8], file: &mut [u16]) {
     let mut ram = [0u16; 16];
-    let mut short = [0u16; 19];
-    show(b"file of 19 words", runner::run(&mut ram, &mut short, &job));
-    let mut high = [
-        0u16,
-        0,
-        0,
-        0,
-        0,
-        0,
-        0,
-        0,
-        0,
-        0,
-        0x0008,
-        0,
-        0,
-        0,
-        0,
-        0,
-        0,
-        0,
-        0,
-        0,
-    ];
-    show(
-        b"file with DPTH 0008",
-        runner::run(&mut ram, &mut high, &job),
-    );
-    let mut flag = [
-        0u16,
-        0,
-        0,
-        0,
-        0,
-        0,
-        0,
-        0,
-        0,
-        0,
-        0,
-        0,
-        0,
-        0,
-        0,
-        0,
-        0,
-        0,
-        0,
-        0x0002,
-    ];
-    show(b"file with flag 2", runner::run(&mut ram, &mut flag, &job));
+    show(name, runner::run(&mut ram, file, &[0xC001]));
+}
+
+// A file of so many words that are zero but for one.
+fn with_word(name: &[u8], place: u32, word: u16) {
+    let mut file = [0u16; file::WORDS];
+    word::memory::write(&mut file, place, word);
+    on_file(name, &mut file);
+}
+
+// "2 reads 53 for 20"; then the most that a register keeps and one bit more, at a pointer, COPCON, the first and the last
+// colour and the flag.
+fn files() {
+    on_file(b"file of 20 words", &mut [0; 20]);
+    on_file(b"file of 52 words", &mut [0; 52]);
+    on_file(b"file of 54 words", &mut [0; 54]);
+    with_word(b"file with DPTH 0007", 10, 0x0007);
+    with_word(b"file with DPTH 0008", 10, 0x0008);
+    with_word(b"file with COPCON 0002", 19, 0x0002);
+    with_word(b"file with COPCON 0001", 19, 0x0001);
+    with_word(b"file with COPCON 0004", 19, 0x0004);
+    with_word(b"file with COLOR00 0FFF", 20, 0x0FFF);
+    with_word(b"file with COLOR00 1000", 20, 0x1000);
+    with_word(b"file with COLOR31 0FFF", 51, 0x0FFF);
+    with_word(b"file with COLOR31 8000", 51, 0x8000);
+    with_word(b"file with flag 1", file::FLAG, 1);
+    with_word(b"file with flag 2", file::FLAG, 2);
 }
 
 // "job 4,096 taken, 4,097 refused", and the order 1, 2, 3.
@@ -123,14 +107,14 @@ fn job_lengths() {
     let over = [0xC001u16; 4097];
     on_zeros(b"job 4097", &over);
     let mut none = [0u16; 0];
-    let mut short = [0u16; 19];
+    let mut short = [0u16; 20];
     show(
-        b"memory 0, file of 19, job 4097",
+        b"memory 0, file of 20, job 4097",
         runner::run(&mut none, &mut short, &over),
     );
     let mut ram = [0u16; 16];
     show(
-        b"file of 19, job 4097",
+        b"file of 20, job 4097",
         runner::run(&mut ram, &mut short, &over),
     );
 }
@@ -166,6 +150,41 @@ fn refused_steps() {
             0xC000,
         ],
     );
+}
+
+// COPCON and the colours, each written with all bits set and then, among the colours, with its number; before 02E, between
+// the data registers and 180, at an odd offset and past 1BE no step begins.
+fn colours() {
+    let mut job = [0u16; 134];
+    let mut at: u32 = 0;
+    while at < 32 {
+        let offset = (0x180 + 2 * at) as u16;
+        word::memory::write(&mut job, 4 * at, offset);
+        word::memory::write(&mut job, 4 * at + 1, 0xFFFF);
+        word::memory::write(&mut job, 4 * at + 2, offset);
+        word::memory::write(&mut job, 4 * at + 3, (at * 0x0111) as u16);
+        at = at + 1;
+    }
+    on_zeros_whole(b"colours by their numbers", &job[..128]);
+    on_zeros_whole(
+        b"all ones",
+        &[
+            0x002E,
+            0xFFFF,
+            0x0180,
+            0xFFFF,
+            0x01AA,
+            0xFFFF,
+            0x01BE,
+            0xFFFF,
+        ],
+    );
+    on_zeros(b"02C", &[0xC001, 0x002C, 0x0000]);
+    on_zeros(b"02F", &[0xC001, 0x002F, 0x0000]);
+    on_zeros(b"17E", &[0xC001, 0x017E, 0x0000]);
+    on_zeros(b"181", &[0xC001, 0x0181, 0x0000]);
+    on_zeros(b"1C0", &[0xC001, 0x01C0, 0x0000]);
+    on_zeros(b"180 cut off", &[0xC001, 0x0180]);
 }
 
 // A blit by its controls, the low halves of the pointers of A, B, C and D, and its size.
@@ -208,7 +227,7 @@ fn channels() {
 // A blit of size 0000, which is 1,024 by 64 words, and a store.
 fn largest_blit() {
     let mut ram = [0u16; 65536];
-    let mut file = [0u16; 20];
+    let mut file = [0u16; file::WORDS];
     let job = [0x0040u16, 0x0100, 0x0058, 0x0000, 0x8000, 0x0000, 0x0001];
     show(
         b"size 0000 and a store",
@@ -220,7 +239,7 @@ fn largest_blit() {
 // with stores and flags between; some registers are written with bits that they don't keep.
 fn several_blits() {
     let mut ram = [0u16, 1, 2, 3, 4, 5, 6, 7, 8, 9, 10, 11, 12, 13, 14, 15];
-    let mut file = [0u16; 20];
+    let mut file = [0u16; file::WORDS];
     let job = [
         // a store to word 0
         0x8000u16,
@@ -279,7 +298,7 @@ fn several_blits() {
     ];
     show(b"several blits", runner::run(&mut ram, &mut file, &job));
     show_words(b"  memory", &ram);
-    show_words(b"  file", &file);
+    show_file(&file);
 }
 
 fn main() {
@@ -289,6 +308,7 @@ fn main() {
     on_zeros_whole(b"empty job", &[]);
     on_zeros_whole(b"flag set and cleared", &[0xC001, 0xC000]);
     refused_steps();
+    colours();
     channels();
     largest_blit();
     several_blits();

@@ -2,6 +2,7 @@
 ghost use mathlib.Core.Path.{_≡_};
 ghost use mathlib.Core.List.{[]};
 ghost use Prim.Native.Nat.{_<_};
+ghost use Rattle.file.specs.Places.{fileLength};
 ghost use Rattle.area.specs.Flow.{state};
 ghost use Rattle.settled.specs.Words.{settledEnd};
 ghost use Rattle.knowledge.specs.Knowledge.{listed};
@@ -37,7 +38,7 @@ fn may_use(known: Knowledge) -> Uses
 }
 
 fn forget_pointer(known: Knowledge, used: bool, place: u32) -> Knowledge
-    requires { ⌜ place < 20 ⌝ }
+    requires { ⌜ place < fileLength ⌝ }
     ensures { λ after. ⌜ listed after ≡ forgetPointer used place (listed known) ⌝ }
 {
     if used {

@@ -2,8 +2,8 @@
 // says.
 
 // A register file with masks of all ones and the pointers' low halves.
-fn registers(con0: u16, con1: u16, a: u16, b: u16, c: u16, d: u16) -> [u16; 20] {
-    let mut file = [0u16; 20];
+fn registers(con0: u16, con1: u16, a: u16, b: u16, c: u16, d: u16) -> [u16; file::WORDS] {
+    let mut file = [0u16; file::WORDS];
     file[0] = con0;
     file[1] = con1;
     file[2] = 0xFFFF;
@@ -27,7 +27,7 @@ fn run(ram: &mut [u16], file: &mut [u16], size: u16) {
         }
     }
     show::text(b" zero");
-    show::words(file, 19, 1);
+    show::words(file, file::FLAG, 1);
     show::text(b":");
 }
 

@@ -1,8 +1,8 @@
 -- Laws of choices, and of tests at every number below one.
-use mathlib.Core.Path.{_≡_, refl, sym, ap, _∙_}
-use Prim.Native.Nat.{ℕ, zero, suc, _-_, _<_}
+use mathlib.Core.Path.{_≡_, refl, ap, _∙_}
+use Prim.Native.Nat.{ℕ, zero, suc, _+_, _<_, _≤_}
 use native.Mathlib.Nat.{not-suc-le-zero}
-use native.Mathlib.Numerals.{sub-one}
+use native.Mathlib.Numerals.{add-one}
 use native.Mathlib.Decide.{decLt}
 use native.Mathlib.Omega.{arith}
 use mathlib.Core.Bool.{Bool, true, false, _&&_, _||_}
@@ -63,16 +63,9 @@ every-at test (suc n) all k inside =
     by-place below (yes earlier) = below earlier
     by-place below (no later) = let same : k ≡ n = omega arith in rw same (T-left (test n) (every test n) all)
 
--- a turn of a loop that tries the numbers from n down
-pub every-turn : (test : ℕ → Bool) (n : ℕ) (whole : Bool)
-    → 0 < n → test (n - 1) ≡ true → every test n ≡ whole → every test (n - 1) ≡ whole
-every-turn test zero whole more holds same = absurd (omega arith)
-every-turn test (suc n) whole more holds same =
-    let here : test n ≡ true = rw sub-one at holds in
-    rw sub-one (ap (λ (answer : Bool). answer && every test n) (sym here) ∙ same)
+-- a turn of a loop that tries the numbers from 0 up, and its end
+pub every-turn : (test : ℕ → Bool) (n : ℕ) (here so-far : Bool) → here ≡ test n → so-far ≡ every test n → (here && so-far) ≡ every test (n + 1)
+every-turn test n here so-far holds same = rw (holds, same, add-one)
 
-pub every-when-fails : (test : ℕ → Bool) (n : ℕ) → 0 < n → test (n - 1) ≡ false → every test n ≡ false
-every-when-fails test zero more fails = absurd (omega arith)
-every-when-fails test (suc n) more fails =
-    let here : test n ≡ false = rw sub-one at fails in
-    ap (λ (answer : Bool). answer && every test n) here
+pub every-done : (test : ℕ → Bool) (n end : ℕ) (so-far : Bool) → n ≤ end → end ≤ n → so-far ≡ every test n → so-far ≡ every test end
+every-done test n end so-far before past same = let all : n ≡ end = omega (arith, before, past) in same ∙ ap (every test) all

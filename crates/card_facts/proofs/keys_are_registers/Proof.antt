@@ -1,12 +1,11 @@
 -- `card_facts::keys_are_registers` holds its theorem: both lists are written out, and computed.
 use mathlib.Core.Path.{refl}
-use Rattle.file.specs.File.{registers}
 use Rattle.card_text.specs.Job.{offsets}
 use Rattle.card_facts.proofs.keys_are_registers.Statement.{statement}
 use Rattle.card_facts.proofs.keys_are_registers.Tie as tie
 
 returns : tie.Need-returns
-unfolding offsets registers
+unfolding offsets
 returns c = refl
 
 pub keys-are-registers-spec : {M : Type 1} → statement M

@@ -1,110 +1,144 @@
--- `file::place` meets its contract: each arm is a row of the table, and the last has passed them all.
+-- `file::place` meets its contract: the tests go up through the runs of offsets and the gaps between them.
+use mathlib.Core.Path.{_≡_}
+use Prim.Native.Nat.{ℕ, _+_, _-_, _/_, _%_, _<_, _≤_}
+use native.Mathlib.Omega.{arith}
+use mathlib.Core.Bool.{not, _&&_}
+use borrow.Author.Tests.{lt-ltb, eq-eqb, ne-eqb}
+use lib.Dec.{eqb, ltb}
 use Rattle.file.specs.File.{registers, placeIn, place}
-use Rattle.file.proofs.FileLaws.{Passed, place-of-key, place-of-none}
+use Rattle.file.specs.Places.{control0, moduloC, sourceC, copcon, colourCount, colour0, flag}
+use Rattle.file.proofs.PlaceLaws.{place-of-none, place-in-run}
+use borrow.Author.Needs.{needs}
 use Rattle.file.proofs.place.Statement.{statement}
 use Rattle.file.proofs.place.Tie as tie
 
-returns : tie.Need-returns
+place-when-odd : (offset : ℕ) → offset % 2 ≡ 1 → flag ≡ place offset
+unfolding registers
+place-when-odd offset odd = place-of-none (λ (at : ℕ). eqb (at % 2) 1) offset tt (eq-eqb (offset % 2) 1 odd)
+
+place-of-copcon : (offset : ℕ) → offset ≡ 0x02E → copcon ≡ place offset
 unfolding place placeIn registers
-returns c = place-of-key (c .before .args .offset) _ (c .match .keys1)
+place-of-copcon offset same = rw same
+
+place-when-low : (offset : ℕ) → (offset ≡ 0x02E → ⊥) → offset < 0x040 → flag ≡ place offset
+unfolding registers
+place-when-low offset other low =
+    place-of-none (λ (at : ℕ). not (eqb at 0x02E) && ltb at 0x040) offset tt (rw (ne-eqb offset 0x02E other, lt-ltb offset 0x040 low))
+
+-- the runs: controls and pointers, modulos, data, colours
+place-of-control : (offset half : ℕ) → (offset % 2 ≡ 1 → ⊥) → half ≡ offset / 2 → 0x040 ≤ offset → offset ≤ 0x056 → half - 0x020 ≡ place offset
+unfolding place placeIn registers
+place-of-control offset half even is from to = omega (arith, place-in-run 0x020 12 control0 offset half tt even is from (omega (arith, to)))
+
+place-of-modulo : (offset half : ℕ) → (offset % 2 ≡ 1 → ⊥) → half ≡ offset / 2 → 0x060 ≤ offset → offset ≤ 0x066 → half - 0x030 + moduloC ≡ place offset
+unfolding place placeIn registers
+place-of-modulo offset half even is from to = place-in-run 0x030 4 moduloC offset half tt even is from (omega (arith, to))
+
+place-of-source : (offset half : ℕ) → (offset % 2 ≡ 1 → ⊥) → half ≡ offset / 2 → 0x070 ≤ offset → offset ≤ 0x074 → half - 0x038 + sourceC ≡ place offset
+unfolding place placeIn registers
+place-of-source offset half even is from to = place-in-run 0x038 3 sourceC offset half tt even is from (omega (arith, to))
+
+place-of-colour : (offset half : ℕ) → (offset % 2 ≡ 1 → ⊥) → half ≡ offset / 2 → 0x180 ≤ offset → offset ≤ 0x1BE → half - 0x0C0 + colour0 ≡ place offset
+unfolding place placeIn registers
+place-of-colour offset half even is from to = place-in-run 0x0C0 colourCount colour0 offset half tt even is from (omega (arith, to))
+
+-- the gaps between them
+place-past-pointers : (offset : ℕ) → 0x056 < offset → offset < 0x060 → flag ≡ place offset
+unfolding registers
+place-past-pointers offset from to =
+    place-of-none (λ (at : ℕ). ltb 0x056 at && ltb at 0x060) offset tt (rw (lt-ltb 0x056 offset from, lt-ltb offset 0x060 to))
+
+place-past-modulos : (offset : ℕ) → 0x066 < offset → offset < 0x070 → flag ≡ place offset
+unfolding registers
+place-past-modulos offset from to =
+    place-of-none (λ (at : ℕ). ltb 0x066 at && ltb at 0x070) offset tt (rw (lt-ltb 0x066 offset from, lt-ltb offset 0x070 to))
+
+place-past-data : (offset : ℕ) → 0x074 < offset → offset < 0x180 → flag ≡ place offset
+unfolding registers
+place-past-data offset from to =
+    place-of-none (λ (at : ℕ). ltb 0x074 at && ltb at 0x180) offset tt (rw (lt-ltb 0x074 offset from, lt-ltb offset 0x180 to))
+
+place-past-colours : (offset : ℕ) → 0x1BE < offset → flag ≡ place offset
+unfolding registers
+place-past-colours offset from = place-of-none (λ (at : ℕ). ltb 0x1BE at) offset tt (lt-ltb 0x1BE offset from)
+
+cast-half : tie.Need-cast-half
+cast-half c = search needs
+
+returns : tie.Need-returns
+returns c = search place-when-odd
 
 returns-2 : tie.Need-returns-2
-unfolding place placeIn registers
-returns-2 c = place-of-key (c .before .args .offset) _ (c .match .keys2)
+returns-2 c = search place-of-copcon
 
 returns-3 : tie.Need-returns-3
-unfolding place placeIn registers
-returns-3 c = place-of-key (c .before .args .offset) _ (c .match .keys3)
+returns-3 c = search place-when-low
+
+sub-result : tie.Need-sub-result
+sub-result c = search needs
 
 returns-4 : tie.Need-returns-4
-unfolding place placeIn registers
-returns-4 c = place-of-key (c .before .args .offset) _ (c .match .keys4)
+returns-4 c = search place-of-control
 
 returns-5 : tie.Need-returns-5
-unfolding place placeIn registers
-returns-5 c = place-of-key (c .before .args .offset) _ (c .match .keys5)
+returns-5 c = search place-past-pointers
+
+sub-result-2 : tie.Need-sub-result-2
+sub-result-2 c = search needs
+
+add-result : tie.Need-add-result
+add-result c = search needs
 
 returns-6 : tie.Need-returns-6
-unfolding place placeIn registers
-returns-6 c = place-of-key (c .before .args .offset) _ (c .match .keys6)
+returns-6 c = search place-of-modulo
 
 returns-7 : tie.Need-returns-7
-unfolding place placeIn registers
-returns-7 c = place-of-key (c .before .args .offset) _ (c .match .keys7)
+returns-7 c = search place-past-modulos
+
+sub-result-3 : tie.Need-sub-result-3
+sub-result-3 c = search needs
+
+add-result-2 : tie.Need-add-result-2
+add-result-2 c = search needs
 
 returns-8 : tie.Need-returns-8
-unfolding place placeIn registers
-returns-8 c = place-of-key (c .before .args .offset) _ (c .match .keys8)
+returns-8 c = search place-of-source
 
 returns-9 : tie.Need-returns-9
-unfolding place placeIn registers
-returns-9 c = place-of-key (c .before .args .offset) _ (c .match .keys9)
+returns-9 c = search place-past-data
+
+sub-result-4 : tie.Need-sub-result-4
+sub-result-4 c = search needs
+
+add-result-3 : tie.Need-add-result-3
+add-result-3 c = search needs
 
 returns-10 : tie.Need-returns-10
-unfolding place placeIn registers
-returns-10 c = place-of-key (c .before .args .offset) _ (c .match .keys10)
+returns-10 c = search place-of-colour
 
 returns-11 : tie.Need-returns-11
-unfolding place placeIn registers
-returns-11 c = place-of-key (c .before .args .offset) _ (c .match .keys11)
-
-returns-12 : tie.Need-returns-12
-unfolding place placeIn registers
-returns-12 c = place-of-key (c .before .args .offset) _ (c .match .keys12)
-
-returns-13 : tie.Need-returns-13
-unfolding place placeIn registers
-returns-13 c = place-of-key (c .before .args .offset) _ (c .match .keys13)
-
-returns-14 : tie.Need-returns-14
-unfolding place placeIn registers
-returns-14 c = place-of-key (c .before .args .offset) _ (c .match .keys14)
-
-returns-15 : tie.Need-returns-15
-unfolding place placeIn registers
-returns-15 c = place-of-key (c .before .args .offset) _ (c .match .keys15)
-
-returns-16 : tie.Need-returns-16
-unfolding place placeIn registers
-returns-16 c = place-of-key (c .before .args .offset) _ (c .match .keys16)
-
-returns-17 : tie.Need-returns-17
-unfolding place placeIn registers
-returns-17 c = place-of-key (c .before .args .offset) _ (c .match .keys17)
-
-returns-18 : tie.Need-returns-18
-unfolding place placeIn registers
-returns-18 c = place-of-key (c .before .args .offset) _ (c .match .keys18)
-
-returns-19 : tie.Need-returns-19
-unfolding place placeIn registers
-returns-19 c = place-of-key (c .before .args .offset) _ (c .match .keys19)
-
-returns-20 : tie.Need-returns-20
-unfolding Passed registers
-returns-20 c = place-of-none _ (c .match .rest)
+returns-11 c = search place-past-colours
 
 pub place-spec : {M : Type 1} → statement M
 place-spec =
     tie.close
     (tie.spec
+    cast-half
     returns
     returns-2
     returns-3
+    sub-result
     returns-4
     returns-5
+    sub-result-2
+    add-result
     returns-6
     returns-7
+    sub-result-3
+    add-result-2
     returns-8
     returns-9
+    sub-result-4
+    add-result-3
     returns-10
-    returns-11
-    returns-12
-    returns-13
-    returns-14
-    returns-15
-    returns-16
-    returns-17
-    returns-18
-    returns-19
-    returns-20)
+    returns-11)

@@ -1,4 +1,4 @@
--- `Knowledge::numbers` meets its contract: the numbers part by part, then the flag's place.
+-- `Knowledge::numbers` meets its contract: the numbers part by part.
 use Rattle.knowledge.proofs.KnowledgeLaws.{numbers-of-parts}
 use borrow.Author.Needs.{needs}
 use Rattle.knowledge.proofs.types.Knowledge.numbers.Statement.{statement}

@@ -1,0 +1,68 @@
+-- `file::keeps` meets its contract: it is told so far whether every place keeps its bits.
+use mathlib.Core.Path.{_≡_, refl, ap}
+use Prim.Native.Nat.{ℕ, _+_, _-_, _≤_}
+use mathlib.Core.Bool.{Bool, _&&_}
+use mathlib.Core.List.{List}
+use lib.Dec.{eqb}
+use lib.ListN.{getD}
+use Rattle.word.specs.Choice.{every}
+use Rattle.word.proofs.ChoiceLaws.{every-turn, every-done}
+use Rattle.file.specs.File.{kept, keptAt}
+use borrow.Author.Needs.{needs}
+use Rattle.file.proofs.keeps.Statement.{statement}
+use Rattle.file.proofs.keeps.Tie as tie
+
+keeps-turn : (file : List ℕ) (at word : ℕ) (so-far : Bool) → word ≡ kept at (getD file at 0) → so-far ≡ every (keptAt file) at
+    → (eqb word (getD file at 0) && so-far) ≡ every (keptAt file) (at + 1)
+unfolding keptAt
+keeps-turn file at word so-far holds same =
+    every-turn (keptAt file) at (eqb word (getD file at 0)) so-far (ap (λ (this : ℕ). eqb this (getD file at 0)) holds) same
+
+abbrev Inv-loop : tie.InvT-loop
+Inv-loop file words fine₀ at₀ fine at = (fine ≡ every (keptAt file) at) × (at ≤ words)
+
+abbrev μ-loop : tie.MeasureT-loop
+μ-loop file words fine₀ at₀ fine at = words - at
+
+loop-holds : tie.Need-loop-holds Inv-loop μ-loop
+loop-holds c = (refl, search needs)
+
+cast-value : tie.Need-cast-value Inv-loop μ-loop
+cast-value c = search needs
+
+mul-value : tie.Need-mul-value Inv-loop μ-loop
+mul-value c = search needs
+
+shared-slice-read-value : tie.Need-shared-slice-read-value Inv-loop μ-loop
+shared-slice-read-value c = search needs
+
+kept-requires : tie.Need-kept-requires Inv-loop μ-loop
+kept-requires c κs = search needs
+
+add-at : tie.Need-add-at Inv-loop μ-loop
+add-at c = search needs
+
+loop-less : tie.Need-loop-less Inv-loop μ-loop
+loop-less c = search needs
+
+loop-again : tie.Need-loop-again Inv-loop μ-loop
+loop-again c = (search keeps-turn, search needs)
+
+returns : tie.Need-returns Inv-loop μ-loop
+returns c = search every-done
+
+pub keeps-spec : {M : Type 1} → statement M
+keeps-spec =
+    tie.close
+    (tie.spec
+    Inv-loop
+    μ-loop
+    loop-holds
+    cast-value
+    mul-value
+    shared-slice-read-value
+    kept-requires
+    add-at
+    loop-less
+    loop-again
+    returns)

@@ -1,0 +1,30 @@
+-- Two answers that meet the promise are equal: the three numbers differ.
+use mathlib.Core.Path.{_≡_, refl, sym, ap, _∙_}
+use Prim.Native.Nat.{ℕ}
+use lib.Dec.{eqb}
+use Rattle.word.specs.Choice.{if_then_else_}
+use Rattle.widen.specs.declared.types.Answer.{Answer}
+use Rattle.widen.specs.declared.types.Answer.the-variants.{Done, OldFile, TargetLength}
+use Rattle.widen.specs.Widen.{Widening, answerNumber, left}
+use Rattle.widen.specs.OneAnswer.{OneAnswer}
+
+-- the answer with a number
+answerOf : ℕ → Answer
+answerOf number =
+    if eqb number 0 then Done else
+    if eqb number 2 then OldFile else
+    TargetLength
+
+answerNumber-tells : (answer : Answer) → answerOf (answerNumber answer) ≡ answer
+unfolding answerOf
+answerNumber-tells Done = refl
+answerNumber-tells OldFile = refl
+answerNumber-tells TargetLength = refl
+
+pub one-answer : OneAnswer
+one-answer old before answer other target target′ this that =
+    let same : left answer target ≡ left other target′ = this ∙ sym that in
+    record {
+      answers = sym (answerNumber-tells answer) ∙ ap (λ (end : Widening). answerOf (end .number)) same ∙ answerNumber-tells other;
+      targets = ap (λ (end : Widening). end .target) same;
+    }

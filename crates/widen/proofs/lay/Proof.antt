@@ -1,0 +1,57 @@
+-- `widen::lay` meets its contract: the words from here on give what all give.
+use mathlib.Core.Path.{_≡_}
+use Prim.Native.Nat.{_-_, _≤_}
+use lib.ListN.{length, drop}
+use Rattle.word.specs.Laid.{laid}
+use Rattle.file.specs.Places.{fileLength}
+use Rattle.widen.specs.Old.{oldLength}
+use Rattle.widen.specs.Widen.{widened}
+use Rattle.widen.proofs.WidenLaws.{widened-turn, widened-done}
+use borrow.Author.Needs.{needs}
+use Rattle.widen.proofs.lay.Statement.{statement}
+use Rattle.widen.proofs.lay.Tie as tie
+
+abbrev Inv-loop : tie.InvT-loop
+Inv-loop old target₀ place₀ target place =
+    (laid (drop place (widened old)) place target ≡ laid (widened old) 0 target₀)
+    × (place ≤ fileLength)
+    × (length target ≡ length target₀)
+    × (length old ≡ oldLength)
+
+abbrev μ-loop : tie.MeasureT-loop
+μ-loop old target₀ place₀ target place = fileLength - place
+
+loop-holds : tie.Need-loop-holds Inv-loop μ-loop
+loop-holds c = search needs
+
+lay-word-requires : tie.Need-lay-word-requires Inv-loop μ-loop
+lay-word-requires c κs = search needs
+
+add-place : tie.Need-add-place Inv-loop μ-loop
+add-place c = search needs
+
+loop-less : tie.Need-loop-less Inv-loop μ-loop
+loop-less c = search needs
+
+loop-again : tie.Need-loop-again Inv-loop μ-loop
+loop-again c = (search widened-turn, search needs, search needs, search needs)
+
+same-length : tie.Need-same-length Inv-loop μ-loop
+same-length c = search needs
+
+returns : tie.Need-returns Inv-loop μ-loop
+returns c = search widened-done
+
+pub lay-spec : {M : Type 1} → statement M
+lay-spec =
+    tie.close
+    (tie.spec
+    Inv-loop
+    μ-loop
+    loop-holds
+    lay-word-requires
+    add-place
+    loop-less
+    loop-again
+    same-length
+    returns)

@@ -1,0 +1,28 @@
+-- `widen::lay_word` meets its contract: the word is the new file's.
+use mathlib.Core.Path.{_≡_}
+use Prim.Native.Nat.{ℕ}
+use mathlib.Core.List.{List}
+use lib.ListN.{getD, set}
+use Rattle.widen.specs.Widen.{widened}
+use borrow.Author.Needs.{needs}
+use Rattle.widen.proofs.lay_word.Statement.{statement}
+use Rattle.widen.proofs.lay_word.Tie as tie
+
+set-of-word : (old target next : List ℕ) (place word : ℕ) → word ≡ getD (widened old) place 0 → next ≡ set target place word
+    → next ≡ set target place (getD (widened old) place 0)
+set-of-word old target next place word is sets = rw (← is) sets
+
+word-at-requires : tie.Need-word-at-requires
+word-at-requires c κs = search needs
+
+write-requires : tie.Need-write-requires
+write-requires c κs = search needs
+
+same-length : tie.Need-same-length
+same-length c = search needs
+
+returns : tie.Need-returns
+returns c = search set-of-word
+
+pub lay-word-spec : {M : Type 1} → statement M
+lay-word-spec = tie.close (tie.spec word-at-requires write-requires same-length returns)

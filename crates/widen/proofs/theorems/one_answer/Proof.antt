@@ -1,0 +1,10 @@
+-- `widen::theorems::one_answer` holds its theorem.
+use Rattle.widen.proofs.OneAnswer.{one-answer}
+use Rattle.widen.proofs.theorems.one_answer.Statement.{statement}
+use Rattle.widen.proofs.theorems.one_answer.Tie as tie
+
+returns : tie.Need-returns
+returns c = one-answer
+
+pub one-answer-spec : {M : Type 1} → statement M
+one-answer-spec = tie.close (tie.spec returns)

@@ -9,7 +9,7 @@
 #include "../c/plain.h"
 #include "desk.h"
 
-enum { RAM_ROOM = 262144, FILE_WORDS = 20, JOB_WORDS = 4096, PITCH = 20 };
+enum { RAM_ROOM = 262144, FILE_WORDS = 53, JOB_WORDS = 4096, PITCH = 20 };
 
 /* Channels in the order of the register file. */
 enum { C, B, A, D, CHANNELS, REGION = RAM_ROOM / CHANNELS };

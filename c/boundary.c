@@ -123,7 +123,7 @@ void run(const char *name, const char *ram_before, const char *file_before, cons
     check_run(name, "job", "the fence of the job", &job);
 }
 
-/* The output: EEEE throughout, and afterwards the folded job with EEEE beyond it. */
+/* The output, or a target: EEEE throughout, and afterwards the folded job, or the new file, with EEEE beyond it. */
 static uint16_t *lend_out(size_t words, const char *folded)
 {
     uint16_t *lent = lend(&out, "", SAME);
@@ -150,11 +150,23 @@ void fold(const char *name, size_t ram_words, const char *job_before, size_t out
     check_run(name, "output", "the fence of the output", &out);
 }
 
+void widen(const char *name, const char *old_before, size_t target_words, uint32_t number, const char *new_file)
+{
+    uint16_t *old_words = lend(&file, old_before, SAME), *lent = lend_out(target_words, new_file);
+    lend_numbers();
+    desk_widen(old_words, file.words, lent, out.words, &numbers.number);
+    check_number(name, "number", numbers.number, number);
+    check_fences_of_numbers(name);
+    check_run(name, "old file", "the fence of the old file", &file);
+    check_run(name, "target", "the fence of the target", &out);
+}
+
 int main(void)
 {
     blits();
     runs();
     foldings();
+    screens();
     printf("boundary: %lu checks, %lu failed\n", checks, failed);
     return failed != 0;
 }

@@ -16,8 +16,13 @@ void run(const char *name, const char *ram, const char *file, const char *job,
 void fold(const char *name, size_t ram_words, const char *job, size_t out_words,
           uint32_t number, uint32_t place, uint32_t length, const char *folded);
 
+/* An old file, and the words of a target that holds EEEE before; afterwards it holds the new file, and EEEE wherever that
+ * doesn't stand. */
+void widen(const char *name, const char *old, size_t target_words, uint32_t number, const char *new_file);
+
 void blits(void);
 void runs(void);
 void foldings(void);
+void screens(void);
 
 #endif

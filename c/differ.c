@@ -11,7 +11,7 @@
 #include "differ.h"
 #include "plain.h"
 
-enum { FENCE = 8, FENCE_WORD = 0xA55A, NUMBERS = 18 };
+enum { FENCE = 8, FENCE_WORD = 0xA55A, NUMBERS = 21 };
 
 /* One side's buffers, a fence on either side of each, and its answer. */
 struct side {
@@ -25,7 +25,7 @@ struct side {
 static struct side desk, plain;
 
 /* How often each outcome came: by the call and its number. */
-static uint64_t outcomes[3][NUMBERS], changed, pairs, pairs_refused;
+static uint64_t outcomes[4][NUMBERS], changed, pairs, pairs_refused;
 
 static void fence(uint16_t *words, size_t length)
 {
@@ -137,24 +137,52 @@ static const char *difference_of_foldings(const struct test *test)
     return difference_of_pair(test, desk.out + FENCE, desk.count);
 }
 
+/* The file that a widening makes is accepted: an empty job runs on it. */
+static const char *difference_of_new_file(void)
+{
+    uint16_t ram[1] = {0}, file[FILE_WORDS];
+    uint32_t number, place, stored;
+    memcpy(file, desk.out + FENCE, sizeof file);
+    desk_run(ram, 1, file, FILE_WORDS, ram, 0, &number, &place, &stored);
+    return number == 0 ? NULL : "the widened file is refused by the archive";
+}
+
+static const char *difference_of_widenings(const struct test *test)
+{
+    set_up_out(&desk, test->target_words);
+    set_up_out(&plain, test->target_words);
+    memcpy(desk.file, test->file, sizeof test->file);
+    desk_widen(desk.file, test->file_words, desk.out + FENCE, test->target_words, &desk.number);
+    plain_widen(test->file, test->file_words, plain.out + FENCE, test->target_words, &plain.number);
+    outcomes[WIDEN][plain.number]++;
+    if (desk.number != plain.number)
+        return "number";
+    if (memcmp(desk.file, test->file, sizeof test->file) != 0)
+        return "old file";
+    if (memcmp(desk.out, plain.out, (FENCE + test->target_words + FENCE) * sizeof *desk.out) != 0)
+        return "target";
+    return plain.number == 0 ? difference_of_new_file() : NULL;
+}
+
 const char *difference(const struct test *test)
 {
     switch (test->call) {
     case BLIT: return difference_of_blits(test);
     case RUN: return difference_of_runs(test);
+    case WIDEN: return difference_of_widenings(test);
     default: return difference_of_foldings(test);
     }
 }
 
 static void print_outcomes(void)
 {
-    static const char *const names[] = {"blits", "runs", "foldings"};
-    for (int call = 0; call < 3; call++) {
+    static const char *const names[] = {"blits", "runs", "foldings", "widenings"};
+    for (int call = 0; call < 4; call++) {
         printf("%s by number:", names[call]);
         for (int number = 0; number < NUMBERS; number++)
             if (outcomes[call][number] != 0)
                 printf(" %d: %" PRIu64, number, outcomes[call][number]);
-        printf(call < 2 ? "; " : "\n");
+        printf(call < 3 ? "; " : "\n");
     }
     printf("foldings unlike their job: %" PRIu64 "; pairs of runs compared: %" PRIu64 ", refused alike: %" PRIu64 "\n",
            changed, pairs, pairs_refused);

@@ -8,30 +8,32 @@
 
 enum {
     RAM_ROOM = 262145,
-    FILE_ROOM = 24,
+    FILE_ROOM = 57,
     JOB_ROOM = 4097,
     OUT_ROOM = 40000
 };
 
-enum { POINTERS = 262144, REGISTERS = 19, FILE_WORDS = 20 };
+/* The Blitter's registers stand first in the file; REGISTERS counts COPCON and the colours too. */
+enum { POINTERS = 262144, BLITTER = 19, REGISTERS = 52, ZERO_FLAG = 52, FILE_WORDS = 53, OLD_WORDS = 20 };
 
 /* Channels C, B, A and D have the numbers 0 to 3, in the order of the file. */
 enum { C_CHANNEL, B_CHANNEL, A_CHANNEL, D_CHANNEL, CHANNELS };
 enum { FIRST_POINTER = 4, FIRST_MODULO = 12, USE_A = 0x0800, USE_B = 0x0400, USE_C = 0x0200, USE_D = 0x0100 };
 
-enum call { BLIT, RUN, FOLD };
+enum call { BLIT, RUN, FOLD, WIDEN };
 
 /* One case: everything a call is given. */
 struct test {
     enum call call;
     size_t ram_words;
     uint64_t ram_seed;          /* what memory holds, by fill_ram */
-    uint16_t file[FILE_ROOM];   /* for a folding: the file of the two runs that are compared */
+    uint16_t file[FILE_ROOM];   /* for a folding: the file of the two runs that are compared; the old file of a widening */
     size_t file_words;
     uint16_t size;              /* of a blit called alone */
     uint16_t job[JOB_ROOM];
     size_t job_words;
     int spare;                  /* of a folding: words of output beyond those it needs, or missing if negative */
+    size_t target_words;        /* of a widening */
 };
 
 /* A blit: its register file and size. */
@@ -61,6 +63,9 @@ void make_plan(struct plan *plan, uint32_t n, bool settled, bool risk);
 /* The reach of a channel of the plan's blit by half its modulo, and its pointer set to a word, which goes round. */
 struct reach reach_of(const struct plan *plan, int32_t half);
 void set_pointer(struct plan *plan, int pointer, uint32_t word);
+
+/* COPCON, the colours and the zero flag of a file: any bits that are kept. */
+void pick_screen(uint16_t *file);
 
 /* The case that belongs to a seed. */
 void make_test(struct test *test, uint64_t seed);

@@ -163,6 +163,14 @@ static void lay_over(struct plan *plan, uint32_t n)
     plan->file[0] |= USE_D | USE_C << source;
 }
 
+void pick_screen(uint16_t *file)
+{
+    file[BLITTER] = below(2) * 2;
+    for (int i = BLITTER + 1; i < REGISTERS; i++)
+        file[i] = random_word() & 0x0FFF;
+    file[ZERO_FLAG] = below(2);
+}
+
 void make_plan(struct plan *plan, uint32_t n, bool settled, bool risk)
 {
     pick_size(plan, n, settled);
@@ -174,7 +182,7 @@ void make_plan(struct plan *plan, uint32_t n, bool settled, bool risk)
         place_channel(plan, channel, n, risk);
     if (!settled && one_in(2))
         lay_over(plan, n);
-    for (int i = 16; i < REGISTERS; i++)
+    for (int i = 16; i < BLITTER; i++)
         plan->file[i] = random_word();
-    plan->file[19] = below(2);
+    pick_screen(plan->file);
 }

@@ -1,16 +1,21 @@
-/* The cases of the differential test: blits, jobs and foldings, lawful, near the edge and damaged. */
+/* The cases of the differential test: blits, jobs, foldings and widenings, lawful, near the edge and damaged. */
 #include <string.h>
 
 #include "differ.h"
 
 /* By a register's place in the file: its offset in a job, and the bits it keeps. */
 static const uint16_t offsets[REGISTERS] = {
-    0x040, 0x042, 0x044, 0x046, 0x048, 0x04A, 0x04C, 0x04E, 0x050, 0x052,
-    0x054, 0x056, 0x060, 0x062, 0x064, 0x066, 0x070, 0x072, 0x074
+    0x040, 0x042, 0x044, 0x046, 0x048, 0x04A, 0x04C, 0x04E, 0x050, 0x052, 0x054, 0x056, 0x060,
+    0x062, 0x064, 0x066, 0x070, 0x072, 0x074, 0x02E, 0x180, 0x182, 0x184, 0x186, 0x188, 0x18A,
+    0x18C, 0x18E, 0x190, 0x192, 0x194, 0x196, 0x198, 0x19A, 0x19C, 0x19E, 0x1A0, 0x1A2, 0x1A4,
+    0x1A6, 0x1A8, 0x1AA, 0x1AC, 0x1AE, 0x1B0, 0x1B2, 0x1B4, 0x1B6, 0x1B8, 0x1BA, 0x1BC, 0x1BE
 };
 static const uint16_t kept[FILE_WORDS] = {
-    0xFFFF, 0xFFFF, 0xFFFF, 0xFFFF, 0x0007, 0xFFFE, 0x0007, 0xFFFE, 0x0007, 0xFFFE,
-    0x0007, 0xFFFE, 0xFFFE, 0xFFFE, 0xFFFE, 0xFFFE, 0xFFFF, 0xFFFF, 0xFFFF, 0x0001
+    0xFFFF, 0xFFFF, 0xFFFF, 0xFFFF, 0x0007, 0xFFFE, 0x0007, 0xFFFE, 0x0007, 0xFFFE, 0x0007, 0xFFFE, 0xFFFE,
+    0xFFFE, 0xFFFE, 0xFFFE, 0xFFFF, 0xFFFF, 0xFFFF, 0x0002, 0x0FFF, 0x0FFF, 0x0FFF, 0x0FFF, 0x0FFF, 0x0FFF,
+    0x0FFF, 0x0FFF, 0x0FFF, 0x0FFF, 0x0FFF, 0x0FFF, 0x0FFF, 0x0FFF, 0x0FFF, 0x0FFF, 0x0FFF, 0x0FFF, 0x0FFF,
+    0x0FFF, 0x0FFF, 0x0FFF, 0x0FFF, 0x0FFF, 0x0FFF, 0x0FFF, 0x0FFF, 0x0FFF, 0x0FFF, 0x0FFF, 0x0FFF, 0x0FFF,
+    0x0001
 };
 
 /* How far a case goes astray. */
@@ -29,15 +34,25 @@ static void put_write(struct test *test, uint32_t i, uint16_t value)
     put(test, one_in(8) ? value | (random64() & (uint16_t)~kept[i]) : value);
 }
 
-/* All of a blit's registers, in any order, one or the other of them left out now and then, and its size. */
+/* COPCON or a colour. */
+static void put_screen(struct test *test)
+{
+    uint32_t which = one_in(8) ? BLITTER : BLITTER + below(REGISTERS - BLITTER);
+    put_write(test, which, random_word() & kept[which]);
+}
+
+/* All of a blit's registers, in any order, one or the other of them left out now and then, a colour among them now and
+ * then, and its size. */
 static void put_blit(struct test *test, const struct plan *plan, bool risk)
 {
-    uint32_t first = below(REGISTERS), stride = 1 + below(REGISTERS - 1);
-    uint32_t left_out = risk || one_in(6) ? below(REGISTERS) : REGISTERS;
-    for (uint32_t i = 0; i < REGISTERS; i++) {
-        uint32_t which = (first + i * stride) % REGISTERS;
+    uint32_t first = below(BLITTER), stride = 1 + below(BLITTER - 1);
+    uint32_t left_out = risk || one_in(6) ? below(BLITTER) : BLITTER;
+    for (uint32_t i = 0; i < BLITTER; i++) {
+        uint32_t which = (first + i * stride) % BLITTER;
         if (which != left_out)
             put_write(test, which, plan->file[which]);
+        if (one_in(24))
+            put_screen(test);
     }
     put(test, 0x058);
     put(test, plan->size);
@@ -82,8 +97,10 @@ static void put_steps(struct test *test, uint32_t n, size_t words, enum care car
             put_store(test, n, risk);
         else if (chance < 17)
             put(test, 0xC000 | below(2));
+        else if (chance < 18)
+            put_screen(test);
         else if (chance < 19)
-            put_write(test, risk ? below(REGISTERS) : 2 + below(2), random_word());
+            put_write(test, risk ? below(BLITTER) : 2 + below(2), random_word());
         else if (risk)
             put(test, 0x058), put(test, random64());
     }
@@ -94,14 +111,15 @@ static void damage(struct test *test, uint32_t n)
 {
     static const uint16_t no_step[] = {
         0x0000, 0x003E, 0x0041, 0x0059, 0x005A, 0x005E, 0x0068, 0x006E, 0x0076, 0x0140, 0x1040, 0x8008, 0x9000,
-        0xC002, 0xE000, 0xFFFF
+        0xC002, 0xE000, 0xFFFF, 0x002C, 0x002F, 0x0030, 0x017E, 0x0181, 0x01BF, 0x01C0, 0x0380
     };
+    const uint32_t kinds = sizeof no_step / sizeof *no_step;
     if (test->job_words == 0)
         return;
     uint32_t at = below(test->job_words);
     switch (below(6)) {
-    case 0: put(test, no_step[below(16)]); break;
-    case 1: test->job[at] = one_in(2) ? no_step[below(16)] : random64(); break;
+    case 0: put(test, no_step[below(kinds)]); break;
+    case 1: test->job[at] = one_in(2) ? no_step[below(kinds)] : random64(); break;
     case 2:
         test->job_words--;
         memmove(test->job + at, test->job + at + 1, (test->job_words - at) * sizeof *test->job);
@@ -143,11 +161,23 @@ static void make_file(struct test *test, uint32_t n, bool risk)
 /* A file of the wrong length, or with a bit that isn't kept. */
 static void damage_file(struct test *test)
 {
-    static const size_t lengths[] = {0, 1, 19, 21, 24};
+    static const size_t lengths[] = {0, 1, 19, 20, 21, 52, 54, 57};
     if (one_in(2))
-        test->file_words = lengths[below(5)];
+        test->file_words = lengths[below(8)];
     else
-        test->file[4 + below(16)] ^= 1u << below(16);
+        test->file[4 + below(FILE_WORDS - 4)] ^= 1u << below(16);
+}
+
+/* An old file, lawful or with a wrong length or any bit turned, and a target of 53 words or of another length. */
+static void make_widening(struct test *test)
+{
+    static const size_t lengths[] = {0, 1, 19, 20, 21, 52, 53, 54, 57};
+    for (size_t i = 0; i < FILE_ROOM; i++)
+        test->file[i] = random64() & kept[i < BLITTER ? i : ZERO_FLAG];
+    test->file_words = one_in(6) ? lengths[below(9)] : OLD_WORDS;
+    if (one_in(3))
+        test->file[below(OLD_WORDS)] ^= 1u << below(16);
+    test->target_words = one_in(4) ? lengths[below(9)] : FILE_WORDS;
 }
 
 static size_t pick_ram_words(void)
@@ -174,7 +204,11 @@ void make_test(struct test *test, uint64_t seed)
     memset(test, 0, sizeof *test);
     uint32_t chance = below(100);
     enum care care = chance < 55 ? LAWFUL : chance < 80 ? RISKY : DAMAGED;
-    test->call = one_in(5) ? BLIT : one_in(2) ? RUN : FOLD;
+    test->call = one_in(5) ? BLIT : one_in(24) ? WIDEN : one_in(2) ? RUN : FOLD;
+    if (test->call == WIDEN) {
+        make_widening(test);
+        return;
+    }
     test->ram_words = pick_ram_words();
     test->ram_seed = random64();
     test->file_words = FILE_WORDS;

@@ -88,9 +88,9 @@ static void begin(const struct set *set, bool descending)
     file[1] = pick_shift() << 12 | set->fill | (descending ? DESCENDING : 0) | (one_in(2) ? CARRY : 0);
     file[2] = one_in(2) ? 0xFFFF : random64();
     file[3] = one_in(2) ? 0xFFFF : random64();
-    for (int i = 16; i < REGISTERS; i++)
+    for (int i = 16; i < BLITTER; i++)
         file[i] = random_word();
-    file[REGISTERS] = below(2);
+    pick_screen(file);
     for (int channel = 0; channel < CHANNELS; channel++) {
         set_pointer(&seam.plan, FIRST_POINTER + 2 * channel, below(POINTERS));
         set_half(channel, 0);

@@ -102,7 +102,7 @@ static void print_words(const char *name, const uint16_t *words, size_t length)
 
 void print_test(const struct test *test)
 {
-    static const char *const calls[] = {"blit", "run", "fold"};
+    static const char *const calls[] = {"blit", "run", "fold", "widen"};
     printf("%s, %zu words of memory, ", calls[test->call], test->ram_words);
     if (test->ram_seed == 0)
         printf("word i is i modulo 1,024\n");
@@ -113,6 +113,8 @@ void print_test(const struct test *test)
         printf("size: %04X\n", test->size);
     else
         print_words("job", test->job, test->job_words);
+    if (test->call == WIDEN)
+        printf("words of the target: %zu\n", test->target_words);
     if (test->call == FOLD)
         printf("words of output spare: %d\n", test->spare);
 }

@@ -73,12 +73,23 @@ static void add_modulo(char line[LINE_ROOM], size_t reg, uint16_t kept)
     add(line, "%c modulo: %ld bytes", register_name(reg)[3], bytes);
 }
 
+/* Four bits each of red, green and blue. */
+static void add_colour(char line[LINE_ROOM], size_t reg, uint16_t kept)
+{
+    add(line, "colour %u: red %X, green %X, blue %X", (unsigned)(reg - COLOUR0), (unsigned)kept >> 8,
+        (unsigned)kept >> 4 & 15, (unsigned)kept & 15);
+}
+
 static void add_register(char line[LINE_ROOM], const struct listing *listing, size_t reg, uint16_t value)
 {
     const char *name = register_name(reg);
     uint16_t kept = register_kept(reg, value);
 
-    if (strcmp(name, "BLTCON0") == 0)
+    if (reg == COPCON)
+        add(line, kept ? "Copper's danger bit set" : "Copper's danger bit clear");
+    else if (reg >= COLOUR0)
+        add_colour(line, reg, kept);
+    else if (strcmp(name, "BLTCON0") == 0)
         add_con0(line, value);
     else if (strcmp(name, "BLTCON1") == 0)
         add_con1(line, value);
@@ -117,7 +128,7 @@ static void add_step(char line[LINE_ROOM], const struct listing *listing, const 
     add(line, "%5lu  %04X  ", (unsigned long)listing->place, (unsigned)at[0]);
     switch (step->kind) {
     case STEP_REGISTER:
-        add(line, "%s %04X  ", register_name(step->reg), (unsigned)step->value);
+        add(line, "%-7s %04X  ", register_name(step->reg), (unsigned)step->value);
         add_register(line, listing, step->reg, step->value);
         break;
     case STEP_SIZE:

@@ -1,4 +1,5 @@
-/* A second Blitter, in plain C, written from the papers alone: one area blit, a job run, a job folded.
+/* A second Blitter, in plain C, written from the papers alone: one area blit, a job run, a job folded,
+ * an old register file widened.
  * Nothing of it is proved. It is what the archive is compared with, call by call, and what its cost is set beside.
  * Parameters, numbers and what a refusal leaves are those of the entries of the same name in desk.h. */
 #ifndef PLAIN_H
@@ -16,5 +17,7 @@ void plain_run(uint16_t *ram, size_t ram_words, uint16_t *file, size_t file_word
 
 void plain_fold(size_t ram_words, const uint16_t *job, size_t job_words, uint16_t *out, size_t out_words,
                 uint32_t *number, uint32_t *place, uint32_t *length);
+
+void plain_widen(const uint16_t *old, size_t old_words, uint16_t *target, size_t target_words, uint32_t *number);
 
 #endif

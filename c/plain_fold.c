@@ -4,10 +4,10 @@
 #include "plain.h"
 #include "plain_parts.h"
 
-/* What is known of the registers before a step. Where one isn't known, its number here is 0 and nobody asks for it;
- * the zero flag isn't tracked. */
+/* What is known of the Blitter's registers before a step. Where one isn't known, its number here is 0 and nobody asks for
+ * it; COPCON, the colours and the zero flag aren't tracked. */
 struct knowledge {
-    bool known[FILE_WORDS];
+    bool known[BLITTER_WORDS];
     uint16_t file[FILE_WORDS];
 };
 
@@ -105,7 +105,7 @@ static void fold_step(struct knowledge *knowledge, size_t ram_words, const uint1
         fold_blit(knowledge, step->value, folded);
         return;
     }
-    if (step->kind == REGISTER_WRITE)
+    if (step->kind == REGISTER_WRITE && step->target < BLITTER_WORDS)
         learn(knowledge, step->target, step->value);
     if (step->kind == BLIT_START)
         forget_moved(knowledge);

@@ -8,7 +8,6 @@
 
 enum {
     POINTERS = 262144,  /* pointers go round here, and no memory is longer */
-    FILE_WORDS = 20,
     JOB_WORDS = 4096,
     SETTLED_WORDS = 64  /* no settled blit has more */
 };
@@ -19,8 +18,14 @@ enum {
     BLTCPTH, BLTCPTL, BLTBPTH, BLTBPTL, BLTAPTH, BLTAPTL, BLTDPTH, BLTDPTL,
     BLTCMOD, BLTBMOD, BLTAMOD, BLTDMOD,
     BLTCDAT, BLTBDAT, BLTADAT,
-    ZERO_FLAG
+    COPCON,
+    COLOR00, COLOR31 = COLOR00 + 31,
+    ZERO_FLAG,
+    FILE_WORDS
 };
+
+/* The Blitter's registers are the file's first words. */
+enum { BLITTER_WORDS = BLTADAT + 1 };
 
 /* Bits 11 to 8 of BLTCON0. */
 enum { USE_A = 0x800, USE_B = 0x400, USE_C = 0x200, USE_D = 0x100, USES = 0xF00 };

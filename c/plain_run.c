@@ -1,4 +1,4 @@
-/* The reader and the runner of jobs of paper 01. */
+/* The reader and the runner of jobs of paper 01, with the colours of paper 02's W7. */
 #include "plain.h"
 #include "plain_parts.h"
 
@@ -13,6 +13,10 @@ static int place_in_file(uint16_t offset)
         return BLTCMOD + (offset - 0x060) / 2;
     if (offset >= 0x070 && offset <= 0x074)
         return BLTCDAT + (offset - 0x070) / 2;
+    if (offset == 0x02E)
+        return COPCON;
+    if (offset >= 0x180 && offset <= 0x1BE)
+        return COLOR00 + (offset - 0x180) / 2;
     return -1;
 }
 

@@ -20,10 +20,27 @@ static const struct reg registers[FILE_WORDS] = {
     {"BLTCMOD", 0x060, 0xFFFE}, {"BLTBMOD", 0x062, 0xFFFE},
     {"BLTAMOD", 0x064, 0xFFFE}, {"BLTDMOD", 0x066, 0xFFFE},
     {"BLTCDAT", 0x070, 0xFFFF}, {"BLTBDAT", 0x072, 0xFFFF}, {"BLTADAT", 0x074, 0xFFFF},
+    {"COPCON", 0x02E, 0x0002},
+    {"COLOR00", 0x180, 0x0FFF}, {"COLOR01", 0x182, 0x0FFF},
+    {"COLOR02", 0x184, 0x0FFF}, {"COLOR03", 0x186, 0x0FFF},
+    {"COLOR04", 0x188, 0x0FFF}, {"COLOR05", 0x18A, 0x0FFF},
+    {"COLOR06", 0x18C, 0x0FFF}, {"COLOR07", 0x18E, 0x0FFF},
+    {"COLOR08", 0x190, 0x0FFF}, {"COLOR09", 0x192, 0x0FFF},
+    {"COLOR10", 0x194, 0x0FFF}, {"COLOR11", 0x196, 0x0FFF},
+    {"COLOR12", 0x198, 0x0FFF}, {"COLOR13", 0x19A, 0x0FFF},
+    {"COLOR14", 0x19C, 0x0FFF}, {"COLOR15", 0x19E, 0x0FFF},
+    {"COLOR16", 0x1A0, 0x0FFF}, {"COLOR17", 0x1A2, 0x0FFF},
+    {"COLOR18", 0x1A4, 0x0FFF}, {"COLOR19", 0x1A6, 0x0FFF},
+    {"COLOR20", 0x1A8, 0x0FFF}, {"COLOR21", 0x1AA, 0x0FFF},
+    {"COLOR22", 0x1AC, 0x0FFF}, {"COLOR23", 0x1AE, 0x0FFF},
+    {"COLOR24", 0x1B0, 0x0FFF}, {"COLOR25", 0x1B2, 0x0FFF},
+    {"COLOR26", 0x1B4, 0x0FFF}, {"COLOR27", 0x1B6, 0x0FFF},
+    {"COLOR28", 0x1B8, 0x0FFF}, {"COLOR29", 0x1BA, 0x0FFF},
+    {"COLOR30", 0x1BC, 0x0FFF}, {"COLOR31", 0x1BE, 0x0FFF},
     {"zero", 0, 0x0001},
 };
 
-/* Paper 01's "Numbers given back", as paper 02 leaves it: 13 isn't given. */
+/* Paper 01's "Numbers given back", as paper 02 leaves it: 13, 18 and 19 aren't given. */
 static const char *const meanings[] = {
     "done",
     "memory of no words or of more than 262,144",
@@ -43,6 +60,9 @@ static const char *const meanings[] = {
     "channel B at a word that memory doesn't have",
     "channel C at a word that memory doesn't have",
     "channel D at a word that memory doesn't have",
+    NULL,
+    NULL,
+    "a new register file that hasn't 53 words",
 };
 
 const char *number_meaning(uint32_t number)

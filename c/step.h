@@ -5,7 +5,9 @@
 #include <stddef.h>
 #include <stdint.h>
 
-enum { FILE_WORDS = 20, ZERO_FLAG = 19, BLTSIZE = 0x058, JOB_LIMIT = 4096 };
+/* Places in the register file, and its length: the Blitter's registers stand before COPCON, 32 colours from COLOUR0 on. */
+enum { COPCON = 19, COLOUR0 = 20, ZERO_FLAG = 52, FILE_WORDS = 53 };
+enum { BLTSIZE = 0x058, JOB_LIMIT = 4096 };
 
 enum step_kind { STEP_REGISTER, STEP_SIZE, STEP_STORE, STEP_FLAG, STEP_REFUSED };
 
@@ -21,7 +23,7 @@ struct step {
 /* The step that begins at a place below words. */
 struct step step_at(const uint16_t *job, size_t words, size_t place);
 
-/* The name of a register by its place in the file: BLTCON0 to BLTADAT, and "zero". */
+/* The name of a register by its place in the file: BLTCON0 to BLTADAT, COPCON, COLOR00 to COLOR31, and "zero". */
 const char *register_name(size_t reg);
 
 /* The place of a register in the file by its name; FILE_WORDS if there is none. */

@@ -1,15 +1,18 @@
-/* The machine-checked Blitter for C: one area blit, a job run, a job folded.
+/* The machine-checked Blitter for C: one area blit, a job run, a job folded, an old register file widened.
  *
  * Common to all calls
  * - Memory, register file, job and output are runs of 16-bit words; every length counts words, not bytes.
  *   Any length is taken, 0 and too long a one too: such a call is refused with its number.
- * - A register file has 20 words: BLTCON0, BLTCON1, BLTAFWM, BLTALWM, the pointers of C, B, A and D (high half, then
- *   low half), the modulos of C, B, A and D, the data registers of C, B and A, and last the zero flag, 0 or 1.
+ * - A register file has 53 words: BLTCON0, BLTCON1, BLTAFWM, BLTALWM, the pointers of C, B, A and D (high half, then
+ *   low half), the modulos of C, B, A and D, the data registers of C, B and A, COPCON, the 32 colours COLOR00 to COLOR31,
+ *   and last the zero flag, 0 or 1. Kept bits: 2-0 of a pointer's high half, 15-1 of its low half and of a modulo, 1 of
+ *   COPCON, 11-0 of a colour, all of the others. A job writes COPCON at 02E and the colours at 180 to 1BE; no blit reads
+ *   or changes them, and a folding copies their writes.
  * - No pointer is null, not even with length 0, and no two buffers or numbers of one call overlap.
  *   Nothing checks this; a call that keeps to it touches only what it is lent.
  * - *number is 0 when all is done, otherwise the refusal's:
  *      1  memory of 0 words or of more than 262,144
- *      2  a register file that hasn't 20 words, or holds a bit that isn't kept
+ *      2  a register file that hasn't 53 words, or holds a bit that isn't kept; of desk_widen an old one that hasn't 20
  *      3  a job of more than 4,096 words
  *      4  a word that begins no step
  *      5  a step cut off by the job's end
@@ -23,8 +26,9 @@
  *     15  the same of channel B, but not of A
  *     16  the same of channel C, but not of A or B
  *     17  the same of channel D, but not of A, B or C
+ *     20  a new register file that hasn't 53 words
  *   Of a blit's channels those in use count, in the order A, B, C, D, whichever leaves memory earlier.
- * - The three numbers are written at every call, refused or not.
+ * - All numbers are written at every call, refused or not.
  * - There is no state: calls on different buffers may run at the same time. No call allocates, prints or fails otherwise.
  */
 #ifndef DESK_H
@@ -57,6 +61,12 @@ void desk_run(uint16_t *ram, size_t ram_words, uint16_t *file, size_t file_words
  * of ram_words words the folded job and its original end alike, but for the place told with a refusal. */
 void desk_fold(size_t ram_words, const uint16_t *job, size_t job_words, uint16_t *out, size_t out_words,
                uint32_t *number, uint32_t *place, uint32_t *length);
+
+/* Turns an old register file, of 20 words, into a new one: the first 19 words as they are, COPCON 0, black colours, and
+ * the zero flag, the old file's last word, last. *number is 0 when it is done. Otherwise it is 2 if the old file hasn't 20
+ * words or holds a bit that isn't kept, else 20 if target_words isn't 53, and target is unchanged.
+ * A file that it makes is accepted by desk_blit and desk_run. */
+void desk_widen(const uint16_t *old, size_t old_words, uint16_t *target, size_t target_words, uint32_t *number);
 
 #ifdef __cplusplus
 }

@@ -7,3 +7,4 @@ pub mod StepRunLaws
 pub mod StandsLaws
 pub mod DemandThreeLaws
 pub mod SettledAreReplacedLaws
+pub mod ScreenLaws

@@ -15,6 +15,9 @@ use Rattle.job.specs.Steps.{Placed, following, stepsFrom, steps}
 use Rattle.runner.specs.Run.{Machine, machine, effectOn, after, End, ended, runSteps, jobLength, startRefusal, run}
 use Rattle.runner.proofs.RunLaws.{jobLength-when-short}
 use Rattle.runner.proofs.StartLaws.{startRefusal-is-none, run-when-started, run-when-unstarted}
+use Rattle.widen.specs.declared.types.Answer as widenAnswer
+use Rattle.widen.specs.Widen as widenings
+use Rattle.widen.specs.Widen.{widening}
 use Rattle.blit.specs.declared.types.Answer as blitAnswer
 use Rattle.blit.specs.Blit as blits
 use Rattle.blit.specs.Blit.{blit}
@@ -146,6 +149,11 @@ module _ (n : ℕ) (job out next : List ℕ) (answer : foldAnswer.Answer) (gives
       → number ≡ folds.answerNumber answer → place ≡ folds.answerPlace answer → length ≡ folds.answerLength answer
       → record { number = number; place = place; length = length; out = next } ≡ folding n job out
   folding-of-answer number place length is-number is-place is-length = rw (is-number, is-place, is-length) gives
+
+pub widening-of-answer : (old target next : List ℕ) (number : ℕ) (answer : widenAnswer.Answer)
+    → number ≡ widenings.answerNumber answer → widenings.left answer next ≡ widening old target
+    → record { number = number; target = next } ≡ widening old target
+widening-of-answer old target next number answer is-number gives = rw is-number gives
 
 pub blit-of-answer : (memory file next end : List ℕ) (size number stored : ℕ) (answer : blitAnswer.Answer)
     → number ≡ blits.answerNumber answer → stored ≡ blits.answerStored answer → blits.left answer next end ≡ blit memory file size

@@ -4,6 +4,7 @@ ghost use mathlib.Core.Path.{_≡_};
 ghost use Rattle.blit.specs.Blit.{blit};
 ghost use Rattle.runner.specs.Run.{machine, ended, run};
 ghost use Rattle.folder.specs.Folding.{folding};
+ghost use Rattle.widen.specs.Widen.{widening};
 
 // Does one area blit.
 #[no_mangle]
@@ -61,4 +62,15 @@ pub extern "C" fn desk_fold(
     *number = folder::answer::number(answer);
     *place = folder::answer::place(answer) as u32;
     *length = folder::answer::length(answer) as u32;
+}
+
+// Turns an old register file into a new one.
+#[no_mangle]
+pub extern "C" fn desk_widen(old: &[u16], target: &mut [u16], number: &mut u32)
+    ensures { λ _. ⌜
+        record { number = now (number .exit); target = now (target .exit) }
+        ≡ widening (now (old .entry)) (now (target .entry)) ⌝ }
+{
+    let answer = widen::widen(old, target);
+    *number = widen::answer::number(answer);
 }

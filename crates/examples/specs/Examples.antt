@@ -3,7 +3,8 @@
 use Prim.Native.Nat.{ℕ}
 use mathlib.Core.Path.{_≡_}
 use mathlib.Core.Bool.{true}
-use mathlib.Core.List.{List, [], _∷_, map}
+use mathlib.Core.List.{List, [], _∷_, _++_, map}
+use lib.ListN.{replicate}
 use Rattle.word.specs.declared.types.Direction.{Direction}
 use Rattle.word.specs.declared.types.Direction.the-variants.{Ascending, Descending}
 use Rattle.word.specs.Pointer.{up}
@@ -33,10 +34,11 @@ abbrev pub clearing : List ℕ
 clearing =
     0x0040 ∷ 0x0100 ∷ 0x0042 ∷ 0x0000 ∷ 0x0054 ∷ 0x0000 ∷ 0x0056 ∷ 0x0010 ∷ 0x0066 ∷ 0x0000 ∷ 0x0058 ∷ 0x0042 ∷ []
 
--- a register file that copies from word 0 on to an address: use A and D, function F0, both masks all ones
+-- a register file that copies from word 0 on to an address: use A and D, function F0, both masks all ones; all 41 words
+-- after the pointers are zero
 abbrev pub copying : (to : ℕ) → List ℕ
 copying to =
-    0x09F0 ∷ 0x0000 ∷ 0xFFFF ∷ 0xFFFF ∷ 0 ∷ 0 ∷ 0 ∷ 0 ∷ 0 ∷ 0 ∷ 0 ∷ to ∷ 0 ∷ 0 ∷ 0 ∷ 0 ∷ 0 ∷ 0 ∷ 0 ∷ 0 ∷ []
+    (0x09F0 ∷ 0x0000 ∷ 0xFFFF ∷ 0xFFFF ∷ 0 ∷ 0 ∷ 0 ∷ 0 ∷ 0 ∷ 0 ∷ 0 ∷ to ∷ []) ++ replicate 41 0
 
 unfoldable pub examples : List Example
 examples =

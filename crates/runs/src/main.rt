@@ -20,24 +20,24 @@ fn show_word(word: u16) {
     io::print_hex(1, word as u64, 4);
 }
 
-// Words in hex, on a line of their own.
-fn show_words(name: &[u8], words: &[u16]) {
+// Words in hex from a place on and before another, on a line of their own.
+fn show_words(name: &[u8], words: &[u16], from: u32, to: u32) {
     io::write_all(1, name);
-    let mut at: usize = 0;
-    while at < words.len() {
-        show_word(words[at]);
+    let mut at: u32 = from;
+    while at < to {
+        show_word(word::memory::read(words, at));
         at = at + 1;
     }
     io::write_all(1, b"\n");
 }
 
-// A register file: the Blitter's registers, then COPCON, the colours in two lines, and the zero flag.
-fn show_file(file: &[u16; file::WORDS]) {
-    show_words(b"  blitter", &file[..19]);
-    show_words(b"  copcon", &file[19..20]);
-    show_words(b"  colours", &file[20..36]);
-    show_words(b"         ", &file[36..52]);
-    show_words(b"  zero", &file[52..]);
+// A register file: the Blitter's registers, COPCON, the colours in two lines, and the zero flag.
+fn show_file(file: &[u16]) {
+    show_words(b"  blitter", file, 0, 19);
+    show_words(b"  copcon", file, 19, 20);
+    show_words(b"  colours", file, 20, 36);
+    show_words(b"         ", file, 36, 52);
+    show_words(b"  zero", file, 52, 53);
 }
 
 // A job on 16 words of memory and a register file that are all zero.
@@ -52,7 +52,7 @@ fn on_zeros_whole(name: &[u8], job: &[u16]) {
     let mut ram = [0u16; 16];
     let mut file = [0u16; file::WORDS];
     show(name, runner::run(&mut ram, &mut file, job));
-    show_words(b"  memory", &ram);
+    show_words(b"  memory", &ram, 0, 16);
     show_file(&file);
 }
 
@@ -152,20 +152,26 @@ fn refused_steps() {
     );
 }
 
-// COPCON and the colours, each written with all bits set and then, among the colours, with its number; before 02E, between
-// the data registers and 180, at an odd offset and past 1BE no step begins.
+// Colours from both ends of the run and from its middle; COPCON and colours with all bits set; before 02E, between the data
+// registers and 180, at an odd offset and past 1BE no step begins.
 fn colours() {
-    let mut job = [0u16; 134];
-    let mut at: u32 = 0;
-    while at < 32 {
-        let offset = (0x180 + 2 * at) as u16;
-        word::memory::write(&mut job, 4 * at, offset);
-        word::memory::write(&mut job, 4 * at + 1, 0xFFFF);
-        word::memory::write(&mut job, 4 * at + 2, offset);
-        word::memory::write(&mut job, 4 * at + 3, (at * 0x0111) as u16);
-        at = at + 1;
-    }
-    on_zeros_whole(b"colours by their numbers", &job[..128]);
+    on_zeros_whole(
+        b"colours 0, 1, 15, 16, 21, 31",
+        &[
+            0x0180,
+            0x0F00,
+            0x0182,
+            0x0FFF,
+            0x019E,
+            0x0123,
+            0x01A0,
+            0x0456,
+            0x01AA,
+            0x0789,
+            0x01BE,
+            0x0ABC,
+        ],
+    );
     on_zeros_whole(
         b"all ones",
         &[
@@ -297,7 +303,7 @@ fn several_blits() {
         0xC001,
     ];
     show(b"several blits", runner::run(&mut ram, &mut file, &job));
-    show_words(b"  memory", &ram);
+    show_words(b"  memory", &ram, 0, 16);
     show_file(&file);
 }
 

@@ -1,5 +1,5 @@
 -- Laws of a widening: the new file's word at each place, its words laid into the target, and its number.
-use mathlib.Core.Path.{_≡_, refl, sym, ap, _∙_}
+use mathlib.Core.Path.{_≡_, sym, ap, _∙_}
 use Prim.Native.Nat.{ℕ, suc, _+_, _-_, _<_, _≤_}
 use native.Mathlib.Decide.{decLt}
 use native.Mathlib.Omega.{arith}
@@ -9,12 +9,11 @@ use borrow.Author.Tests.{eq-eqb, ne-eqb}
 use lib.Dec.{eqb, eqb→eq}
 use lib.ListN.{length, getD, take, drop, set, replicate, length-append, length-take, drop-of-length-le, List·getD-append, List·getD-eq-default}
 use lib.Seq.{getD-take, getD-append-add, drop-cons}
-use Rattle.word.specs.Choice.{every, given}
+use Rattle.word.specs.Choice.{given}
 use Rattle.word.specs.Laid.{laid}
 use Rattle.word.proofs.ChoiceLaws.{every-at}
 use Rattle.word.proofs.LaidLaws.{laid-over}
 use Rattle.file.specs.Places.{fileLength, blitterLength, colourCount, copcon, flag}
-use Rattle.widen.specs.declared.types.Answer.{Answer}
 use Rattle.widen.specs.declared.types.Answer.the-variants.{Done, OldFile, TargetLength}
 use Rattle.widen.specs.Old.{oldLength, oldFlag, oldAccepted}
 use Rattle.widen.proofs.OldLaws.{oldAccepted-length-told}

@@ -1,12 +1,12 @@
 -- A widened file is accepted: its first 19 words are the old file's, 0 has no bit that isn't kept, and the flag is 0 or 1.
-use mathlib.Core.Path.{_≡_, refl, sym, ap, _∙_}
+use mathlib.Core.Path.{_≡_, refl}
 use Prim.Native.Nat.{ℕ, zero, suc, _<_, _≤_}
 use native.Mathlib.Decide.{decLt}
 use native.Mathlib.Omega.{arith}
-use mathlib.Core.Bool.{Bool, true, false, _&&_}
+use mathlib.Core.Bool.{Bool, true}
 use mathlib.Core.List.{List}
 use borrow.Author.Tests.{eq-eqb}
-use lib.Dec.{T, eqb, eqb→eq}
+use lib.Dec.{eqb, eqb→eq}
 use lib.Bits.{and-zero-l}
 use lib.ListN.{length, getD}
 use Rattle.word.specs.Choice.{every}
@@ -23,10 +23,6 @@ use Rattle.widen.proofs.WidenLaws.{widened-length, widened-of-blitter, 
 every-of-each : (test : ℕ → Bool) (n : ℕ) → ((k : ℕ) → k < n → test k ≡ true) → every test n ≡ true
 every-of-each test zero each = refl
 every-of-each test (suc n) each = rw (each n (omega arith), every-of-each test n (λ k inside. each k (omega (arith, inside))))
-
-true-of-T : (test : Bool) → T test → test ≡ true
-true-of-T true holds = refl
-true-of-T false holds = absurd holds
 
 -- a place holds its bits by the word that stands there
 keptAt-of-word : (file : List ℕ) (place word : ℕ) → word ≡ getD file place 0 → kept place word ≡ word → keptAt file place ≡ true

@@ -9,7 +9,7 @@ use Rattle.word.specs.Repeat.{repeated}
 use Rattle.word.specs.Choice.{given}
 use Rattle.word.specs.Pointer.{pointer, half, moved, passed}
 use Rattle.word.specs.Fill.{filled}
-use Rattle.file.specs.File.{registers, placeIn, place, isRegister, keptBits, kept, accepted}
+use Rattle.file.specs.File.{registers, placeIn, place, isRegister, keptBits, kept, keptAt, accepted}
 use Rattle.area.specs.Setup.{uses, shifts, direction, fill, masks, modulos, setup}
 use Rattle.area.specs.Flow.{pointerAt, pointers, sources, start}
 use Rattle.area.specs.Fetch.{fetched, fetch}
@@ -36,7 +36,7 @@ use Rattle.examples.proofs.examples_hold.Tie as tie
 
 returns : tie.Need-returns
 unfolding fold foldFrom foldSteps piece learnedAfter folded learned settled controlsKnown onlyDUsed sourcesKnown written forgotten forgetUsed forgetPointer forgetSource mayUse movedD
-    settledWords settledEnd blitStores rowStores numbers number isKnown counts changes stepsFrom following front begun found operands kind place placeIn isRegister registers kept keptBits
+    settledWords settledEnd blitStores rowStores numbers number isKnown counts changes stepsFrom following front begun found operands kind place placeIn isRegister registers kept keptBits keptAt
     stepRefusal given bothFills fillUpward channelLeaves leaves touches rowTouches afterRow repeated setup uses shifts direction fill masks modulos start pointers pointerAt sources pointer half moved passed
     blit answered done finished areaBlit refusal memorySize accepted storePending memoryWith countWith wait
     oneWord storedBefore finishedWord finish final result maskedA fetch fetched moveOn stepped rowStart oneRow rowEnd turned filled examples ofBits height width maskedWhen masked logic carry exclusive inclusive

@@ -1,15 +1,14 @@
--- `runs::show_words` is safe and ends: the place is at most the number of words.
-use Prim.Native.Nat.{_-_, _≤_}
-use lib.ListN.{length}
+-- `runs::show_words` is safe and ends: the place goes up to the end.
+use Prim.Native.Nat.{_-_}
 use borrow.Author.Needs.{needs}
 use Rattle.runs.proofs.show_words.Statement.{statement}
 use Rattle.runs.proofs.show_words.Tie as tie
 
 abbrev Inv-loop : tie.InvT-loop
-Inv-loop name words at₀ t4 at = at ≤ length words
+Inv-loop name words from to at₀ t6 at = Unit
 
 abbrev μ-loop : tie.MeasureT-loop
-μ-loop name words at₀ t4 at = length words - at
+μ-loop name words from to at₀ t6 at = to - at
 
 write-all-requires : tie.Need-write-all-requires Inv-loop μ-loop
 write-all-requires c κs = search needs
@@ -17,11 +16,8 @@ write-all-requires c κs = search needs
 loop-holds : tie.Need-loop-holds Inv-loop μ-loop
 loop-holds c = search needs
 
-mul-show-word : tie.Need-mul-show-word Inv-loop μ-loop
-mul-show-word c = search needs
-
-shared-slice-read-show-word : tie.Need-shared-slice-read-show-word Inv-loop μ-loop
-shared-slice-read-show-word c = search needs
+read-requires : tie.Need-read-requires Inv-loop μ-loop
+read-requires c κs = search needs
 
 show-word-requires : tie.Need-show-word-requires Inv-loop μ-loop
 show-word-requires c κs = search needs
@@ -52,8 +48,7 @@ show-words-spec =
     μ-loop
     write-all-requires
     loop-holds
-    mul-show-word
-    shared-slice-read-show-word
+    read-requires
     show-word-requires
     add-at
     loop-less

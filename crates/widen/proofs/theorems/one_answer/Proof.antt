@@ -1,4 +1,4 @@
--- `widen::theorems::one_answer` holds its theorem.
+-- The theorem is proved in `OneAnswer`.
 use Rattle.widen.proofs.OneAnswer.{one-answer}
 use Rattle.widen.proofs.theorems.one_answer.Statement.{statement}
 use Rattle.widen.proofs.theorems.one_answer.Tie as tie

@@ -1,4 +1,4 @@
--- `widen::theorems::widened_is_accepted` holds its theorem.
+-- The theorem is proved in `WidenedIsAccepted`.
 use Rattle.widen.proofs.WidenedIsAccepted.{widened-is-accepted}
 use Rattle.widen.proofs.theorems.widened_is_accepted.Statement.{statement}
 use Rattle.widen.proofs.theorems.widened_is_accepted.Tie as tie

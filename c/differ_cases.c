@@ -176,7 +176,7 @@ static void make_widening(struct test *test)
         test->file[i] = random64() & kept[i < BLITTER ? i : ZERO_FLAG];
     test->file_words = one_in(6) ? lengths[below(9)] : OLD_WORDS;
     if (one_in(3))
-        test->file[below(OLD_WORDS)] ^= 1u << below(16);
+        test->file[one_in(4) ? BLITTER : below(OLD_WORDS)] ^= 1u << below(16);
     test->target_words = one_in(4) ? lengths[below(9)] : FILE_WORDS;
 }
 

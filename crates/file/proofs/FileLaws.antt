@@ -1,23 +1,38 @@
 -- Laws of the register file: what a register keeps, and when a file is accepted.
-use mathlib.Core.Path.{_≡_, sym}
-use Prim.Native.Nat.{ℕ, _≤_}
-use mathlib.Core.Bool.{Bool, false}
+use mathlib.Core.Path.{_≡_, refl, ap, _∙_}
+use Prim.Native.Nat.{ℕ, _+_, _<_}
+use mathlib.Core.Bool.{Bool, false, _&&_}
 use mathlib.Core.List.{List}
 use borrow.Author.Tests.{eq-eqb, ne-eqb}
-use lib.Bits.{and-zero-r}
-use lib.ListN.{length, List·getD-eq-default}
+use lib.Dec.{T, eqb, eqb→eq}
+use lib.ListN.{length, getD}
 use Rattle.word.specs.Choice.{every}
+use Rattle.word.proofs.ChoiceLaws.{every-at, every-of-sum}
 use Rattle.file.specs.File.{registers, keptBits, kept, keptAt, accepted}
-use Rattle.file.specs.Places.{fileLength}
+use Rattle.file.specs.Places.{fileLength, colourCount, colour0, flag}
 
-pub kept-at-end : (at value : ℕ) → fileLength ≤ at → 0 ≡ kept at value
-unfolding kept keptBits registers
-kept-at-end at value past = rw (List·getD-eq-default keptBits 0 past) (sym (and-zero-r value))
+-- the bits kept at places that a rule counts, by one computed test
+pub keptBits-by : (places : ℕ → ℕ) (many word k place : ℕ) → T (every (λ (k : ℕ). eqb word (getD keptBits (places k) 0)) many)
+    → k < many → places k ≡ place → word ≡ getD keptBits place 0
+keptBits-by places many word k place all inside there =
+    eqb→eq _ _ (every-at (λ (k : ℕ). eqb word (getD keptBits (places k) 0)) many all k inside)
+    ∙ ap (λ (at : ℕ). getD keptBits at 0) there
+
+pub keptBits-of-colour : (colour : ℕ) → colour < colourCount → 0x0FFF ≡ getD keptBits (colour0 + colour) 0
+unfolding keptBits registers
+keptBits-of-colour colour inside = keptBits-by (λ (k : ℕ). colour0 + k) colourCount 0x0FFF colour (colour0 + colour) tt inside refl
 
 pub accepted-of-length : (file : List ℕ) → (length file ≡ fileLength → ⊥) → false ≡ accepted file
 unfolding accepted
 accepted-of-length file other = rw (ne-eqb (length file) fileLength other)
 
-pub accepted-of-kept : (file : List ℕ) (fine : Bool) → length file ≡ fileLength → fine ≡ every (keptAt file) fileLength → fine ≡ accepted file
-unfolding accepted
-accepted-of-kept file fine long same = rw (eq-eqb (length file) fileLength long) same
+-- the flag, the colours and the words before them
+pub accepted-of-parts : (file : List ℕ) (word : ℕ) (colours first : Bool) → length file ≡ fileLength
+    → word ≡ kept flag (getD file flag 0)
+    → colours ≡ every (λ (colour : ℕ). keptAt file (colour0 + colour)) colourCount
+    → first ≡ every (keptAt file) colour0
+    → (eqb word (getD file flag 0) && (colours && first)) ≡ accepted file
+unfolding accepted keptAt
+accepted-of-parts file word colours first long of-flag of-colours of-first =
+    rw (eq-eqb (length file) fileLength long, of-flag, of-colours, of-first)
+    (ap (λ (rest : Bool). eqb (kept flag (getD file flag 0)) (getD file flag 0) && rest) (every-of-sum (keptAt file) colour0 colourCount))

@@ -1,11 +1,10 @@
 // The register file: where each register stands, and which of its bits are kept.
-mod table;
-
 ghost use mathlib.Core.Path.{_≡_};
-ghost use Prim.Native.Nat.{_≤_};
-ghost use lib.ListN.{length};
+ghost use Prim.Native.Nat.{_+_, _≤_};
+ghost use lib.ListN.{length, getD};
 ghost use Rattle.word.specs.Choice.{every};
-ghost use Rattle.file.specs.File.{place, kept, keptAt, accepted};
+ghost use Rattle.file.specs.Places.{fileLength, colourCount, colour0};
+ghost use Rattle.file.specs.File.{place, keptBits, kept, keptAt, accepted};
 
 // How many words a file has.
 pub const WORDS: usize = 53;
@@ -52,15 +51,42 @@ pub fn place(offset: u16) -> u32
     FLAG
 }
 
+// The bits that are kept at a place of the file; none past its end.
+fn bits(place: u32) -> u16
+    ensures { λ kept. ⌜ kept ≡ getD keptBits place 0 ⌝ }
+{
+    if place < 4 {
+        return 0xFFFF;
+    }
+    if place < 12 {
+        if place % 2 == 0 {
+            return 0x0007;
+        }
+        return 0xFFFE;
+    }
+    if place < 16 {
+        return 0xFFFE;
+    }
+    if place < 19 {
+        return 0xFFFF;
+    }
+    if place < 20 {
+        return 0x0002;
+    }
+    if place < FLAG {
+        return 0x0FFF;
+    }
+    if place == FLAG {
+        return 0x0001;
+    }
+    0
+}
+
 // What a register keeps of a value; nothing past the file's end.
 pub fn kept(place: u32, value: u16) -> u16
     ensures { λ word. ⌜ word ≡ kept place value ⌝ }
 {
-    let at = place as usize;
-    if at < WORDS {
-        return value & crate::table::KEPT[at];
-    }
-    0
+    value & bits(place)
 }
 
 // Of a file's first words none has a bit set that isn't kept.
@@ -78,6 +104,21 @@ pub fn keeps(file: &[u16], words: u32) -> bool
     fine
 }
 
+// The same of the colours. They all keep the same bits, so that the compiler can look at eight at once.
+fn colours_keep(file: &[u16]) -> bool
+    requires { ⌜ length (now file) ≡ fileLength ⌝ }
+    ensures { λ fine. ⌜ fine ≡ every (λ colour. keptAt (now (file .entry)) (colour0 + colour)) colourCount ⌝ }
+{
+    let mut fine = true;
+    let mut colour: usize = 0;
+    while colour < 32 {
+        let value = file[20 + colour];
+        fine = (value & 0x0FFF == value) & fine;
+        colour = colour + 1;
+    }
+    fine
+}
+
 // The file is 53 words, and no bit is set that isn't kept.
 pub fn accepted(file: &[u16]) -> bool
     ensures { λ fine. ⌜ fine ≡ accepted (now (file .entry)) ⌝ }
@@ -85,5 +126,6 @@ pub fn accepted(file: &[u16]) -> bool
     if file.len() != WORDS {
         return false;
     }
-    keeps(file, 53)
+    let flag = file[52];
+    (kept(FLAG, flag) == flag) & (colours_keep(file) & keeps(file, 20))
 }

@@ -1,7 +1,7 @@
 -- Laws of choices, and of tests at every number below one.
 use mathlib.Core.Path.{_≡_, refl, ap, _∙_}
 use Prim.Native.Nat.{ℕ, zero, suc, _+_, _<_, _≤_}
-use native.Mathlib.Nat.{not-suc-le-zero}
+use native.Mathlib.Nat.{not-suc-le-zero, add-zero, add-suc}
 use native.Mathlib.Numerals.{add-one}
 use native.Mathlib.Decide.{decLt}
 use native.Mathlib.Omega.{arith}
@@ -62,6 +62,15 @@ every-at test (suc n) all k inside =
     by-place : (k < n → T (test k)) → Dec (k < n) → T (test k)
     by-place below (yes earlier) = below earlier
     by-place below (no later) = let same : k ≡ n = omega arith in rw same (T-left (test n) (every test n) all)
+
+-- a test at every number below a sum: at the first n, and at those after them
+pub every-of-sum : (test : ℕ → Bool) (n more : ℕ) → (every (λ (k : ℕ). test (n + k)) more && every test n) ≡ every test (n + more)
+every-of-sum test n zero = rw add-zero
+every-of-sum test n (suc more) = rw add-suc (and-assoc (test (n + more)) _ _ ∙ ap (λ (rest : Bool). test (n + more) && rest) (every-of-sum test n more))
+  where
+    and-assoc : (a b c : Bool) → ((a && b) && c) ≡ (a && (b && c))
+    and-assoc true b c = refl
+    and-assoc false b c = refl
 
 -- a turn of a loop that tries the numbers from 0 up, and its end
 pub every-turn : (test : ℕ → Bool) (n : ℕ) (here so-far : Bool) → here ≡ test n → so-far ≡ every test n → (here && so-far) ≡ every test (n + 1)

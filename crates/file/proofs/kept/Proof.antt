@@ -1,22 +1,22 @@
--- `file::kept` meets its contract: the table is the list of the kept bits, and past its end nothing is kept.
-use Rattle.file.specs.File.{registers, keptBits, kept}
-use Rattle.file.proofs.FileLaws.{kept-at-end}
+-- `file::kept` meets its contract: the value, of which the kept bits are left.
+use mathlib.Core.Path.{_≡_}
+use Prim.Native.Nat.{ℕ}
+use lib.Bits.{bitAnd}
+use lib.ListN.{getD}
+use Rattle.file.specs.File.{keptBits, kept}
 use borrow.Author.Needs.{needs}
 use Rattle.file.proofs.kept.Statement.{statement}
 use Rattle.file.proofs.kept.Tie as tie
 
-mul-result : tie.Need-mul-result
-mul-result c = search needs
+kept-of-bits : (place value bits : ℕ) → bits ≡ getD keptBits place 0 → bitAnd value bits ≡ kept place value
+unfolding kept
+kept-of-bits place value bits same = rw same
 
-array-read-result : tie.Need-array-read-result
-array-read-result c = search needs
+bits-requires : tie.Need-bits-requires
+bits-requires c κs = search needs
 
 returns : tie.Need-returns
-unfolding kept keptBits registers
-returns c = search needs
-
-returns-2 : tie.Need-returns-2
-returns-2 c = search kept-at-end
+returns c = search kept-of-bits
 
 pub kept-spec : {M : Type 1} → statement M
-kept-spec = tie.close (tie.spec mul-result array-read-result returns returns-2)
+kept-spec = tie.close (tie.spec bits-requires returns)

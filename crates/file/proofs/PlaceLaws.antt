@@ -43,7 +43,6 @@ run first many at = every (λ (k : ℕ). eqb (at + k) (place (first + 2 * k))) m
 pub place-in-run : (first many at offset half : ℕ) → T (run (2 * first) many at)
     → (offset % 2 ≡ 1 → ⊥) → half ≡ offset / 2 → 2 * first ≤ offset → offset < 2 * first + 2 * many → half - first + at ≡ place offset
 place-in-run first many at offset half all even is from to =
-    let k : ℕ = half - first in
     let there : 2 * first + 2 * (half - first) ≡ offset = omega (arith, even, is, from) in
     let found : at + (half - first) ≡ place (2 * first + 2 * (half - first)) =
     eqb→eq _ _ (every-at (λ (k : ℕ). eqb (at + k) (place (2 * first + 2 * k))) many all (half - first) (omega (arith, is, from, to))) in

@@ -5,10 +5,11 @@ use Prim.Native.Nat.{ℕ}
 abbrev pub fileLength : ℕ
 fileLength = 53
 
--- "the first 19": the Blitter's registers. Of a pointer, the place of its high half, which its low half follows
+-- "the first 19": the Blitter's registers
 abbrev pub blitterLength : ℕ
 blitterLength = 19
 
+-- of a pointer, the place of its high half, which its low half follows
 abbrev pub control0 : ℕ
 control0 = 0
 

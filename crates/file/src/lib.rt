@@ -21,10 +21,10 @@ pub fn place(offset: u16) -> u32
     if offset % 2 == 1 {
         return FLAG;
     }
-    if offset == 0x02E {
-        return 19;
-    }
     if offset < 0x040 {
+        if offset == 0x02E {
+            return 19;
+        }
         return FLAG;
     }
     if offset <= 0x056 {
@@ -53,7 +53,7 @@ pub fn place(offset: u16) -> u32
 
 // The bits that are kept at a place of the file; none past its end.
 fn bits(place: u32) -> u16
-    ensures { λ kept. ⌜ kept ≡ getD keptBits place 0 ⌝ }
+    ensures { λ found. ⌜ found ≡ getD keptBits place 0 ⌝ }
 {
     if place < 4 {
         return 0xFFFF;

@@ -66,7 +66,10 @@ every-at test (suc n) all k inside =
 -- a test at every number below a sum: at the first n, and at those after them
 pub every-of-sum : (test : ℕ → Bool) (n more : ℕ) → (every (λ (k : ℕ). test (n + k)) more && every test n) ≡ every test (n + more)
 every-of-sum test n zero = rw add-zero
-every-of-sum test n (suc more) = rw add-suc (and-assoc (test (n + more)) _ _ ∙ ap (λ (rest : Bool). test (n + more) && rest) (every-of-sum test n more))
+every-of-sum test n (suc more) =
+    rw add-suc
+    (and-assoc (test (n + more)) (every (λ (k : ℕ). test (n + k)) more) (every test n)
+    ∙ ap (λ (rest : Bool). test (n + more) && rest) (every-of-sum test n more))
   where
     and-assoc : (a b c : Bool) → ((a && b) && c) ≡ (a && (b && c))
     and-assoc true b c = refl

@@ -12,7 +12,8 @@
  *   Nothing checks this; a call that keeps to it touches only what it is lent.
  * - *number is 0 when all is done, otherwise the refusal's:
  *      1  memory of 0 words or of more than 262,144
- *      2  a register file that hasn't 53 words, or holds a bit that isn't kept; of desk_widen an old one that hasn't 20
+ *      2  a register file that hasn't 53 words, or holds a bit that isn't kept; for desk_widen an old register file that
+ *         hasn't 20 words, or holds such a bit
  *      3  a job of more than 4,096 words
  *      4  a word that begins no step
  *      5  a step cut off by the job's end

@@ -74,7 +74,7 @@ fn on_file(name: &[u8], file: &mut [u16]) {
     show(name, runner::run(&mut ram, file, &[0xC001]));
 }
 
-// A file of so many words that are zero but for one.
+// The same on a file of zeros with one word replaced.
 fn with_word(name: &[u8], place: u32, word: u16) {
     let mut file = [0u16; file::WORDS];
     word::memory::write(&mut file, place, word);

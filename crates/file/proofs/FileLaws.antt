@@ -1,6 +1,7 @@
 -- Laws of the register file: what a register keeps, and when a file is accepted.
-use mathlib.Core.Path.{_≡_, refl, ap, _∙_}
-use Prim.Native.Nat.{ℕ, _+_, _<_}
+use mathlib.Core.Path.{_≡_, ap, _∙_}
+use Prim.Native.Nat.{ℕ, _+_, _-_, _<_, _≤_}
+use native.Mathlib.Omega.{arith}
 use mathlib.Core.Bool.{Bool, false, _&&_}
 use mathlib.Core.List.{List}
 use borrow.Author.Tests.{eq-eqb, ne-eqb}
@@ -18,9 +19,15 @@ keptBits-by places many word k place all inside there =
     eqb→eq _ _ (every-at (λ (k : ℕ). eqb word (getD keptBits (places k) 0)) many all k inside)
     ∙ ap (λ (at : ℕ). getD keptBits at 0) there
 
-pub keptBits-of-colour : (colour : ℕ) → colour < colourCount → 0x0FFF ≡ getD keptBits (colour0 + colour) 0
+-- the same of places from one on and before another
+pub keptBits-in-run : (from to word : ℕ) → T (every (λ (k : ℕ). eqb word (getD keptBits (from + k) 0)) (to - from))
+    → (place : ℕ) → from ≤ place → place < to → word ≡ getD keptBits place 0
+keptBits-in-run from to word all place after before =
+    keptBits-by (λ (k : ℕ). from + k) (to - from) word (place - from) place all (omega (arith, after, before)) (omega (arith, after))
+
+pub keptBits-of-colour : (place : ℕ) → colour0 ≤ place → place < flag → 0x0FFF ≡ getD keptBits place 0
 unfolding keptBits registers
-keptBits-of-colour colour inside = keptBits-by (λ (k : ℕ). colour0 + k) colourCount 0x0FFF colour (colour0 + colour) tt inside refl
+keptBits-of-colour place from to = keptBits-in-run colour0 flag 0x0FFF tt place from to
 
 pub accepted-of-length : (file : List ℕ) → (length file ≡ fileLength → ⊥) → false ≡ accepted file
 unfolding accepted

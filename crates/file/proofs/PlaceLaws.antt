@@ -3,10 +3,10 @@ use mathlib.Core.Path.{_≡_, refl, sym, ap, _∙_}
 use Prim.Native.Nat.{ℕ, suc, _+_, _*_, _-_, _/_, _%_, _<_, _≤_}
 use native.Mathlib.Nat.{zero-lt-suc}
 use native.Mathlib.Omega.{arith}
-use mathlib.Core.Bool.{Bool, true, not}
+use mathlib.Core.Bool.{Bool, true, not, _&&_}
 use mathlib.Core.List.{List, [], _∷_, map}
-use borrow.Author.Tests.{ne-eqb}
-use lib.Dec.{T, eqb, eqb→eq}
+use borrow.Author.Tests.{lt-ltb, ne-eqb}
+use lib.Dec.{T, eqb, ltb, eqb→eq}
 use lib.ListN.{length, getD}
 use Rattle.word.specs.Choice.{every}
 use Rattle.word.proofs.ChoiceLaws.{every-at}
@@ -35,6 +35,12 @@ place-of-none test offset none holds =
     let other : T (not (test (getD (offsets registers) k 0))) = every-at (λ (k : ℕ). not (test (getD (offsets registers) k 0))) flag none k inside in
     let here : T (not (test offset)) = rw same other in
     rw holds at here)
+
+-- an offset in a gap, between two of the table
+pub place-between : (low high offset : ℕ) → T (every (λ (k : ℕ). not (ltb low (getD (offsets registers) k 0) && ltb (getD (offsets registers) k 0) high)) flag)
+    → low < offset → offset < high → flag ≡ place offset
+place-between low high offset none from to =
+    place-of-none (λ (at : ℕ). ltb low at && ltb at high) offset none (rw (lt-ltb low offset from, lt-ltb offset high to))
 
 -- so many registers from a place on have offsets from an even one on, each two above the one before
 abbrev pub run : (first many at : ℕ) → Bool

@@ -2,24 +2,16 @@
 use mathlib.Core.Path.{_≡_, sym}
 use Prim.Native.Nat.{ℕ, _+_, _*_, _-_, _/_, _%_, _<_, _≤_}
 use native.Mathlib.Omega.{arith}
-use lib.Dec.{T, eqb}
 use lib.ListN.{getD, List·getD-eq-default}
-use Rattle.word.specs.Choice.{every}
 use Rattle.file.specs.File.{registers, keptBits}
 use Rattle.file.specs.Places.{pointerC, moduloC, sourceC, copcon, colour0, flag, fileLength}
-use Rattle.file.proofs.FileLaws.{keptBits-by}
+use Rattle.file.proofs.FileLaws.{keptBits-by, keptBits-in-run, keptBits-of-colour}
 use Rattle.file.proofs.bits.Statement.{statement}
 use Rattle.file.proofs.bits.Tie as tie
 
--- places from one on and before another, which keep the same bits
-in-run : (from to word : ℕ) → T (every (λ (k : ℕ). eqb word (getD keptBits (from + k) 0)) (to - from))
-    → (place : ℕ) → from ≤ place → place < to → word ≡ getD keptBits place 0
-in-run from to word all place after before =
-    keptBits-by (λ (k : ℕ). from + k) (to - from) word (place - from) place all (omega (arith, after, before)) (omega (arith, after))
-
 bits-of-control : (place : ℕ) → place < pointerC → 0xFFFF ≡ getD keptBits place 0
 unfolding keptBits registers
-bits-of-control place before = in-run 0 pointerC 0xFFFF tt place (omega arith) before
+bits-of-control place before = keptBits-in-run 0 pointerC 0xFFFF tt place (omega arith) before
 
 -- the high halves and the low halves of the pointers, in turn
 bits-of-high : (place : ℕ) → pointerC ≤ place → place < moduloC → place % 2 ≡ 0 → 0x0007 ≡ getD keptBits place 0
@@ -34,19 +26,15 @@ bits-of-low place from to odd =
 
 bits-of-modulo : (place : ℕ) → moduloC ≤ place → place < sourceC → 0xFFFE ≡ getD keptBits place 0
 unfolding keptBits registers
-bits-of-modulo place from to = in-run moduloC sourceC 0xFFFE tt place from to
+bits-of-modulo place from to = keptBits-in-run moduloC sourceC 0xFFFE tt place from to
 
 bits-of-source : (place : ℕ) → sourceC ≤ place → place < copcon → 0xFFFF ≡ getD keptBits place 0
 unfolding keptBits registers
-bits-of-source place from to = in-run sourceC copcon 0xFFFF tt place from to
+bits-of-source place from to = keptBits-in-run sourceC copcon 0xFFFF tt place from to
 
 bits-of-copcon : (place : ℕ) → copcon ≤ place → place < colour0 → 0x0002 ≡ getD keptBits place 0
 unfolding keptBits registers
-bits-of-copcon place from to = in-run copcon colour0 0x0002 tt place from to
-
-bits-of-colour : (place : ℕ) → colour0 ≤ place → place < flag → 0x0FFF ≡ getD keptBits place 0
-unfolding keptBits registers
-bits-of-colour place from to = in-run colour0 flag 0x0FFF tt place from to
+bits-of-copcon place from to = keptBits-in-run copcon colour0 0x0002 tt place from to
 
 bits-of-flag : (place : ℕ) → place ≡ flag → 0x0001 ≡ getD keptBits place 0
 unfolding keptBits registers
@@ -76,7 +64,7 @@ returns-6 : tie.Need-returns-6
 returns-6 c = search bits-of-copcon
 
 returns-7 : tie.Need-returns-7
-returns-7 c = search bits-of-colour
+returns-7 c = search keptBits-of-colour
 
 returns-8 : tie.Need-returns-8
 returns-8 c = search bits-of-flag

@@ -1,6 +1,7 @@
 -- `file::colours_keep` meets its contract: it is told so far whether every colour keeps its bits.
 use mathlib.Core.Path.{_≡_, refl, ap}
 use Prim.Native.Nat.{ℕ, _+_, _-_, _<_, _≤_}
+use native.Mathlib.Omega.{arith}
 use mathlib.Core.Bool.{Bool, _&&_}
 use mathlib.Core.List.{List}
 use lib.Dec.{eqb}
@@ -24,7 +25,7 @@ keeps-turn : (file : List ℕ) (colour : ℕ) (so-far : Bool) → colour < colou
 unfolding keptAt kept
 keeps-turn file colour so-far inside same =
     every-turn (keeps file) colour (eqb (bitAnd (getD file (colour0 + colour) 0) 0x0FFF) (getD file (colour0 + colour) 0)) so-far
-    (ap (λ (bits : ℕ). eqb (bitAnd (getD file (colour0 + colour) 0) bits) (getD file (colour0 + colour) 0)) (keptBits-of-colour colour inside)) same
+    (ap (λ (bits : ℕ). eqb (bitAnd (getD file (colour0 + colour) 0) bits) (getD file (colour0 + colour) 0)) (keptBits-of-colour (colour0 + colour) (omega arith) (omega (arith, inside)))) same
 
 abbrev Inv-loop : tie.InvT-loop
 Inv-loop file fine₀ colour₀ fine colour = (fine ≡ every (keeps file) colour) × (colour ≤ colourCount)

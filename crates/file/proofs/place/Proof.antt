@@ -7,7 +7,7 @@ use borrow.Author.Tests.{lt-ltb, eq-eqb, ne-eqb}
 use lib.Dec.{eqb, ltb}
 use Rattle.file.specs.File.{registers, placeIn, place}
 use Rattle.file.specs.Places.{control0, moduloC, sourceC, copcon, colourCount, colour0, flag}
-use Rattle.file.proofs.PlaceLaws.{place-of-none, place-in-run}
+use Rattle.file.proofs.PlaceLaws.{place-of-none, place-between, place-in-run}
 use borrow.Author.Needs.{needs}
 use Rattle.file.proofs.place.Statement.{statement}
 use Rattle.file.proofs.place.Tie as tie
@@ -45,18 +45,15 @@ place-of-colour offset half even is from to = place-in-run 0x0C0 colourCount col
 -- the gaps between them
 place-past-pointers : (offset : ℕ) → 0x056 < offset → offset < 0x060 → flag ≡ place offset
 unfolding registers
-place-past-pointers offset from to =
-    place-of-none (λ (at : ℕ). ltb 0x056 at && ltb at 0x060) offset tt (rw (lt-ltb 0x056 offset from, lt-ltb offset 0x060 to))
+place-past-pointers offset from to = place-between 0x056 0x060 offset tt from to
 
 place-past-modulos : (offset : ℕ) → 0x066 < offset → offset < 0x070 → flag ≡ place offset
 unfolding registers
-place-past-modulos offset from to =
-    place-of-none (λ (at : ℕ). ltb 0x066 at && ltb at 0x070) offset tt (rw (lt-ltb 0x066 offset from, lt-ltb offset 0x070 to))
+place-past-modulos offset from to = place-between 0x066 0x070 offset tt from to
 
 place-past-data : (offset : ℕ) → 0x074 < offset → offset < 0x180 → flag ≡ place offset
 unfolding registers
-place-past-data offset from to =
-    place-of-none (λ (at : ℕ). ltb 0x074 at && ltb at 0x180) offset tt (rw (lt-ltb 0x074 offset from, lt-ltb offset 0x180 to))
+place-past-data offset from to = place-between 0x074 0x180 offset tt from to
 
 place-past-colours : (offset : ℕ) → 0x1BE < offset → flag ≡ place offset
 unfolding registers

@@ -170,3 +170,14 @@ blitStep-keeps-file-length memory file size = answered-keeps-file-length (stepRe
 pub blitStep-counts : (memory file : List ℕ) (size : ℕ) → blitStep memory file size .stored ≤ 65536
 unfolding blitStep
 blitStep-counts memory file size = answered-counts (stepRefusal (length memory) file size) memory file size
+
+-- a refused one leaves memory and file
+Stays : (memory file : List ℕ) → Outcome → Type 0
+Stays memory file outcome = (outcome .number ≡ 0 → ⊥) → (outcome .memory ≡ memory) × (outcome .file ≡ file)
+
+pub blitStep-stays : (memory file : List ℕ) (size : ℕ) → (blitStep memory file size .number ≡ 0 → ⊥)
+    → (blitStep memory file size .memory ≡ memory) × (blitStep memory file size .file ≡ file)
+unfolding Stays blitStep done refused
+blitStep-stays memory file size =
+    answered-either (Stays memory file) (stepRefusal (length memory) file size) memory file size
+    (λ refusal. absurd (refusal refl)) (λ refusal. (refl, refl))

@@ -10,12 +10,11 @@ use Rattle.word.proofs.ChoiceLaws.{if-either}
 use Rattle.file.specs.File.{kept}
 use Rattle.file.specs.Places.{flag}
 use Rattle.blit.specs.Refusal as blits
-use Rattle.blit.specs.Blit.{Outcome, done, refused, blitStep}
-use Rattle.blit.specs.Refusal.{stepRefusal}
+use Rattle.blit.specs.Blit.{Outcome, refused, blitStep}
 use Rattle.blit.specs.Blit as blit
 use Rattle.blit.specs.declared.types.Answer.{Answer}
 use Rattle.blit.specs.declared.types.Refusal.{Refusal}
-use Rattle.blit.proofs.BlitLaws.{answered-either, blitStep-counts}
+use Rattle.blit.proofs.BlitLaws.{blitStep-counts, blitStep-stays}
 use Rattle.job.specs.declared.types.Step.{Step}
 use Rattle.runner.specs.declared.types.Refusal as reasons
 use Rattle.runner.specs.declared.types.Taken.{Taken}
@@ -94,12 +93,6 @@ stepEffect-counts (Step.Flag value) memory file = omega arith
 -- a refused step leaves memory and file
 Stays : (memory file : List ℕ) → Outcome → Type 0
 Stays memory file outcome = (outcome .number ≡ 0 → ⊥) → (outcome .memory ≡ memory) × (outcome .file ≡ file)
-
-blitStep-stays : (memory file : List ℕ) (size : ℕ) → Stays memory file (blitStep memory file size)
-unfolding Stays blitStep done refused
-blitStep-stays memory file size =
-    answered-either (Stays memory file) (stepRefusal (length memory) file size) memory file size
-    (λ refusal. absurd (refusal refl)) (λ refusal. (refl, refl))
 
 pub stepEffect-stays : (step : Step) (memory file : List ℕ) → (stepEffect step memory file .number ≡ 0 → ⊥)
     → (stepEffect step memory file .memory ≡ memory) × (stepEffect step memory file .file ≡ file)

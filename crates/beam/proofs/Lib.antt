@@ -1,0 +1,3 @@
+-- The laws of the beam.
+pub mod SatisfiedLaws
+pub mod WaitLaws

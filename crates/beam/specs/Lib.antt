@@ -1,0 +1,4 @@
+-- What a reader must believe of the beam.
+pub mod Beam
+pub mod Satisfied
+pub mod Wait

@@ -18,6 +18,10 @@ use Rattle.runner.proofs.StartLaws.{startRefusal-is-none, run-when-started, run
 use Rattle.widen.specs.declared.types.Answer as widenAnswer
 use Rattle.widen.specs.Widen as widenings
 use Rattle.widen.specs.Widen.{widening}
+use Rattle.copper.specs.declared.types.Answer as copperAnswer
+use Rattle.copper.specs.Effect as coppers
+use Rattle.copper.specs.Answer as frames
+use Rattle.copper.specs.Frame.{Frame, stopped, Told, told, frame, frameFrom}
 use Rattle.blit.specs.declared.types.Answer as blitAnswer
 use Rattle.blit.specs.Blit as blits
 use Rattle.blit.specs.Blit.{blit}
@@ -159,3 +163,15 @@ pub blit-of-answer : (memory file next end : List ℕ) (size number stored : ℕ
     → number ≡ blits.answerNumber answer → stored ≡ blits.answerStored answer → blits.left answer next end ≡ blit memory file size
     → record { number = number; stored = stored; memory = next; file = end } ≡ blit memory file size
 blit-of-answer memory file next end size number stored answer is-number is-stored gives = rw (is-number, is-stored) gives
+
+-- a frame's answer, told with the beam's place and without it
+module _ (memory file next end : List ℕ) (start lent why number : ℕ) (answer : copperAnswer.Answer)
+    (is-why : why ≡ frames.whyNumber (answer .why)) (is-number : number ≡ frames.answerNumber (answer .why)) where
+  pub frameFrom-of-answer : (beam : ℕ) → frames.left answer next end ≡ frameFrom memory file beam start lent
+      → stopped why number (answer .done) (coppers.machine next end (answer .beam) (answer .word)) ≡ frameFrom memory file beam start lent
+  frameFrom-of-answer beam gives = rw (is-why, is-number) gives
+
+  pub frame-of-answer : frames.left answer next end ≡ frame memory file start lent
+      → record { why = why; number = number; done = answer .done; word = answer .word; memory = next; file = end }
+      ≡ told (frame memory file start lent)
+  frame-of-answer gives = rw (is-why, is-number) (ap told gives)

@@ -5,6 +5,8 @@ ghost use Rattle.blit.specs.Blit.{blit};
 ghost use Rattle.runner.specs.Run.{machine, ended, run};
 ghost use Rattle.folder.specs.Folding.{folding};
 ghost use Rattle.widen.specs.Widen.{widening};
+ghost use Rattle.copper.specs.Effect as copper;
+ghost use Rattle.copper.specs.Frame.{stopped, frameFrom, frame, told};
 
 // Does one area blit.
 #[no_mangle]
@@ -73,4 +75,63 @@ pub extern "C" fn desk_widen(old: &[u16], target: &mut [u16], number: &mut u32)
 {
     let answer = widen::widen(old, target);
     *number = widen::answer::number(answer);
+}
+
+// Runs a Copper list for one frame.
+#[no_mangle]
+pub extern "C" fn desk_frame(
+    ram: &mut [u16],
+    file: &mut [u16],
+    start: u32,
+    lent: u32,
+    why: &mut u32,
+    number: &mut u32,
+    done: &mut u32,
+    word: &mut u32,
+)
+    ensures { λ _. ⌜
+        record {
+          why = now (why .exit);
+          number = now (number .exit);
+          done = now (done .exit);
+          word = now (word .exit);
+          memory = now (ram .exit);
+          file = now (file .exit);
+        }
+        ≡ told (frame (now (ram .entry)) (now (file .entry)) start lent) ⌝ }
+{
+    let answer = copper::frame(ram, file, start, lent);
+    let reason = answer.why;
+    *why = copper::answer::why(reason);
+    *number = copper::answer::number(reason);
+    *done = answer.done;
+    *word = answer.word;
+}
+
+// Runs the rest of a frame from a place of the beam on, and tells where the beam stands.
+#[no_mangle]
+pub extern "C" fn desk_frame_from(
+    ram: &mut [u16],
+    file: &mut [u16],
+    beam: u32,
+    start: u32,
+    lent: u32,
+    why: &mut u32,
+    number: &mut u32,
+    done: &mut u32,
+    word: &mut u32,
+    place: &mut u32,
+)
+    ensures { λ _. ⌜
+        stopped (now (why .exit)) (now (number .exit)) (now (done .exit))
+        (copper.machine (now (ram .exit)) (now (file .exit)) (now (place .exit)) (now (word .exit)))
+        ≡ frameFrom (now (ram .entry)) (now (file .entry)) beam start lent ⌝ }
+{
+    let answer = copper::frame_from(ram, file, beam, start, lent);
+    let reason = answer.why;
+    *why = copper::answer::why(reason);
+    *number = copper::answer::number(reason);
+    *done = answer.done;
+    *word = answer.word;
+    *place = answer.beam;
 }

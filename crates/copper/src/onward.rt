@@ -1,0 +1,53 @@
+// The instructions of a list, one after the other.
+ghost use mathlib.Core.Path.{_≡_};
+ghost use Prim.Native.Nat.{_≤_};
+ghost use lib.ListN.{length};
+ghost use Rattle.copper.specs.Effect.{machine};
+ghost use Rattle.copper.specs.Frame.{onward};
+ghost use Rattle.copper.specs.Answer.{left};
+use crate::types::Answer;
+use crate::types::Taken;
+use crate::types::Why;
+
+// Takes instructions to the end of the frame, or until the lent number is used up, or to the first refused one.
+pub fn onward(ram: &mut [u16], file: &mut [u16], beam: u32, start: u32, lent: u32) -> Answer
+    requires { ⌜ length (now ram) ≤ 262144 ⌝ }
+    ensures { λ answer. ⌜
+        left answer (now (ram .exit)) (now (file .exit))
+        ≡ onward lent 0 (machine (now (ram .entry)) (now (file .entry)) beam start) ⌝ }
+{
+    let mut place = beam;
+    let mut word = start;
+    let mut done: u32 = 0;
+    while place < beam::END {
+        if done == lent {
+            return Answer {
+                why: Why::UsedUp,
+                done: done,
+                word: word,
+                beam: place,
+            };
+        }
+        match crate::step::take(ram, file, place, word) {
+            Taken::Done(next, after) => {
+                place = next;
+                word = after;
+                done = done + 1;
+            }
+            Taken::Refused(why) => {
+                return Answer {
+                    why: Why::Refused(why),
+                    done: done,
+                    word: word,
+                    beam: place,
+                };
+            }
+        }
+    }
+    Answer {
+        why: Why::EndOfFrame,
+        done: done,
+        word: word,
+        beam: place,
+    }
+}

@@ -12,7 +12,7 @@ use Rattle.beam.specs.Wait.{firstSatisfied, waited}
 use Rattle.beam.proofs.SatisfiedLaws.{satisfied-on-line-below}
 
 -- so many places, none of which is satisfied, are passed
-firstSatisfied-passes : (first second many more place : ℕ)
+pub firstSatisfied-passes : (first second many more place : ℕ)
     → ((k : ℕ) → k < many → satisfied first second (place + k) ≡ false)
     → firstSatisfied first second (many + more) place ≡ firstSatisfied first second more (place + many)
 unfolding firstSatisfied

@@ -14,7 +14,7 @@ use Rattle.blit.proofs.BlitLaws.{refusal-is-some}
 use Rattle.blit.specs.OneAnswer.{OneAnswer}
 
 -- the refusal with a number
-refusalOf : ℕ → Refusal
+unfoldable pub refusalOf : ℕ → Refusal
 refusalOf number =
     if eqb number 1 then MemorySize else
     if eqb number 2 then RegisterFile else

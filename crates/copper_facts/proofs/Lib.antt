@@ -1,0 +1,8 @@
+-- The laws behind the Copper's theorems.
+pub mod BeamLaws
+pub mod CourseLaws
+pub mod EndLaws
+pub mod CutLaws
+pub mod WhyLaws
+pub mod OneAnswerLaws
+pub mod ManualLaws

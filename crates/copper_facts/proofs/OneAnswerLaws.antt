@@ -1,0 +1,61 @@
+-- Two answers that meet the promise are equal: the numbers tell the refusals apart, and why a frame stopped is told.
+use mathlib.Core.Path.{_≡_, refl, sym, ap, _∙_}
+use Prim.Native.Nat.{ℕ}
+use native.Mathlib.Omega.{arith}
+use lib.Dec.{eqb}
+use Rattle.word.specs.Choice.{if_then_else_}
+use Rattle.blit.specs.declared.types.Refusal.the-variants.{MemorySize, RegisterFile, Line, BothFills, FillUpward, ALeaves, BLeaves, CLeaves, DLeaves}
+use Rattle.blit.proofs.OneAnswer.{refusalOf}
+use Rattle.copper.specs.declared.types.Refusal.{Refusal}
+use Rattle.copper.specs.declared.types.Why.{Why}
+use Rattle.copper.specs.declared.types.Answer.{Answer}
+use Rattle.copper.specs.Frame.{Frame}
+use Rattle.copper.specs.Answer.{refusalNumber, whyNumber, answerNumber, left}
+use Rattle.copper_facts.specs.OneAnswer.{OneAnswer}
+
+-- the refusal with a number
+numbered : ℕ → Refusal
+numbered number =
+    if eqb number 21 then Refusal.Forbidden else
+    if eqb number 22 then Refusal.NotModelled else
+    if eqb number 23 then Refusal.Outside else
+    Refusal.Blit (refusalOf number)
+
+refusalNumber-tells : (why : Refusal) → numbered (refusalNumber why) ≡ why
+unfolding numbered refusalOf
+refusalNumber-tells (Refusal.Blit MemorySize) = refl
+refusalNumber-tells (Refusal.Blit RegisterFile) = refl
+refusalNumber-tells (Refusal.Blit Line) = refl
+refusalNumber-tells (Refusal.Blit BothFills) = refl
+refusalNumber-tells (Refusal.Blit FillUpward) = refl
+refusalNumber-tells (Refusal.Blit ALeaves) = refl
+refusalNumber-tells (Refusal.Blit BLeaves) = refl
+refusalNumber-tells (Refusal.Blit CLeaves) = refl
+refusalNumber-tells (Refusal.Blit DLeaves) = refl
+refusalNumber-tells Refusal.Forbidden = refl
+refusalNumber-tells Refusal.NotModelled = refl
+refusalNumber-tells Refusal.Outside = refl
+
+-- why a frame stopped, by its two numbers
+told : (why number : ℕ) → Why
+told why number =
+    if eqb why 0 then Why.EndOfFrame else
+    if eqb why 1 then Why.UsedUp else
+    Why.Refused (numbered number)
+
+why-tells : (why : Why) → told (whyNumber why) (answerNumber why) ≡ why
+unfolding told
+why-tells Why.EndOfFrame = refl
+why-tells Why.UsedUp = refl
+why-tells (Why.Refused reason) = ap Why.Refused (refusalNumber-tells reason)
+
+pub one-answer : OneAnswer
+one-answer memory file beam start lent first second promise again =
+    let same = promise ∙ sym again in
+    let whys : first .answer .why ≡ second .answer .why =
+    sym (why-tells (first .answer .why)) ∙ ap (λ (end : Frame). told (end .why) (end .number)) same ∙ why-tells (second .answer .why) in
+    λ i. record {
+      answer = record { why = whys i; done = same i .done; word = same i .machine .word; beam = same i .machine .beam };
+      memory = same i .machine .memory;
+      file = same i .machine .file;
+    }

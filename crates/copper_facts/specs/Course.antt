@@ -1,0 +1,16 @@
+-- The course of a list, instruction by instruction, whatever number is lent.
+use Prim.Native.Nat.{ℕ, zero, suc}
+use mathlib.Core.Bool.{Bool, true, not, _&&_}
+use lib.Dec.{eqb}
+use Rattle.copper.specs.Effect.{Machine, effect}
+use Rattle.copper.specs.Frame.{over}
+
+-- the machine after so many instructions
+unfoldable pub after : (many : ℕ) → Machine → Machine
+after zero here = here
+after (suc many) here = after many (effect here .machine)
+
+-- so many instructions start inside the frame and are done
+unfoldable pub goes : (many : ℕ) → Machine → Bool
+goes zero here = true
+goes (suc many) here = not (over here) && eqb (effect here .number) 0 && goes many (effect here .machine)

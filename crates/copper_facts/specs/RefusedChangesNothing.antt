@@ -1,0 +1,18 @@
+-- Paper 02, W8: "a refused instruction changes nothing". A frame refused at an instruction leaves what the frame leaves that
+-- is lent just the instructions done; one refused by 1 or 2 leaves what it found.
+use Prim.Native.Nat.{ℕ}
+use mathlib.Core.Path.{_≡_}
+use mathlib.Core.List.{List}
+use Rattle.copper.specs.Effect.{machine}
+use Rattle.copper.specs.Frame.{usedUp, refusal, stopped, startRefusal, frame}
+
+pub record Stands (memory file : List ℕ) (start lent : ℕ) : Type 0 where
+  pub beforeAny : (startRefusal memory file ≡ 0 → ⊥) → frame memory file start lent .machine ≡ machine memory file 0 0
+  pub atOne :
+      startRefusal memory file ≡ 0
+      → frame memory file start lent .why ≡ refusal
+      → frame memory file start (frame memory file start lent .done)
+      ≡ stopped usedUp 0 (frame memory file start lent .done) (frame memory file start lent .machine)
+
+abbrev pub RefusedChangesNothing : Type 0
+RefusedChangesNothing = (memory file : List ℕ) (start lent : ℕ) → Stands memory file start lent

@@ -9,6 +9,8 @@
 #include "instruction.h"
 #include "outcome.h"
 
+enum { DANGER = 0x0002 };
+
 const char *why_meaning(uint32_t why)
 {
     static const char *const meanings[] = {"end of frame", "number used up", "refused"};
@@ -106,7 +108,7 @@ static int print_frames(const struct jobfile *list, uint32_t lent)
     struct frame parts, whole;
 
     printf("list from word %lu, %lu words\n", (unsigned long)list->start, (unsigned long)list->job_words);
-    print_instructions(list->ram, list->ram_words, list->start, list->job_words, list->file[COPCON] != 0);
+    print_instructions(list->ram, list->ram_words, list->start, list->job_words, list->file[COPCON] & DANGER);
     printf("trace: line, position, instruction\n");
     parts = trace(list, lent, &machines[0]);
     whole = frame_of(list, lent, &machines[1]);

@@ -24,7 +24,7 @@ static const char usage[] =
     "desk check FILE..   runs each job or Copper list and compares what it leaves with what its file says\n"
     "\n"
     "Exit status: 0 done, the frame over or the number used up; 1 an error, told on standard error with file and line, or\n"
-    "a check that differs; 2 a run, a folding or a frame that was refused. A list of a readable file ends with 0.\n"
+    "a check that differs; 2 a run, a folding or a frame that was refused. A listing of a readable job ends with 0.\n"
     "\n"
     "A job file holds words of four hex digits, separated by blanks; ';' begins a comment. Lines of their own:\n"
     "  ram N                    memory of N words (decimal; 32768 if not said), all zero at the start but for\n"

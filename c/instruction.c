@@ -74,9 +74,12 @@ static void add_comparison(char line[LINE_ROOM], uint16_t first, uint16_t second
 void add_instruction(char line[LINE_ROOM], const uint16_t *ram, size_t ram_words, uint32_t word)
 {
     add(line, "%6lu  ", (unsigned long)word);
-    if (word >= ram_words || ram_words - word < 2)
+    if (word >= ram_words)
         return;
-    add(line, "%04X %04X  ", (unsigned)ram[word], (unsigned)ram[word + 1]);
+    add(line, "%04X ", (unsigned)ram[word]);
+    if (ram_words - word < 2)
+        return;
+    add(line, "%04X  ", (unsigned)ram[word + 1]);
     if (is_move(ram[word]))
         add_move(line, offset_of(ram[word]), ram[word + 1]);
     else

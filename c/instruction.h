@@ -8,7 +8,8 @@
 
 #include "listing.h"
 
-/* Adds the instruction at a word of memory: its number, both words, MOVE, WAIT or SKIP and what it names. */
+/* Adds the instruction at a word of memory: the word's number, both words, MOVE, WAIT or SKIP and what it names; of one that
+ * memory hasn't got whole, only what is there. */
 void add_instruction(char line[LINE_ROOM], const uint16_t *ram, size_t ram_words, uint32_t word);
 
 /* The instructions of a list of so many words on standard output, each with its sense. COPCON, and with it what is

@@ -90,7 +90,7 @@ static bool read_why(struct reader *reader)
                 reader->into->leaves.why = why;
                 return line_ends(reader);
             }
-    return complain(reader, "why: end, used or refused is missing");
+    return complain(reader, "why: '%.40s' is none of end, used and refused", reader->token);
 }
 
 /* leaves beam LINE POSITION, leaves beam over */

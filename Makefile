@@ -6,6 +6,9 @@
 # make figure the cookie cut of the manual's Figure 6-4, memory before and after
 .PHONY: run test desk bench figure archive
 
+# the desk tool's files
+tool = c/desk.c c/check.c c/copper.c c/instruction.c c/jobfile.c c/listing.c c/outcome.c c/reader.c c/step.c
+
 run:
 	@scripts/proved card
 	@scripts/start target/bin/card <crates/card/stdin
@@ -19,7 +22,7 @@ archive:
 
 desk: archive
 	@mkdir -p target/c
-	@scripts/compile target/c/desk c/desk.c c/check.c c/jobfile.c c/listing.c c/step.c target/staticlib/libdesk.a
+	@scripts/compile target/c/desk $(tool) target/staticlib/libdesk.a
 	@echo "target/staticlib/libdesk.a (declared in include/desk.h) and target/c/desk are made."
 	@echo "Run the tool by: scripts/start target/c/desk list jobs/copy.job"
 

@@ -16,9 +16,9 @@ struct run {
     size_t words;
 };
 
-/* Three numbers between fences. */
+/* Five numbers between fences. */
 struct numbers {
-    uint32_t fence0, number, fence1, place, fence2, count, fence3;
+    uint32_t fence0, number, fence1, place, fence2, count, fence3, why, fence4, word, fence5;
 };
 
 static struct run ram, file, job, out;
@@ -83,14 +83,14 @@ static void check_run(const char *name, const char *what, const char *fence, con
 
 static void lend_numbers(void)
 {
-    static const struct numbers unwritten = {1, 0xDEAD, 2, 0xDEAD, 3, 0xDEAD, 4};
+    static const struct numbers unwritten = {1, 0xDEAD, 2, 0xDEAD, 3, 0xDEAD, 4, 0xDEAD, 5, 0xDEAD, 6};
     numbers = unwritten;
 }
 
 static void check_fences_of_numbers(const char *name)
 {
     check(name, "the fence of a number", numbers.fence0 == 1 && numbers.fence1 == 2 && numbers.fence2 == 3 &&
-          numbers.fence3 == 4);
+          numbers.fence3 == 4 && numbers.fence4 == 5 && numbers.fence5 == 6);
 }
 
 void blit(const char *name, const char *ram_before, const char *file_before, uint16_t size,
@@ -161,12 +161,47 @@ void widen(const char *name, const char *old_before, size_t target_words, uint32
     check_run(name, "target", "the fence of the target", &out);
 }
 
+/* One call of either entry; desk_frame doesn't tell the beam's place. */
+static void one_frame(const char *name, int whole, uint32_t beam, uint32_t start, uint32_t lent)
+{
+    uint16_t *ram_words = ram.lent + FENCE, *file_words = file.lent + FENCE;
+    lend_numbers();
+    if (whole)
+        desk_frame(ram_words, ram.words, file_words, file.words, start, lent,
+                   &numbers.why, &numbers.number, &numbers.count, &numbers.word);
+    else
+        desk_frame_from(ram_words, ram.words, file_words, file.words, beam, start, lent,
+                        &numbers.why, &numbers.number, &numbers.count, &numbers.word, &numbers.place);
+    check_fences_of_numbers(name);
+    check_run(name, "memory", "the fence of memory", &ram);
+    check_run(name, "file", "the fence of the file", &file);
+}
+
+void frame(const char *name, const char *ram_before, const char *file_before,
+           uint32_t beam, uint32_t start, uint32_t lent,
+           uint32_t why, uint32_t number, uint32_t done, uint32_t word, uint32_t place,
+           const char *ram_after, const char *file_after)
+{
+    for (int whole = 0; whole <= (beam == 0); whole++) {
+        lend(&ram, ram_before, ram_after);
+        lend(&file, file_before, file_after);
+        one_frame(name, whole, beam, start, lent);
+        check_number(name, "why", numbers.why, why);
+        check_number(name, "number", numbers.number, number);
+        check_number(name, "done", numbers.count, done);
+        check_number(name, "word", numbers.word, word);
+        if (!whole)
+            check_number(name, "the beam's place", numbers.place, place);
+    }
+}
+
 int main(void)
 {
     blits();
     runs();
     foldings();
     screens();
+    frames();
     printf("boundary: %lu checks, %lu failed\n", checks, failed);
     return failed != 0;
 }

@@ -20,9 +20,15 @@ void fold(const char *name, size_t ram_words, const char *job, size_t out_words,
  * doesn't stand. */
 void widen(const char *name, const char *old, size_t target_words, uint32_t number, const char *new_file);
 
+/* A frame from a place of the beam on: by desk_frame_from, and where that place is 0 by desk_frame too. */
+void frame(const char *name, const char *ram, const char *file, uint32_t beam, uint32_t start, uint32_t lent,
+           uint32_t why, uint32_t number, uint32_t done, uint32_t word, uint32_t place,
+           const char *ram_after, const char *file_after);
+
 void blits(void);
 void runs(void);
 void foldings(void);
 void screens(void);
+void frames(void);
 
 #endif

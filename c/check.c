@@ -4,6 +4,8 @@
 #include <stdlib.h>
 #include <string.h>
 
+#include "beam.h"
+#include "copper.h"
 #include "desk.h"
 #include "jobfile.h"
 
@@ -121,9 +123,55 @@ static void check_run(struct check *check, const struct jobfile *jobfile)
     compare_file(check, leaves, file);
 }
 
+static void compare_why(struct check *check, uint32_t left, uint32_t said)
+{
+    if (left == said)
+        return;
+    begin_difference(check);
+    printf("  why is '%s', the file says '%s'\n", why_meaning(left), why_meaning(said));
+}
+
+/* Every place behind the frame's end is the end. */
+static void print_place(const char *before, uint32_t place)
+{
+    if (place >= FRAME_PLACES)
+        printf("%s over", before);
+    else
+        printf("%s at line %lu, position %lu", before, (unsigned long)place / POSITIONS,
+               (unsigned long)place % POSITIONS);
+}
+
+static void compare_beam(struct check *check, uint32_t left, uint32_t said)
+{
+    if (left == said || (left > FRAME_PLACES && said == FRAME_PLACES))
+        return;
+    begin_difference(check);
+    print_place("  beam is", left);
+    print_place(", the file says", said);
+    putchar('\n');
+}
+
+static void check_frame(struct check *check, const struct jobfile *list)
+{
+    static struct machine machine;
+    const struct leaves *leaves = &list->leaves;
+    struct frame frame = frame_of(list, list->lent, &machine);
+
+    compare_why(check, frame.why, leaves->why);
+    compare_number(check, "number", frame.number, leaves->number);
+    if (leaves->done_said)
+        compare_number(check, "done", frame.done, leaves->done);
+    if (leaves->word_said)
+        compare_number(check, "word", frame.word, leaves->word);
+    if (leaves->beam_said)
+        compare_beam(check, frame.place, leaves->beam);
+    compare_ram(check, list, machine.ram);
+    compare_file(check, leaves, machine.file);
+}
+
 bool check_file(const char *name)
 {
-    struct jobfile *jobfile = jobfile_read(name);
+    struct jobfile *jobfile = is_list_name(name) ? listfile_read(name) : jobfile_read(name);
     struct check check = {name, 0};
     bool good = jobfile != NULL;
 
@@ -131,7 +179,9 @@ bool check_file(const char *name)
         fprintf(stderr, "%s: it says nothing of what it leaves\n", name);
         good = false;
     }
-    if (good)
+    if (good && jobfile->is_list)
+        check_frame(&check, jobfile);
+    else if (good)
         check_run(&check, jobfile);
     if (good && jobfile->leaves.folds_said)
         good = check_folding(&check, jobfile);

@@ -1,4 +1,4 @@
-/* The desk tool: lists, runs, folds and checks job files. */
+/* The desk tool: lists, runs, folds and checks job files, and runs and checks Copper lists. */
 #include "desk.h"
 
 #include <stdio.h>
@@ -6,10 +6,10 @@
 #include <string.h>
 
 #include "check.h"
+#include "copper.h"
 #include "jobfile.h"
 #include "listing.h"
-
-enum { DONE = 0, ERROR = 1, REFUSED = 2 };
+#include "outcome.h"
 
 static const char usage[] =
     "desk list FILE      the job's steps, one a line: word index, first word, name, value, sense. A word that begins\n"
@@ -18,10 +18,13 @@ static const char usage[] =
     "desk run FILE       runs the job: number, place, count, zero flag, and what it changed\n"
     "desk fold N FILE    folds the job for memory of N words (decimal): number, place, both lengths, and the job\n"
     "                    and its folding side by side\n"
-    "desk check FILE..   runs each job and compares what it leaves with what its file says\n"
+    "desk copper N FILE  runs a Copper list for one frame, with N instructions lent (decimal): the list, one instruction\n"
+    "                    a line; the trace, for each instruction done the beam's line and position where it started;\n"
+    "                    why it stopped, number, done, the next word, the beam, and what it changed\n"
+    "desk check FILE..   runs each job or Copper list and compares what it leaves with what its file says\n"
     "\n"
-    "Exit status: 0 done; 1 an error, told on standard error with file and line, or a check that differs;\n"
-    "2 a run or a folding that was refused. A list of a readable file ends with 0.\n"
+    "Exit status: 0 done, the frame over or the number used up; 1 an error, told on standard error with file and line, or\n"
+    "a check that differs; 2 a run, a folding or a frame that was refused. A listing of a readable job ends with 0.\n"
     "\n"
     "A job file holds words of four hex digits, separated by blanks; ';' begins a comment. Lines of their own:\n"
     "  ram N                    memory of N words (decimal; 32768 if not said), all zero at the start but for\n"
@@ -33,7 +36,16 @@ static const char usage[] =
     "  leaves count N           words stored\n"
     "  leaves number N          the answer, 0 if not said\n"
     "  leaves place N           the place of a refused step, 0 if not said\n"
-    "  folds N FILE             folded for N words it is the job of this file, named from this one's folder\n";
+    "  folds N FILE             folded for N words it is the job of this file, named from this one's folder\n"
+    "\n"
+    "A Copper list's file, whose name ends in .list, has the list's words in the stead of a job's, and the same lines but\n"
+    "for 'leaves count', 'leaves place' and 'folds'. Lines of its own:\n"
+    "  start ADDRESS            the list stands in memory from this byte address on (hex; 0 if not said), over 'at' lines\n"
+    "  lent N                   the instructions that check lends; the largest number if not said\n"
+    "  leaves why WHY           why it stops: end (of the frame), used (up) or refused; end if not said\n"
+    "  leaves done N            instructions done\n"
+    "  leaves word N            the word number of the next or the refused instruction\n"
+    "  leaves beam LINE POSITION, or leaves beam over: where the beam stands then\n";
 
 static void print_answer(uint32_t number, uint32_t place)
 {
@@ -52,31 +64,6 @@ static int list_command(const char *name)
         printf("%lu words: run and fold refuse it (3)\n", (unsigned long)jobfile->job_words);
     free(jobfile);
     return DONE;
-}
-
-static void print_changed_words(const uint16_t *before, const uint16_t *after, size_t words)
-{
-    unsigned long changed = 0;
-
-    for (size_t at = 0; at < words; at++)
-        changed += before[at] != after[at];
-    printf("words changed: %lu\n", changed);
-    for (size_t at = 0; at < words; at++)
-        if (before[at] != after[at])
-            printf("  byte %05lX  word %6lu  %04X -> %04X\n", (unsigned long)at * 2, (unsigned long)at,
-                   (unsigned)before[at], (unsigned)after[at]);
-}
-
-static void print_changed_registers(const uint16_t before[FILE_WORDS], const uint16_t after[FILE_WORDS])
-{
-    unsigned long changed = 0;
-
-    for (size_t reg = 0; reg < FILE_WORDS; reg++)
-        changed += before[reg] != after[reg];
-    printf("registers changed: %lu\n", changed);
-    for (size_t reg = 0; reg < FILE_WORDS; reg++)
-        if (before[reg] != after[reg])
-            printf("  %-7s  %04X -> %04X\n", register_name(reg), (unsigned)before[reg], (unsigned)after[reg]);
 }
 
 static int run_command(const char *name)
@@ -142,6 +129,8 @@ static int command(int count, char **words)
         return run_command(words[2]);
     if (count == 4 && strcmp(words[1], "fold") == 0)
         return fold_command(words[2], words[3]);
+    if (count == 4 && strcmp(words[1], "copper") == 0)
+        return copper_command(words[2], words[3]);
     if (count >= 3 && strcmp(words[1], "check") == 0)
         return check_command(words + 2);
     fputs(usage, stderr);

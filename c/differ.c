@@ -11,21 +11,12 @@
 #include "differ.h"
 #include "plain.h"
 
-enum { FENCE = 8, FENCE_WORD = 0xA55A, NUMBERS = 21 };
+enum { FENCE_WORD = 0xA55A };
 
-/* One side's buffers, a fence on either side of each, and its answer. */
-struct side {
-    uint16_t ram[FENCE + RAM_ROOM + FENCE];
-    uint16_t file[FENCE + FILE_ROOM + FENCE];
-    uint16_t out[FENCE + OUT_ROOM + FENCE];
-    size_t ram_words;
-    uint32_t number, place, count;  /* count: words stored, or the folded length */
-};
+struct side desk, plain;
+uint64_t outcomes[CALLS][NUMBERS];
 
-static struct side desk, plain;
-
-/* How often each outcome came: by the call and its number. */
-static uint64_t outcomes[4][NUMBERS], changed, pairs, pairs_refused;
+static uint64_t changed, pairs, pairs_refused;
 
 static void fence(uint16_t *words, size_t length)
 {
@@ -33,14 +24,23 @@ static void fence(uint16_t *words, size_t length)
         words[i] = words[FENCE + length + i] = FENCE_WORD;
 }
 
-static void set_up(struct side *side, const struct test *test)
+/* The words of a list that memory has no room for are left out. */
+static void lay_list(struct side *side, const struct test *test)
+{
+    for (size_t i = 0; i < test->job_words && test->list_at + i < side->ram_words; i++)
+        side->ram[FENCE + test->list_at + i] = test->job[i];
+}
+
+void set_up(struct side *side, const struct test *test)
 {
     side->ram_words = test->ram_words <= RAM_ROOM ? test->ram_words : 0;
     fence(side->ram, side->ram_words);
     fence(side->file, FILE_ROOM);
     fill_ram(side->ram + FENCE, side->ram_words, test->ram_seed);
     memcpy(side->file + FENCE, test->file, sizeof test->file);
-    side->number = side->count = 0xDEAD;
+    if (test->call == FRAME)
+        lay_list(side, test);
+    side->number = side->count = side->why = side->word = 0xDEAD;
     side->place = test->call == BLIT ? 0 : 0xDEAD;
 }
 
@@ -50,7 +50,7 @@ static void set_up_out(struct side *side, size_t out_words)
         side->out[i] = FENCE_WORD + i;
 }
 
-static const char *compare(void)
+const char *compare(void)
 {
     if (desk.number != plain.number)
         return "number";
@@ -170,28 +170,33 @@ const char *difference(const struct test *test)
     case BLIT: return difference_of_blits(test);
     case RUN: return difference_of_runs(test);
     case WIDEN: return difference_of_widenings(test);
+    case FRAME: return difference_of_frames(test);
     default: return difference_of_foldings(test);
     }
 }
 
 static void print_outcomes(void)
 {
-    static const char *const names[] = {"blits", "runs", "foldings", "widenings"};
-    for (int call = 0; call < 4; call++) {
+    static const char *const names[] = {"blits", "runs", "foldings", "widenings", "frames"};
+    for (int call = 0; call < CALLS; call++) {
         printf("%s by number:", names[call]);
         for (int number = 0; number < NUMBERS; number++)
             if (outcomes[call][number] != 0)
                 printf(" %d: %" PRIu64, number, outcomes[call][number]);
-        printf(call < 3 ? "; " : "\n");
+        printf(call < CALLS - 1 ? "; " : "\n");
     }
+    print_frames();
     printf("foldings unlike their job: %" PRIu64 "; pairs of runs compared: %" PRIu64 ", refused alike: %" PRIu64 "\n",
            changed, pairs, pairs_refused);
 }
 
-static void print_answer(const char *name, const struct side *side)
+static void print_answer(const char *name, const struct side *side, enum call call)
 {
-    printf("%s: number %" PRIu32 ", place %" PRIu32 ", count %" PRIu32 "\n",
+    printf("%s: number %" PRIu32 ", place %" PRIu32 ", count %" PRIu32,
            name, side->number, side->place, side->count);
+    if (call == FRAME)
+        printf(", why %" PRIu32 ", word %" PRIu32, side->why, side->word);
+    printf("\n");
 }
 
 void report(struct test *test, const char *which, uint64_t number)
@@ -200,8 +205,8 @@ void report(struct test *test, const char *which, uint64_t number)
     shrink(test);
     printf("shrunk, it differs: %s\n", difference(test));
     print_test(test);
-    print_answer("archive", &desk);
-    print_answer("plain", &plain);
+    print_answer("archive", &desk, test->call);
+    print_answer("plain", &plain, test->call);
 }
 
 /* Does the cases of so many seeds: how many, or 0 after a report. */

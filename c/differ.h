@@ -10,7 +10,8 @@ enum {
     RAM_ROOM = 262145,
     FILE_ROOM = 57,
     JOB_ROOM = 4097,
-    OUT_ROOM = 40000
+    OUT_ROOM = 40000,
+    FENCE = 8
 };
 
 /* The Blitter's registers stand first in the file; REGISTERS counts COPCON and the colours too. */
@@ -20,7 +21,11 @@ enum { POINTERS = 262144, BLITTER = 19, REGISTERS = 52, ZERO_FLAG = 52, FILE_WOR
 enum { C_CHANNEL, B_CHANNEL, A_CHANNEL, D_CHANNEL, CHANNELS };
 enum { FIRST_POINTER = 4, FIRST_MODULO = 12, USE_A = 0x0800, USE_B = 0x0400, USE_C = 0x0200, USE_D = 0x0100 };
 
-enum call { BLIT, RUN, FOLD, WIDEN };
+enum call { BLIT, RUN, FOLD, WIDEN, FRAME, CALLS };
+enum { NUMBERS = 24 };
+
+/* How far a case goes astray. */
+enum care { LAWFUL, RISKY, DAMAGED };
 
 /* One case: everything a call is given. */
 struct test {
@@ -30,11 +35,29 @@ struct test {
     uint16_t file[FILE_ROOM];   /* for a folding: the file of the two runs that are compared; the old file of a widening */
     size_t file_words;
     uint16_t size;              /* of a blit called alone */
-    uint16_t job[JOB_ROOM];
+    uint16_t job[JOB_ROOM];     /* of a frame: the list, which is laid into memory from word list_at on */
     size_t job_words;
     int spare;                  /* of a folding: words of output beyond those it needs, or missing if negative */
     size_t target_words;        /* of a widening */
+    uint32_t list_at, beam, start, lent;
+    bool exact;                 /* of a frame: as many instructions as it can do and spare are lent, not the lent number */
+    uint32_t cut;               /* of a frame: where it is cut, by instructions, modulo those it does and one */
 };
+
+/* One side's buffers, a fence on either side of each, and its answer. */
+struct side {
+    uint16_t ram[FENCE + RAM_ROOM + FENCE];
+    uint16_t file[FENCE + FILE_ROOM + FENCE];
+    uint16_t out[FENCE + OUT_ROOM + FENCE];
+    size_t ram_words;
+    uint32_t number, place, count;  /* count: words stored, the folded length, or instructions done */
+    uint32_t why, word;             /* of a frame, whose place is the beam's */
+};
+
+extern struct side desk, plain;
+
+/* How often each outcome came: by the call and its number. */
+extern uint64_t outcomes[CALLS][NUMBERS];
 
 /* A blit: its register file and size. */
 struct plan {
@@ -67,14 +90,31 @@ void set_pointer(struct plan *plan, int pointer, uint32_t word);
 /* COPCON, the colours and the zero flag of a file: any bits that are kept. */
 void pick_screen(uint16_t *file);
 
-/* The case that belongs to a seed. */
+/* A register's offset by its place in the file. */
+extern const uint16_t offsets[REGISTERS];
+
+/* Adds a word to the job or list; the length of a memory; a file of the wrong length, or with a bit that isn't kept. */
+void put(struct test *test, uint16_t value);
+size_t pick_ram_words(void);
+void damage_file(struct test *test);
+
+/* The case that belongs to a seed; a frame's part of it. */
 void make_test(struct test *test, uint64_t seed);
+void make_frame(struct test *test, enum care care);
 
 /* Memory by its seed: word i is i modulo 1,024 for seed 0, otherwise random words, words of few ones, or zeros. */
 void fill_ram(uint16_t *ram, size_t words, uint64_t seed);
 
+/* Lays a case's memory and file out on a side. Compares number, count, memory and file: NULL if they agree. */
+void set_up(struct side *side, const struct test *test);
+const char *compare(void);
+
 /* Does the case on both sides: NULL if they agree, otherwise what differs. */
 const char *difference(const struct test *test);
+const char *difference_of_frames(const struct test *test);
+
+/* How the frames ended, and how many were cut. */
+void print_frames(void);
 
 /* Says which case differs, shrinks and prints it. */
 void report(struct test *test, const char *which, uint64_t number);

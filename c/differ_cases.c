@@ -1,15 +1,17 @@
-/* The cases of the differential test: blits, jobs, foldings and widenings, lawful, near the edge and damaged. */
+/* The cases of the differential test but for frames: blits, jobs, foldings and widenings, lawful, near the edge and
+ * damaged. */
 #include <string.h>
 
 #include "differ.h"
 
-/* By a register's place in the file: its offset in a job, and the bits it keeps. */
-static const uint16_t offsets[REGISTERS] = {
+const uint16_t offsets[REGISTERS] = {
     0x040, 0x042, 0x044, 0x046, 0x048, 0x04A, 0x04C, 0x04E, 0x050, 0x052, 0x054, 0x056, 0x060,
     0x062, 0x064, 0x066, 0x070, 0x072, 0x074, 0x02E, 0x180, 0x182, 0x184, 0x186, 0x188, 0x18A,
     0x18C, 0x18E, 0x190, 0x192, 0x194, 0x196, 0x198, 0x19A, 0x19C, 0x19E, 0x1A0, 0x1A2, 0x1A4,
     0x1A6, 0x1A8, 0x1AA, 0x1AC, 0x1AE, 0x1B0, 0x1B2, 0x1B4, 0x1B6, 0x1B8, 0x1BA, 0x1BC, 0x1BE
 };
+
+/* The bits a register keeps, by its place in the file. */
 static const uint16_t kept[FILE_WORDS] = {
     0xFFFF, 0xFFFF, 0xFFFF, 0xFFFF, 0x0007, 0xFFFE, 0x0007, 0xFFFE, 0x0007, 0xFFFE, 0x0007, 0xFFFE, 0xFFFE,
     0xFFFE, 0xFFFE, 0xFFFE, 0xFFFF, 0xFFFF, 0xFFFF, 0x0002, 0x0FFF, 0x0FFF, 0x0FFF, 0x0FFF, 0x0FFF, 0x0FFF,
@@ -18,10 +20,7 @@ static const uint16_t kept[FILE_WORDS] = {
     0x0001
 };
 
-/* How far a case goes astray. */
-enum care { LAWFUL, RISKY, DAMAGED };
-
-static void put(struct test *test, uint16_t value)
+void put(struct test *test, uint16_t value)
 {
     if (test->job_words < JOB_ROOM)
         test->job[test->job_words++] = value;
@@ -158,8 +157,7 @@ static void make_file(struct test *test, uint32_t n, bool risk)
     test->size = plan.size;
 }
 
-/* A file of the wrong length, or with a bit that isn't kept. */
-static void damage_file(struct test *test)
+void damage_file(struct test *test)
 {
     static const size_t lengths[] = {0, 1, 19, 20, 21, 52, 54, 57};
     if (one_in(2))
@@ -180,7 +178,7 @@ static void make_widening(struct test *test)
     test->target_words = one_in(4) ? lengths[below(9)] : FILE_WORDS;
 }
 
-static size_t pick_ram_words(void)
+size_t pick_ram_words(void)
 {
     uint32_t chance = below(400);
     if (chance < 240)
@@ -198,15 +196,22 @@ static size_t pick_ram_words(void)
     return chance == 397 ? 0 : chance == 398 ? POINTERS + 1 : 30000 + below(200000);
 }
 
+/* One case in so many is a frame: each of its places may be looked at, so that one costs as much as many a run. */
+enum { FRAME_SHARE = 8 };
+
 void make_test(struct test *test, uint64_t seed)
 {
     start_random(seed);
     memset(test, 0, sizeof *test);
     uint32_t chance = below(100);
     enum care care = chance < 55 ? LAWFUL : chance < 80 ? RISKY : DAMAGED;
-    test->call = one_in(5) ? BLIT : one_in(24) ? WIDEN : one_in(2) ? RUN : FOLD;
+    test->call = one_in(FRAME_SHARE) ? FRAME : one_in(5) ? BLIT : one_in(24) ? WIDEN : one_in(2) ? RUN : FOLD;
     if (test->call == WIDEN) {
         make_widening(test);
+        return;
+    }
+    if (test->call == FRAME) {
+        make_frame(test, care);
         return;
     }
     test->ram_words = pick_ram_words();

@@ -58,6 +58,39 @@ static bool clear_words(struct test *test)
     return any;
 }
 
+/* Tries a lower number in the smaller case, which is test but for that number. */
+static bool lower(struct test *test, uint32_t *number, uint32_t value)
+{
+    if (*number <= value)
+        return false;
+    *number = value;
+    return taken(test);
+}
+
+/* The list and the start together to memory's start, then the numbers one by one. */
+static bool lessen_frame(struct test *test)
+{
+    bool any = false;
+    smaller = *test;
+    smaller.start -= test->list_at;
+    any |= test->start >= test->list_at && lower(test, &smaller.list_at, 0);
+    smaller = *test;
+    any |= lower(test, &smaller.start, test->list_at);
+    smaller = *test;
+    any |= lower(test, &smaller.beam, 0);
+    smaller = *test;
+    smaller.exact = false;
+    smaller.lent = UINT32_MAX;
+    any |= test->exact && taken(test);
+    for (uint32_t few = 0; few < 8; few++) {
+        smaller = *test;
+        any |= lower(test, &smaller.cut, few);
+        smaller = *test;
+        any |= !test->exact && lower(test, &smaller.lent, few);
+    }
+    return any;
+}
+
 static bool lessen(struct test *test)
 {
     bool any = false;
@@ -89,6 +122,7 @@ void shrink(struct test *test)
         any = drop_steps(test);
         any |= clear_words(test);
         any |= lessen(test);
+        any |= test->call == FRAME && lessen_frame(test);
     }
 }
 
@@ -100,9 +134,19 @@ static void print_words(const char *name, const uint16_t *words, size_t length)
     printf("\n");
 }
 
+static void print_frame(const struct test *test)
+{
+    printf("the list laid from word %" PRIu32 " on, start %" PRIu32 ", beam %" PRIu32 ", cut %" PRIu32 ", lent: ",
+           test->list_at, test->start, test->beam, test->cut);
+    if (test->exact)
+        printf("those done with any number, and %d\n", test->spare);
+    else
+        printf("%" PRIu32 "\n", test->lent);
+}
+
 void print_test(const struct test *test)
 {
-    static const char *const calls[] = {"blit", "run", "fold", "widen"};
+    static const char *const calls[] = {"blit", "run", "fold", "widen", "frame"};
     printf("%s, %zu words of memory, ", calls[test->call], test->ram_words);
     if (test->ram_seed == 0)
         printf("word i is i modulo 1,024\n");
@@ -112,7 +156,9 @@ void print_test(const struct test *test)
     if (test->call == BLIT)
         printf("size: %04X\n", test->size);
     else
-        print_words("job", test->job, test->job_words);
+        print_words(test->call == FRAME ? "list" : "job", test->job, test->job_words);
+    if (test->call == FRAME)
+        print_frame(test);
     if (test->call == WIDEN)
         printf("words of the target: %zu\n", test->target_words);
     if (test->call == FOLD)

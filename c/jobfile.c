@@ -1,124 +1,17 @@
 #include "jobfile.h"
 
 #include <errno.h>
-#include <stdarg.h>
 #include <stdio.h>
 #include <stdlib.h>
 #include <string.h>
 
-struct reader {
-    FILE *stream;
-    const char *name;
-    unsigned long line;
-    char token[NAME_ROOM];   /* the last token; one that is too long is cut, and then is no good anywhere */
-    bool ram_fixed;          /* a ram line, or a line that depends on it, has been read */
-    struct jobfile *into;
-};
+#include "beam.h"
 
-/* Says what is wrong with the line; false, so that it can be returned. */
-static bool complain(const struct reader *reader, const char *format, ...)
+/* Whether a line that stands only in list files, or only in job files, stands in one. */
+static bool stands_in(const struct reader *reader, bool list)
 {
-    va_list arguments;
-
-    fprintf(stderr, "%s:%lu: ", reader->name, reader->line);
-    va_start(arguments, format);
-    vfprintf(stderr, format, arguments);
-    va_end(arguments);
-    fputc('\n', stderr);
-    return false;
-}
-
-static bool is_blank(int sign)
-{
-    return sign == ' ' || sign == '\t' || sign == '\r';
-}
-
-static bool ends_token(int sign)
-{
-    return sign == EOF || sign == '\n' || sign == ';' || is_blank(sign);
-}
-
-/* The next sign that is neither blank nor comment. */
-static int next_sign(FILE *stream)
-{
-    int sign = getc(stream);
-
-    while (is_blank(sign))
-        sign = getc(stream);
-    if (sign == ';')
-        while (sign != '\n' && sign != EOF)
-            sign = getc(stream);
-    return sign;
-}
-
-/* Reads the line's next token; false at the line's end, where the newline is left to be read. Signs that can't be
- * printed become question marks, which no token has. */
-static bool next_token(struct reader *reader)
-{
-    size_t used = 0;
-    int sign = next_sign(reader->stream);
-
-    while (!ends_token(sign) && used < NAME_ROOM - 1) {
-        reader->token[used++] = sign > ' ' && sign <= '~' ? (char)sign : '?';
-        sign = getc(reader->stream);
-    }
-    reader->token[used] = '\0';
-    ungetc(sign, reader->stream);
-    return used > 0;
-}
-
-bool decimal(const char *text, size_t limit, size_t *value)
-{
-    size_t sum = 0;
-
-    if (*text == '\0')
-        return false;
-    for (; *text != '\0'; text++) {
-        size_t digit = (size_t)(*text - '0');
-
-        if (*text < '0' || *text > '9' || sum > limit / 10 || digit > limit - sum * 10)
-            return false;
-        sum = sum * 10 + digit;
-    }
-    *value = sum;
-    return true;
-}
-
-/* Reads a hexadecimal number of least to most digits. */
-static bool hexadecimal(const char *text, size_t least, size_t most, uint32_t *value)
-{
-    size_t digits = strspn(text, "0123456789ABCDEFabcdef");
-
-    if (digits < least || digits > most || text[digits] != '\0')
-        return false;
-    *value = (uint32_t)strtoul(text, NULL, 16);
-    return true;
-}
-
-static bool word_token(const struct reader *reader, uint16_t *value)
-{
-    uint32_t word = 0;
-
-    if (!hexadecimal(reader->token, 4, 4, &word))
-        return complain(reader, "'%.40s' isn't a word of four hex digits", reader->token);
-    *value = (uint16_t)word;
-    return true;
-}
-
-/* Reads the line's next token as a decimal number of at most limit. */
-static bool next_decimal(struct reader *reader, const char *what, size_t limit, size_t *value)
-{
-    if (!next_token(reader))
-        return complain(reader, "%s: a number is missing", what);
-    if (!decimal(reader->token, limit, value))
-        return complain(reader, "%s: '%.40s' isn't a decimal number from 0 to %lu", what, reader->token,
-                        (unsigned long)limit);
-    return true;
-}
-
-static bool line_ends(struct reader *reader)
-{
-    return !next_token(reader) || complain(reader, "'%.40s' is too much on this line", reader->token);
+    return reader->into->is_list == list
+        || complain(reader, "'%.40s' stands only in %s files", reader->token, list ? "list" : "job");
 }
 
 /* ram N */
@@ -130,6 +23,11 @@ static bool read_ram(struct reader *reader)
     return next_decimal(reader, "ram", RAM_ROOM, &reader->into->ram_words) && line_ends(reader);
 }
 
+static bool even_address(const struct reader *reader, uint32_t *address)
+{
+    return hexadecimal(reader->token, 1, 5, address) && *address % 2 == 0;
+}
+
 /* The rest of a line 'at ADDRESS WORD..': the words go to memory from the byte address on, and are marked as said. */
 static bool read_at(struct reader *reader, uint16_t *ram, bool *said)
 {
@@ -137,7 +35,7 @@ static bool read_at(struct reader *reader, uint16_t *ram, bool *said)
     size_t at;
 
     reader->ram_fixed = true;
-    if (!next_token(reader) || !hexadecimal(reader->token, 1, 5, &address) || address % 2 != 0)
+    if (!next_token(reader) || !even_address(reader, &address))
         return complain(reader, "at: '%.40s' isn't an even byte address of up to five hex digits", reader->token);
     for (at = address / 2; next_token(reader); at++) {
         if (at >= reader->into->ram_words)
@@ -181,22 +79,74 @@ static bool read_number(struct reader *reader, const char *what, uint32_t *numbe
     return true;
 }
 
-/* leaves number N, leaves place N, leaves count N, leaves at ADDRESS WORD.., leaves REGISTER VALUE */
+/* leaves why end, leaves why used, leaves why refused */
+static bool read_why(struct reader *reader)
+{
+    static const char *const whys[] = {"end", "used", "refused"};
+
+    if (next_token(reader))
+        for (uint32_t why = END_OF_FRAME; why <= REFUSED_NEXT; why++)
+            if (strcmp(reader->token, whys[why]) == 0) {
+                reader->into->leaves.why = why;
+                return line_ends(reader);
+            }
+    return complain(reader, "why: '%.40s' is none of end, used and refused", reader->token);
+}
+
+/* leaves beam LINE POSITION, leaves beam over */
+static bool read_beam(struct reader *reader)
+{
+    struct leaves *leaves = &reader->into->leaves;
+    size_t line = 0, position = 0;
+
+    leaves->beam_said = true;
+    leaves->beam = FRAME_PLACES;
+    if (next_token(reader) && strcmp(reader->token, "over") == 0)
+        return line_ends(reader);
+    if (!decimal(reader->token, LINES - 1, &line))
+        return complain(reader, "beam: '%.40s' is neither over nor a decimal line from 0 to %d", reader->token, LINES - 1);
+    if (!next_decimal(reader, "beam", POSITIONS - 1, &position))
+        return false;
+    leaves->beam = (uint32_t)(line * POSITIONS + position);
+    return line_ends(reader);
+}
+
+/* An answer that is a number, of a job or of a list. */
+struct answer {
+    const char *name;
+    bool of_list;
+    uint32_t *number;
+    bool *said;
+};
+
+static bool read_answer(struct reader *reader, const struct answer *answer)
+{
+    *answer->said = true;
+    return stands_in(reader, answer->of_list) && read_number(reader, answer->name, answer->number);
+}
+
+/* leaves number N, leaves place N, leaves count N, leaves why .., leaves done N, leaves word N, leaves beam ..,
+ * leaves at ADDRESS WORD.., leaves REGISTER VALUE */
 static bool read_leaves(struct reader *reader)
 {
     struct leaves *leaves = &reader->into->leaves;
+    const struct answer answers[] = {
+        {"place", false, &leaves->place, &leaves->said}, {"count", false, &leaves->count, &leaves->count_said},
+        {"done", true, &leaves->done, &leaves->done_said}, {"word", true, &leaves->word, &leaves->word_said},
+    };
 
     leaves->said = true;
     if (!next_token(reader))
         return complain(reader, "leaves: what?");
     if (strcmp(reader->token, "number") == 0)
         return read_number(reader, "number", &leaves->number);
-    if (strcmp(reader->token, "place") == 0)
-        return read_number(reader, "place", &leaves->place);
-    if (strcmp(reader->token, "count") == 0) {
-        leaves->count_said = true;
-        return read_number(reader, "count", &leaves->count);
-    }
+    for (size_t i = 0; i < sizeof answers / sizeof answers[0]; i++)
+        if (strcmp(reader->token, answers[i].name) == 0)
+            return read_answer(reader, &answers[i]);
+    if (strcmp(reader->token, "why") == 0)
+        return stands_in(reader, true) && read_why(reader);
+    if (strcmp(reader->token, "beam") == 0)
+        return stands_in(reader, true) && read_beam(reader);
     if (strcmp(reader->token, "at") == 0)
         return read_at(reader, leaves->ram, leaves->ram_said);
     return read_register(reader, leaves->file, leaves->file_said);
@@ -207,6 +157,8 @@ static bool read_folds(struct reader *reader)
 {
     struct leaves *leaves = &reader->into->leaves;
 
+    if (!stands_in(reader, false))
+        return false;
     leaves->said = leaves->folds_said = true;
     if (!next_decimal(reader, "folds", SIZE_MAX, &leaves->folds_ram))
         return false;
@@ -216,14 +168,33 @@ static bool read_folds(struct reader *reader)
     return line_ends(reader);
 }
 
-/* The token and all that follow on the line, as words of the job. */
+/* start ADDRESS */
+static bool read_start(struct reader *reader)
+{
+    uint32_t address = 0;
+
+    if (!stands_in(reader, true))
+        return false;
+    if (!next_token(reader) || !even_address(reader, &address))
+        return complain(reader, "start: '%.40s' isn't an even byte address of up to five hex digits", reader->token);
+    reader->into->start = address / 2;
+    return line_ends(reader);
+}
+
+/* lent N */
+static bool read_lent(struct reader *reader)
+{
+    return stands_in(reader, true) && read_number(reader, "lent", &reader->into->lent);
+}
+
+/* The token and all that follow on the line, as words of the job or of the list. */
 static bool read_words(struct reader *reader)
 {
     struct jobfile *into = reader->into;
 
     do {
         if (into->job_words == JOB_ROOM)
-            return complain(reader, "a job of more than %d words", (int)JOB_ROOM);
+            return complain(reader, "a %s of more than %d words", into->is_list ? "list" : "job", (int)JOB_ROOM);
         if (!word_token(reader, &into->job[into->job_words++]))
             return false;
     } while (next_token(reader));
@@ -245,6 +216,10 @@ static bool read_line(struct reader *reader)
         return read_leaves(reader);
     if (strcmp(reader->token, "folds") == 0)
         return read_folds(reader);
+    if (strcmp(reader->token, "start") == 0)
+        return read_start(reader);
+    if (strcmp(reader->token, "lent") == 0)
+        return read_lent(reader);
     return read_words(reader);
 }
 
@@ -258,11 +233,35 @@ static bool read_lines(struct reader *reader)
     return true;
 }
 
-struct jobfile *jobfile_read(const char *name)
+/* The list's words into memory. A list of no words may begin anywhere. */
+static bool lay_list(const char *name, struct jobfile *list)
+{
+    if (list->job_words > 0 && list->start + list->job_words > list->ram_words) {
+        fprintf(stderr, "%s: memory ends before the list does\n", name);
+        return false;
+    }
+    if (list->job_words > 0)
+        memcpy(list->ram + list->start, list->job, list->job_words * sizeof *list->job);
+    return true;
+}
+
+static bool read_stream(FILE *stream, const char *name, struct jobfile *into)
+{
+    struct reader reader = {stream, name, 0, "", false, into};
+
+    if (!read_lines(&reader))
+        return false;
+    if (ferror(stream)) {
+        fprintf(stderr, "%s: %s\n", name, strerror(errno));
+        return false;
+    }
+    return !into->is_list || lay_list(name, into);
+}
+
+static struct jobfile *read_file(const char *name, bool is_list)
 {
     struct jobfile *jobfile = calloc(1, sizeof *jobfile);
     FILE *stream = jobfile == NULL ? NULL : fopen(name, "rb");
-    struct reader reader = {stream, name, 0, "", false, jobfile};
     bool good;
 
     if (stream == NULL) {
@@ -270,15 +269,36 @@ struct jobfile *jobfile_read(const char *name)
         free(jobfile);
         return NULL;
     }
+    jobfile->is_list = is_list;
+    jobfile->lent = UINT32_MAX;
     jobfile->ram_words = RAM_WORDS;
-    good = read_lines(&reader);
-    if (good && ferror(stream)) {
-        fprintf(stderr, "%s: %s\n", name, strerror(errno));
-        good = false;
-    }
+    good = read_stream(stream, name, jobfile);
     fclose(stream);
     if (good)
         return jobfile;
     free(jobfile);
+    return NULL;
+}
+
+bool is_list_name(const char *name)
+{
+    size_t length = strlen(name);
+
+    return length >= 5 && strcmp(name + length - 5, ".list") == 0;
+}
+
+struct jobfile *jobfile_read(const char *name)
+{
+    if (!is_list_name(name))
+        return read_file(name, false);
+    fprintf(stderr, "%s: a Copper list, which 'desk copper' and 'desk check' take\n", name);
+    return NULL;
+}
+
+struct jobfile *listfile_read(const char *name)
+{
+    if (is_list_name(name))
+        return read_file(name, true);
+    fprintf(stderr, "%s: not a Copper list, whose name ends in .list\n", name);
     return NULL;
 }

@@ -1,13 +1,13 @@
 #include "listing.h"
 
 #include <stdarg.h>
+#include <stdbool.h>
 #include <stdio.h>
 #include <string.h>
 
 #include "step.h"
 
-/* Adds text to the line; what has no room is left out. */
-static void add(char line[LINE_ROOM], const char *format, ...)
+void add(char line[LINE_ROOM], const char *format, ...)
 {
     size_t used = strlen(line);
     va_list arguments;
@@ -80,7 +80,7 @@ static void add_colour(char line[LINE_ROOM], size_t reg, uint16_t kept)
         (unsigned)kept >> 4 & 15, (unsigned)kept & 15);
 }
 
-static void add_register(char line[LINE_ROOM], const struct listing *listing, size_t reg, uint16_t value)
+void add_register(char line[LINE_ROOM], const struct listing *listing, size_t reg, uint16_t value)
 {
     const char *name = register_name(reg);
     uint16_t kept = register_kept(reg, value);
@@ -107,11 +107,11 @@ static void add_register(char line[LINE_ROOM], const struct listing *listing, si
         add(line, ", kept as %04X", (unsigned)kept);
 }
 
-static void add_size(char line[LINE_ROOM], uint16_t size)
+void add_blit(char line[LINE_ROOM], uint16_t size)
 {
     unsigned height = size_height(size), width = size_width(size);
 
-    add(line, "BLTSIZE %04X  blit: %u row%s of %u word%s", (unsigned)size, height, plural(height), width, plural(width));
+    add(line, "blit: %u row%s of %u word%s", height, plural(height), width, plural(width));
 }
 
 static void add_refused(char line[LINE_ROOM], const uint16_t *at, const struct step *step)
@@ -132,7 +132,8 @@ static void add_step(char line[LINE_ROOM], const struct listing *listing, const 
         add_register(line, listing, step->reg, step->value);
         break;
     case STEP_SIZE:
-        add_size(line, step->value);
+        add(line, "BLTSIZE %04X  ", (unsigned)step->value);
+        add_blit(line, step->value);
         break;
     case STEP_STORE:
         add(line, "store   %04X %04X  byte %05lX, word %lu becomes %04X", (unsigned)at[1], (unsigned)at[2],
@@ -144,6 +145,14 @@ static void add_step(char line[LINE_ROOM], const struct listing *listing, const 
     case STEP_REFUSED:
         add_refused(line, at, step);
     }
+}
+
+void remember_write(struct listing *listing, size_t reg, uint16_t value)
+{
+    bool high = register_name(reg)[6] == 'H';
+
+    listing->high = high ? reg : FILE_WORDS;
+    listing->high_value = register_kept(reg, value);
 }
 
 struct listing listing_of(const uint16_t *job, size_t words)
@@ -164,10 +173,8 @@ int listing_next(struct listing *listing, char line[LINE_ROOM])
     add_step(line, listing, &step);
     listing->place = step.kind == STEP_REFUSED ? listing->words : listing->place + step.words;
     listing->high = FILE_WORDS;
-    if (step.kind == STEP_REGISTER && register_name(step.reg)[6] == 'H') {
-        listing->high = step.reg;
-        listing->high_value = register_kept(step.reg, step.value);
-    }
+    if (step.kind == STEP_REGISTER)
+        remember_write(listing, step.reg, step.value);
     return 1;
 }
 

@@ -15,6 +15,17 @@ struct listing {
     uint16_t high_value;
 };
 
+/* Adds text to a line; what has no room is left out. */
+void add(char line[LINE_ROOM], const char *format, ...);
+
+/* Adds the sense of a register write. A pointer's low half is read together with its high half if the write before, as
+ * remembered in the listing, was of that. */
+void add_register(char line[LINE_ROOM], const struct listing *listing, size_t reg, uint16_t value);
+void remember_write(struct listing *listing, size_t reg, uint16_t value);
+
+/* Adds the rows and words of a blit. */
+void add_blit(char line[LINE_ROOM], uint16_t size);
+
 struct listing listing_of(const uint16_t *job, size_t words);
 
 /* Puts the next step's line into line and answers 1; at the end answers 0 and leaves line empty. */

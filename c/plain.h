@@ -1,5 +1,5 @@
 /* A second Blitter, in plain C, written from the papers alone: one area blit, a job run, a job folded,
- * an old register file widened.
+ * an old register file widened, one frame of a Copper list.
  * Nothing of it is proved. It is what the archive is compared with, call by call, and what its cost is set beside.
  * Parameters, numbers and what a refusal leaves are those of the entries of the same name in desk.h. */
 #ifndef PLAIN_H
@@ -19,5 +19,12 @@ void plain_fold(size_t ram_words, const uint16_t *job, size_t job_words, uint16_
                 uint32_t *number, uint32_t *place, uint32_t *length);
 
 void plain_widen(const uint16_t *old, size_t old_words, uint16_t *target, size_t target_words, uint32_t *number);
+
+void plain_frame(uint16_t *ram, size_t ram_words, uint16_t *file, size_t file_words, uint32_t start, uint32_t lent,
+                 uint32_t *why, uint32_t *number, uint32_t *done, uint32_t *word);
+
+void plain_frame_from(uint16_t *ram, size_t ram_words, uint16_t *file, size_t file_words,
+                      uint32_t beam, uint32_t start, uint32_t lent,
+                      uint32_t *why, uint32_t *number, uint32_t *done, uint32_t *word, uint32_t *place);
 
 #endif

@@ -38,6 +38,9 @@ struct store {
 /* The bits a register keeps, by its place in the file. */
 extern const uint16_t plain_kept[FILE_WORDS];
 
+/* A register's place in the file by its offset, or -1 where the table has none. */
+int plain_place_in_file(uint16_t offset);
+
 bool plain_memory_lawful(size_t ram_words);
 bool plain_file_lawful(const uint16_t *file, size_t file_words);
 

@@ -2,8 +2,7 @@
 #include "plain.h"
 #include "plain_parts.h"
 
-/* A register's place in the file by its offset, or -1 where the table has none. */
-static int place_in_file(uint16_t offset)
+int plain_place_in_file(uint16_t offset)
 {
     if (offset & 1)
         return -1;
@@ -25,7 +24,7 @@ static bool step_begins(uint16_t word, struct step *step)
 {
     if (word == 0x058)
         step->kind = BLIT_START, step->words = 2;
-    else if (place_in_file(word) >= 0)
+    else if (plain_place_in_file(word) >= 0)
         step->kind = REGISTER_WRITE, step->words = 2;
     else if (word >= 0x8000 && word <= 0x8007)
         step->kind = STORE, step->words = 3;
@@ -45,7 +44,7 @@ uint32_t plain_step(const uint16_t *job, size_t job_words, size_t place, struct 
         return 5;
     switch (step->kind) {
     case REGISTER_WRITE:
-        step->target = place_in_file(first);
+        step->target = plain_place_in_file(first);
         step->value = job[place + 1] & plain_kept[step->target];
         break;
     case BLIT_START:

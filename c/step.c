@@ -63,6 +63,9 @@ static const char *const meanings[] = {
     NULL,
     NULL,
     "a new register file that hasn't 53 words",
+    "a MOVE to a forbidden offset",
+    "a MOVE to a permitted offset that isn't modelled",
+    "an instruction with a word that memory doesn't have",
 };
 
 const char *number_meaning(uint32_t number)
@@ -101,7 +104,7 @@ unsigned size_width(uint16_t size)
     return size & 63 ? size & 63 : 64;
 }
 
-static size_t register_at(uint16_t offset)
+size_t register_at(uint16_t offset)
 {
     size_t reg = 0;
 

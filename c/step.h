@@ -29,6 +29,9 @@ const char *register_name(size_t reg);
 /* The place of a register in the file by its name; FILE_WORDS if there is none. */
 size_t register_named(const char *name);
 
+/* The place of a register in the file by its offset; ZERO_FLAG if there is none. */
+size_t register_at(uint16_t offset);
+
 /* The value that a register keeps of one that is written to it. */
 uint16_t register_kept(size_t reg, uint16_t value);
 

@@ -1,4 +1,4 @@
-/* The machine-checked Blitter for C: one area blit, a job run, a job folded, an old register file widened.
+/* The machine-checked Blitter for C: one area blit, a job run, a job folded, an old register file widened, Copper lists.
  *
  * Common to all calls
  * - Memory, register file, job and output are runs of 16-bit words; every length counts words, not bytes.
@@ -28,6 +28,9 @@
  *     16  the same of channel C, but not of A or B
  *     17  the same of channel D, but not of A, B or C
  *     20  a new register file that hasn't 53 words
+ *     21  a MOVE to an offset that is forbidden to the Copper: below 040, or 040 to 07E without the danger bit
+ *     22  a MOVE to an offset that is permitted but isn't 058 nor a register's of the file
+ *     23  a Copper instruction whose first or second word memory doesn't have
  *   Of a blit's channels those in use count, in the order A, B, C, D, whichever leaves memory earlier.
  * - All numbers are written at every call, refused or not.
  * - There is no state: calls on different buffers may run at the same time. No call allocates, prints or fails otherwise.
@@ -68,6 +71,35 @@ void desk_fold(size_t ram_words, const uint16_t *job, size_t job_words, uint16_t
  * words or holds a bit that isn't kept, else 20 if target_words isn't 53, and target is unchanged.
  * A file that it makes is accepted by desk_blit and desk_run. */
 void desk_widen(const uint16_t *old, size_t old_words, uint16_t *target, size_t target_words, uint32_t *number);
+
+/* Runs a Copper list that stands in memory from word start on, for one frame of 262 lines of 227 positions, with at most
+ * lent instructions. start and lent are any numbers. *done is the count of the instructions done.
+ * - *why is 0 when the frame is over, otherwise 1 when lent instructions are done, otherwise 2 when the next one is
+ *   refused; the three are looked at in this order before each instruction.
+ * - *number is 0 unless *why is 2. 1 and 2 come before any instruction and whatever lent is: ram and file are unchanged,
+ *   *done and *word are 0. Otherwise it is 23, 21, 22, or of a MOVE to 058 a blit's own 7, 8, 9, 14, 15, 16 or 17 (the
+ *   first that holds, in this order); the refused instruction changes nothing, and those before it stand.
+ * - *word is the word number of the next instruction, or of the refused one. Nothing goes round: past the end of memory it
+ *   counts on.
+ * The first word of an instruction even: a MOVE of the second to the offset in its bits 8-1, with the kept bits; bits 15-9
+ * have no effect. Offsets from 080 on are always permitted, 040 to 07E while bit 1 of COPCON is set, those below 040
+ * never, COPCON's own 02E among them. 058 does the blit of that size at once; words of the list that it overwrites are read
+ * as they then stand. The first word odd: a WAIT, or a SKIP if the second is odd too. It is satisfied where (line modulo
+ * 256) x 256 + position is at least the first word, both ANDed with the second with its bit 15 set and bit 0 clear.
+ * MOVE and SKIP take four positions, lines following one another; a WAIT goes on to the first place, six positions on or
+ * later, where it is satisfied, and if the frame has none it is done and the frame is over. A SKIP compares where it
+ * starts; if it is satisfied, the next instruction is passed over: it isn't read, isn't counted and takes no position.
+ * An instruction that starts within the frame is done whole. */
+void desk_frame(uint16_t *ram, size_t ram_words, uint16_t *file, size_t file_words, uint32_t start, uint32_t lent,
+                uint32_t *why, uint32_t *number, uint32_t *done, uint32_t *word);
+
+/* The same from a place of the beam on, which is line x 227 + position and may be any number; desk_frame begins at 0. From
+ * 59,474 on the frame is over. *place is where the beam stands at the end: where the next or the refused instruction
+ * would start, 59,474 or a little more when the frame is over, and beam itself for 1 and 2.
+ * A frame whose number is used up goes on with beam *place and start *word: in parts it ends as it does in one call. */
+void desk_frame_from(uint16_t *ram, size_t ram_words, uint16_t *file, size_t file_words,
+                     uint32_t beam, uint32_t start, uint32_t lent,
+                     uint32_t *why, uint32_t *number, uint32_t *done, uint32_t *word, uint32_t *place);
 
 #ifdef __cplusplus
 }

@@ -1,0 +1,28 @@
+#include "outcome.h"
+
+#include <stdio.h>
+
+void print_changed_words(const uint16_t *before, const uint16_t *after, size_t words)
+{
+    unsigned long changed = 0;
+
+    for (size_t at = 0; at < words; at++)
+        changed += before[at] != after[at];
+    printf("words changed: %lu\n", changed);
+    for (size_t at = 0; at < words; at++)
+        if (before[at] != after[at])
+            printf("  byte %05lX  word %6lu  %04X -> %04X\n", (unsigned long)at * 2, (unsigned long)at,
+                   (unsigned)before[at], (unsigned)after[at]);
+}
+
+void print_changed_registers(const uint16_t before[FILE_WORDS], const uint16_t after[FILE_WORDS])
+{
+    unsigned long changed = 0;
+
+    for (size_t reg = 0; reg < FILE_WORDS; reg++)
+        changed += before[reg] != after[reg];
+    printf("registers changed: %lu\n", changed);
+    for (size_t reg = 0; reg < FILE_WORDS; reg++)
+        if (before[reg] != after[reg])
+            printf("  %-7s  %04X -> %04X\n", register_name(reg), (unsigned)before[reg], (unsigned)after[reg]);
+}

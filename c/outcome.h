@@ -1,0 +1,16 @@
+/* What the tool's commands share: the exit status, and the printing of what was changed. */
+#ifndef OUTCOME_H
+#define OUTCOME_H
+
+#include <stddef.h>
+#include <stdint.h>
+
+#include "step.h"
+
+enum { DONE = 0, ERROR = 1, REFUSED = 2 };
+
+/* Each word that changed, with its byte address; each register that changed. */
+void print_changed_words(const uint16_t *before, const uint16_t *after, size_t words);
+void print_changed_registers(const uint16_t before[FILE_WORDS], const uint16_t after[FILE_WORDS]);
+
+#endif

@@ -1,0 +1,106 @@
+#include "reader.h"
+
+#include <stdarg.h>
+#include <stdlib.h>
+#include <string.h>
+
+bool complain(const struct reader *reader, const char *format, ...)
+{
+    va_list arguments;
+
+    fprintf(stderr, "%s:%lu: ", reader->name, reader->line);
+    va_start(arguments, format);
+    vfprintf(stderr, format, arguments);
+    va_end(arguments);
+    fputc('\n', stderr);
+    return false;
+}
+
+static bool is_blank(int sign)
+{
+    return sign == ' ' || sign == '\t' || sign == '\r';
+}
+
+static bool ends_token(int sign)
+{
+    return sign == EOF || sign == '\n' || sign == ';' || is_blank(sign);
+}
+
+/* The next sign that is neither blank nor comment. */
+static int next_sign(FILE *stream)
+{
+    int sign = getc(stream);
+
+    while (is_blank(sign))
+        sign = getc(stream);
+    if (sign == ';')
+        while (sign != '\n' && sign != EOF)
+            sign = getc(stream);
+    return sign;
+}
+
+bool next_token(struct reader *reader)
+{
+    size_t used = 0;
+    int sign = next_sign(reader->stream);
+
+    while (!ends_token(sign) && used < NAME_ROOM - 1) {
+        reader->token[used++] = sign > ' ' && sign <= '~' ? (char)sign : '?';
+        sign = getc(reader->stream);
+    }
+    reader->token[used] = '\0';
+    ungetc(sign, reader->stream);
+    return used > 0;
+}
+
+bool decimal(const char *text, size_t limit, size_t *value)
+{
+    size_t sum = 0;
+
+    if (*text == '\0')
+        return false;
+    for (; *text != '\0'; text++) {
+        size_t digit = (size_t)(*text - '0');
+
+        if (*text < '0' || *text > '9' || sum > limit / 10 || digit > limit - sum * 10)
+            return false;
+        sum = sum * 10 + digit;
+    }
+    *value = sum;
+    return true;
+}
+
+bool hexadecimal(const char *text, size_t least, size_t most, uint32_t *value)
+{
+    size_t digits = strspn(text, "0123456789ABCDEFabcdef");
+
+    if (digits < least || digits > most || text[digits] != '\0')
+        return false;
+    *value = (uint32_t)strtoul(text, NULL, 16);
+    return true;
+}
+
+bool word_token(const struct reader *reader, uint16_t *value)
+{
+    uint32_t word = 0;
+
+    if (!hexadecimal(reader->token, 4, 4, &word))
+        return complain(reader, "'%.40s' isn't a word of four hex digits", reader->token);
+    *value = (uint16_t)word;
+    return true;
+}
+
+bool next_decimal(struct reader *reader, const char *what, size_t limit, size_t *value)
+{
+    if (!next_token(reader))
+        return complain(reader, "%s: a number is missing", what);
+    if (!decimal(reader->token, limit, value))
+        return complain(reader, "%s: '%.40s' isn't a decimal number from 0 to %lu", what, reader->token,
+                        (unsigned long)limit);
+    return true;
+}
+
+bool line_ends(struct reader *reader)
+{
+    return !next_token(reader) || complain(reader, "'%.40s' is too much on this line", reader->token);
+}

@@ -15,14 +15,16 @@ use Rattle.beam.specs.Beam.{frameEnd}
 use Rattle.blit.specs.declared.types.Refusal as blits
 use Rattle.blit.specs.Refusal.{memorySize}
 use Rattle.blit.proofs.BlitLaws.{refusal-is-some}
-use Rattle.copper.specs.declared.types.Refusal.{Refusal}
-use Rattle.copper.specs.declared.types.Taken.{Taken}
+use Rattle.instruction.specs.declared.types.Refusal.{Refusal}
+use Rattle.instruction.specs.declared.types.Taken.{Taken}
 use Rattle.copper.specs.declared.types.Why.{Why}
 use Rattle.copper.specs.declared.types.Answer.{Answer}
-use Rattle.copper.specs.Effect.{Machine, machine, Step, effect}
+use Rattle.instruction.specs.Effect.{Machine, machine, Step, effect}
 use Rattle.copper.specs.Frame.{endOfFrame, usedUp, refusal, Frame, stopped, over, onward, startRefusal, frameFrom}
-use Rattle.copper.specs.Answer.{refusalNumber, leftByStep, left}
-use Rattle.copper.proofs.EffectLaws.{effect-stays}
+use Rattle.instruction.specs.Taken as takens
+use Rattle.instruction.specs.Taken.{refusalNumber}
+use Rattle.copper.specs.Answer.{left}
+use Rattle.instruction.proofs.EffectLaws.{effect-stays}
 
 -- a refusal's number is never 0
 pub refusalNumber-positive : (why : Refusal) → refusalNumber why ≡ 0 → ⊥
@@ -72,7 +74,7 @@ module _ (lent done place word : ℕ) (memory file : List ℕ) (whole : Frame)
         ∙ sym (ap (λ (left : ℕ). onward left done (machine memory file place word)) none) ∙ so-far
 
     module _ (few : done ≤ lent) (more : done ≡ lent → ⊥) (taken : Taken) (next end : List ℕ)
-        (gives : leftByStep taken place word next end ≡ effect (machine memory file place word)) where
+        (gives : takens.left taken place word next end ≡ effect (machine memory file place word)) where
       goes-on : onward (suc (lent - (done + 1))) done (machine memory file place word) ≡ whole
       goes-on =
           let one : lent - done ≡ suc (lent - (done + 1)) = omega (arith, few, more) in
@@ -81,7 +83,7 @@ module _ (lent done place word : ℕ) (memory file : List ℕ) (whole : Frame)
       pub onward-turn : (beam after : ℕ) → taken ≡ Taken.Done beam after
           → onward (lent - (done + 1)) (done + 1) (machine next end beam after) ≡ whole
       onward-turn beam after same =
-          let did : leftByStep (Taken.Done beam after) place word next end ≡ effect (machine memory file place word) = rw same at gives in
+          let did : takens.left (Taken.Done beam after) place word next end ≡ effect (machine memory file place word) = rw same at gives in
           let count : done + 1 ≡ suc done = omega arith in
           ap (λ (many : ℕ). onward (lent - (done + 1)) many (machine next end beam after)) count
           ∙ ap (λ (given : Step). onward (lent - (done + 1)) (suc done) (given .machine)) did
@@ -91,7 +93,7 @@ module _ (lent done place word : ℕ) (memory file : List ℕ) (whole : Frame)
       pub onward-of-refused : (why : Refusal) → taken ≡ Taken.Refused why
           → left (record { why = Why.Refused why; done = done; word = word; beam = place }) next end ≡ whole
       onward-of-refused why same =
-          let did : leftByStep (Taken.Refused why) place word next end ≡ effect (machine memory file place word) = rw same at gives in
+          let did : takens.left (Taken.Refused why) place word next end ≡ effect (machine memory file place word) = rw same at gives in
           let number : refusalNumber why ≡ effect (machine memory file place word) .number = ap (λ (given : Step). given .number) did in
           let some : effect (machine memory file place word) .number ≡ 0 → ⊥ = λ none. refusalNumber-positive why (number ∙ none) in
           let stays : machine next end place word ≡ machine memory file place word =

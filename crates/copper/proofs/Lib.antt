@@ -1,5 +1,2 @@
--- The laws of the Copper.
-pub mod InstructionLaws
-pub mod PermittedLaws
-pub mod EffectLaws
+-- The laws of a frame.
 pub mod FrameLaws

@@ -1,25 +1,11 @@
--- Paper 02, W8: the number and values for each case of an answer.
+-- Paper 02, W8: the number and values for each case of a frame's answer.
 use Prim.Native.Nat.{ℕ}
 use mathlib.Core.List.{List}
-use Rattle.blit.specs.Refusal as blits
-use Rattle.copper.specs.declared.types.Refusal.{Refusal}
-use Rattle.copper.specs.declared.types.Taken.{Taken}
+use Rattle.instruction.specs.Effect.{machine}
+use Rattle.instruction.specs.Taken.{refusalNumber}
 use Rattle.copper.specs.declared.types.Why.{Why}
 use Rattle.copper.specs.declared.types.Answer.{Answer}
-use Rattle.copper.specs.Effect.{machine, Step, step}
 use Rattle.copper.specs.Frame.{endOfFrame, usedUp, refusal, Frame, stopped}
-
--- the papers' numbers: 1, 2 and those of a blit are the blit's own
-abbrev pub refusalNumber : Refusal → ℕ
-refusalNumber (Refusal.Blit why) = blits.refusalNumber why
-refusalNumber Refusal.Forbidden = 21
-refusalNumber Refusal.NotModelled = 22
-refusalNumber Refusal.Outside = 23
-
--- what an instruction answers, and what memory and file hold as it is given; a refused one leaves beam and word
-abbrev pub leftByStep : Taken → (beam word : ℕ) → (memory file : List ℕ) → Step
-leftByStep (Taken.Done next after) beam word memory file = step 0 (machine memory file next after)
-leftByStep (Taken.Refused why) beam word memory file = step (refusalNumber why) (machine memory file beam word)
 
 -- why a frame stopped, and the refusal's number, 0 unless refused
 abbrev pub whyNumber : Why → ℕ

@@ -10,7 +10,7 @@ use Rattle.word.specs.Choice.{if_then_else_, Rule, _when_, given}
 use Rattle.file.specs.File.{accepted}
 use Rattle.beam.specs.Beam.{frameEnd}
 use Rattle.blit.specs.Refusal.{memorySize}
-use Rattle.copper.specs.Effect.{Machine, machine, effect}
+use Rattle.instruction.specs.Effect.{Machine, machine, effect}
 
 -- why a frame stopped
 abbrev pub endOfFrame : ℕ

@@ -1,17 +1,14 @@
 // The Copper: a list run for one frame over lent memory and a lent register file, by the blit's contract.
 pub mod answer;
-mod instruction;
 mod onward;
-mod permitted;
-mod step;
 pub mod types;
 
 ghost use mathlib.Core.Path.{_≡_};
 ghost use Rattle.copper.specs.Frame.{frame, frameFrom};
 ghost use Rattle.copper.specs.Answer.{left};
 use crate::types::Answer;
-use crate::types::Refusal;
 use crate::types::Why;
+use instruction::types::Refusal;
 
 // A refusal before any instruction.
 fn refused_at_start(why: blit::types::Refusal, beam: u32) -> Answer

@@ -2,12 +2,12 @@
 ghost use mathlib.Core.Path.{_≡_};
 ghost use Prim.Native.Nat.{_≤_};
 ghost use lib.ListN.{length};
-ghost use Rattle.copper.specs.Effect.{machine};
+ghost use Rattle.instruction.specs.Effect.{machine};
 ghost use Rattle.copper.specs.Frame.{onward};
 ghost use Rattle.copper.specs.Answer.{left};
 use crate::types::Answer;
-use crate::types::Taken;
 use crate::types::Why;
+use instruction::types::Taken;
 
 // Takes instructions to the end of the frame, or until the lent number is used up, or to the first refused one.
 pub fn onward(ram: &mut [u16], file: &mut [u16], beam: u32, start: u32, lent: u32) -> Answer
@@ -28,7 +28,7 @@ pub fn onward(ram: &mut [u16], file: &mut [u16], beam: u32, start: u32, lent: u3
                 beam: place,
             };
         }
-        match crate::step::take(ram, file, place, word) {
+        match instruction::take(ram, file, place, word) {
             Taken::Done(next, after) => {
                 place = next;
                 word = after;

@@ -13,11 +13,11 @@ use Rattle.beam.specs.Beam.{frameEnd}
 use Rattle.beam.specs.Satisfied.{satisfied}
 use Rattle.beam.specs.Wait.{firstSatisfied, waited}
 use Rattle.blit.specs.Blit.{Outcome, blitStep}
-use Rattle.copper.specs.declared.types.Instruction.{Instruction}
-use Rattle.copper.specs.declared.types.Instruction.the-variants.{Move, Wait, Skip}
-use Rattle.copper.specs.Instruction.{instruction}
-use Rattle.copper.specs.Permitted.{permitted, sizeOffset, modelled}
-use Rattle.copper.specs.Effect.{Machine, Step, step, moved, blitted, moveEffect, waitEffect, skipEffect, instructionEffect, effect}
+use Rattle.instruction.specs.declared.types.Instruction.{Instruction}
+use Rattle.instruction.specs.declared.types.Instruction.the-variants.{Move, Wait, Skip}
+use Rattle.instruction.specs.Instruction.{instruction}
+use Rattle.instruction.specs.Permitted.{permitted, sizeOffset, modelled}
+use Rattle.instruction.specs.Effect.{Machine, Step, step, moved, blitted, moveEffect, waitEffect, skipEffect, instructionEffect, effect}
 use Rattle.copper_facts.specs.BeamGoesForward.{BeamGoesForward}
 
 firstSatisfied-ge : (first second many place : ℕ) → place ≤ firstSatisfied first second many place

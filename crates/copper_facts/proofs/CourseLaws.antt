@@ -7,7 +7,7 @@ use mathlib.Core.Bool.{Bool, true, false, not, _&&_}
 use borrow.Author.Tests.{eqb-true, eqb-false, eq-eqb, not-true}
 use lib.Dec.{eqb}
 use Rattle.word.proofs.ChoiceLaws.{and-left, and-right}
-use Rattle.copper.specs.Effect.{Machine, effect}
+use Rattle.instruction.specs.Effect.{Machine, effect}
 use Rattle.copper.specs.Frame.{endOfFrame, usedUp, refusal, Frame, stopped, over, onward}
 use Rattle.copper.proofs.FrameLaws.{onward-when-over, onward-when-used-up, onward-when-refused, onward-when-done}
 use Rattle.copper_facts.specs.Course.{after, goes}

@@ -7,7 +7,7 @@ use mathlib.Core.List.{List}
 use borrow.Author.Tests.{eq-eqb, ne-eqb}
 use lib.Dec.{eqb}
 use Rattle.word.specs.Choice.{if_then_else_}
-use Rattle.copper.specs.Effect.{Machine, machine}
+use Rattle.instruction.specs.Effect.{Machine, machine}
 use Rattle.copper.specs.Frame.{usedUp, refusal, Frame, stopped, onward, startRefusal, frameFrom, frame}
 use Rattle.copper_facts.specs.CutAndGoOn.{_goingOn_, CutAndGoOn}
 use Rattle.copper_facts.specs.RefusedChangesNothing.{RefusedChangesNothing}

@@ -9,7 +9,7 @@ use borrow.Author.Tests.{leb-false, eq-eqb}
 use lib.Dec.{eqb}
 use Rattle.word.proofs.ChoiceLaws.{if-either}
 use Rattle.beam.specs.Beam.{frameEnd}
-use Rattle.copper.specs.Effect.{Machine, machine, effect}
+use Rattle.instruction.specs.Effect.{Machine, machine, effect}
 use Rattle.copper.specs.Frame.{usedUp, refusal, Frame, stopped, over, onward, startRefusal, frameFrom}
 use Rattle.copper_facts.specs.Course.{after, goes}
 use Rattle.copper_facts.specs.EveryFrameEnds.{mostInstructions, Ends, EveryFrameEnds}

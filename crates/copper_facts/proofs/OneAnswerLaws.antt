@@ -6,11 +6,12 @@ use lib.Dec.{eqb}
 use Rattle.word.specs.Choice.{if_then_else_}
 use Rattle.blit.specs.declared.types.Refusal.the-variants.{MemorySize, RegisterFile, Line, BothFills, FillUpward, ALeaves, BLeaves, CLeaves, DLeaves}
 use Rattle.blit.proofs.OneAnswer.{refusalOf}
-use Rattle.copper.specs.declared.types.Refusal.{Refusal}
+use Rattle.instruction.specs.declared.types.Refusal.{Refusal}
 use Rattle.copper.specs.declared.types.Why.{Why}
 use Rattle.copper.specs.declared.types.Answer.{Answer}
 use Rattle.copper.specs.Frame.{Frame}
-use Rattle.copper.specs.Answer.{refusalNumber, whyNumber, answerNumber, left}
+use Rattle.instruction.specs.Taken.{refusalNumber}
+use Rattle.copper.specs.Answer.{whyNumber, answerNumber, left}
 use Rattle.copper_facts.specs.OneAnswer.{OneAnswer}
 
 -- the refusal with a number

@@ -5,7 +5,7 @@ use native.Mathlib.Nat.{add-zero}
 use native.Mathlib.Omega.{arith}
 use mathlib.Core.Bool.{true, false}
 use mathlib.Core.List.{List}
-use Rattle.copper.specs.Effect.{Machine, machine, effect}
+use Rattle.instruction.specs.Effect.{Machine, machine, effect}
 use Rattle.copper.specs.Frame.{endOfFrame, usedUp, refusal, Frame, stopped, over, onward}
 use Rattle.copper_facts.specs.Course.{after, goes}
 use Rattle.copper_facts.specs.WhyExactly.{ExactWhy, WhyExactly}

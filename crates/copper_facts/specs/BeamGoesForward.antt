@@ -4,7 +4,7 @@
 use Prim.Native.Nat.{ℕ, _+_, _≤_}
 use mathlib.Core.Path.{_≡_}
 use Rattle.beam.specs.Wait.{waited}
-use Rattle.copper.specs.Effect.{Machine, effect}
+use Rattle.instruction.specs.Effect.{Machine, effect}
 
 pub record GoesForward : Type 0 where
   pub instruction : (here : Machine) → effect here .number ≡ 0 → here .beam + 4 ≤ effect here .machine .beam

@@ -2,7 +2,7 @@
 use Prim.Native.Nat.{ℕ, zero, suc}
 use mathlib.Core.Bool.{Bool, true, not, _&&_}
 use lib.Dec.{eqb}
-use Rattle.copper.specs.Effect.{Machine, effect}
+use Rattle.instruction.specs.Effect.{Machine, effect}
 use Rattle.copper.specs.Frame.{over}
 
 -- the machine after so many instructions

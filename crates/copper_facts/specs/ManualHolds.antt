@@ -10,7 +10,7 @@ use Rattle.word.specs.Choice.{if_then_else_}
 use Rattle.file.specs.Places.{fileLength, colour0}
 use Rattle.beam.specs.Beam.{lines, positions, line, position}
 use Rattle.beam.specs.Satisfied.{satisfied}
-use Rattle.copper.specs.Effect.{Machine, machine}
+use Rattle.instruction.specs.Effect.{Machine, machine}
 use Rattle.copper_facts.specs.Course.{after}
 
 pub record Example : Type 0 where

@@ -3,7 +3,7 @@
 use Prim.Native.Nat.{ℕ}
 use mathlib.Core.Path.{_≡_}
 use mathlib.Core.List.{List}
-use Rattle.copper.specs.Effect.{machine}
+use Rattle.instruction.specs.Effect.{machine}
 use Rattle.copper.specs.Frame.{usedUp, refusal, stopped, startRefusal, frame}
 
 pub record Stands (memory file : List ℕ) (start lent : ℕ) : Type 0 where

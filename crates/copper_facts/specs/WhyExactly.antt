@@ -5,7 +5,7 @@ use mathlib.Core.Path.{_≡_}
 use mathlib.Core.Bool.{true, false}
 use mathlib.Core.List.{List}
 use mathlib.Core.Logic.{_↔_}
-use Rattle.copper.specs.Effect.{Machine, machine, effect}
+use Rattle.instruction.specs.Effect.{Machine, machine, effect}
 use Rattle.copper.specs.Frame as frames
 use Rattle.copper.specs.Frame.{Frame, stopped, over, startRefusal, frame}
 use Rattle.copper_facts.specs.Course.{after, goes}

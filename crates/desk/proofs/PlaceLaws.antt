@@ -19,7 +19,7 @@ use Rattle.widen.specs.declared.types.Answer as widenAnswer
 use Rattle.widen.specs.Widen as widenings
 use Rattle.widen.specs.Widen.{widening}
 use Rattle.copper.specs.declared.types.Answer as copperAnswer
-use Rattle.copper.specs.Effect as coppers
+use Rattle.instruction.specs.Effect as coppers
 use Rattle.copper.specs.Answer as frames
 use Rattle.copper.specs.Frame.{Frame, stopped, Told, told, frame, frameFrom}
 use Rattle.blit.specs.declared.types.Answer as blitAnswer

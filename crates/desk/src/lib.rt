@@ -5,7 +5,7 @@ ghost use Rattle.blit.specs.Blit.{blit};
 ghost use Rattle.runner.specs.Run.{machine, ended, run};
 ghost use Rattle.folder.specs.Folding.{folding};
 ghost use Rattle.widen.specs.Widen.{widening};
-ghost use Rattle.copper.specs.Effect as copper;
+ghost use Rattle.instruction.specs.Effect as copper;
 ghost use Rattle.copper.specs.Frame.{stopped, frameFrom, frame, told};
 
 // Does one area blit.

@@ -2,7 +2,7 @@
 use mathlib.Core.Path.{_≡_}
 use Prim.Native.Nat.{_-_, _≤_}
 use lib.ListN.{length}
-use Rattle.copper.specs.Effect.{machine}
+use Rattle.instruction.specs.Effect.{machine}
 use Rattle.copper.specs.Frame.{onward}
 use Rattle.copper.proofs.FrameLaws.{onward-at-start, onward-at-end, onward-at-last, onward-turn, onward-of-refused}
 use borrow.Author.Needs.{needs}

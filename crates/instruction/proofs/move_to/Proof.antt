@@ -1,0 +1,74 @@
+-- `instruction::move_to` meets its contract: 21, then 22, then the blit or the register.
+use Rattle.instruction.proofs.EffectLaws.{moveEffect-when-forbidden, moveEffect-when-not-modelled, moveEffect-of-size, moveEffect-of-register}
+use borrow.Author.Needs.{needs}
+use Rattle.instruction.proofs.move_to.Statement.{statement}
+use Rattle.instruction.proofs.move_to.Tie as tie
+
+permitted-requires : tie.Need-permitted-requires
+permitted-requires c κs = search needs
+
+same-length : tie.Need-same-length
+same-length c = search needs
+
+returns : tie.Need-returns
+returns c = search moveEffect-when-forbidden
+
+modelled-requires : tie.Need-modelled-requires
+modelled-requires c κs = search needs
+
+same-length-2 : tie.Need-same-length-2
+same-length-2 c = search needs
+
+returns-2 : tie.Need-returns-2
+returns-2 c = search moveEffect-when-not-modelled
+
+blit-to-requires : tie.Need-blit-to-requires
+blit-to-requires c κs = search needs
+
+same-length-3 : tie.Need-same-length-3
+same-length-3 c = search needs
+
+same-length-4 : tie.Need-same-length-4
+same-length-4 c = search needs
+
+returns-3 : tie.Need-returns-3
+returns-3 c = search moveEffect-of-size
+
+place-requires : tie.Need-place-requires
+place-requires c κs = search needs
+
+kept-requires : tie.Need-kept-requires
+kept-requires c κs = search needs
+
+write-requires : tie.Need-write-requires
+write-requires c κs = search needs
+
+moved-requires : tie.Need-moved-requires
+moved-requires c κs = search needs
+
+same-length-5 : tie.Need-same-length-5
+same-length-5 c = search needs
+
+returns-4 : tie.Need-returns-4
+returns-4 c = search moveEffect-of-register
+
+pub move-to-spec : {M : Type 1} → statement M
+move-to-spec =
+    tie.close
+    (tie.spec
+    permitted-requires
+    same-length
+    returns
+    modelled-requires
+    same-length-2
+    returns-2
+    blit-to-requires
+    same-length-3
+    same-length-4
+    returns-3
+    place-requires
+    kept-requires
+    write-requires
+    moved-requires
+    same-length-5
+    returns-4)

@@ -1,0 +1,50 @@
+-- `instruction::take` meets its contract: 23 comes first, then the instruction that stands there.
+use Rattle.instruction.proofs.EffectLaws.{effect-when-outside, effect-when-inside}
+use borrow.Author.Needs.{needs}
+use Rattle.instruction.proofs.take.Statement.{statement}
+use Rattle.instruction.proofs.take.Tie as tie
+
+add-if1 : tie.Need-add-if1
+add-if1 c = search needs
+
+returns : tie.Need-returns
+returns c = search effect-when-outside
+
+read-requires : tie.Need-read-requires
+read-requires c κs = search needs
+
+add-read : tie.Need-add-read
+add-read c = search needs
+
+read-requires-2 : tie.Need-read-requires-2
+read-requires-2 c κs = search needs
+
+instruction-requires : tie.Need-instruction-requires
+instruction-requires c κs = search needs
+
+do-instruction-requires : tie.Need-do-instruction-requires
+do-instruction-requires c κs = search needs
+
+same-length : tie.Need-same-length
+same-length c = search needs
+
+same-length-2 : tie.Need-same-length-2
+same-length-2 c = search needs
+
+returns-2 : tie.Need-returns-2
+returns-2 c = search effect-when-inside
+
+pub take-spec : {M : Type 1} → statement M
+take-spec =
+    tie.close
+    (tie.spec
+    add-if1
+    returns
+    read-requires
+    add-read
+    read-requires-2
+    instruction-requires
+    do-instruction-requires
+    same-length
+    same-length-2
+    returns-2)

@@ -1,0 +1,22 @@
+// The offsets that a MOVE may write.
+ghost use mathlib.Core.Path.{_≡_};
+ghost use Rattle.instruction.specs.Permitted.{danger, permitted, modelled};
+
+// The danger bit: bit 1 of COPCON.
+fn danger(file: &[u16]) -> bool
+    ensures { λ set. ⌜ set ≡ danger (now (file .entry)) ⌝ }
+{
+    word::memory::read(file, 19) / 2 % 2 == 1
+}
+
+pub fn permitted(file: &[u16], offset: u16) -> bool
+    ensures { λ may. ⌜ may ≡ permitted (now (file .entry)) offset ⌝ }
+{
+    (0x080 <= offset) | ((0x040 <= offset) & danger(file))
+}
+
+pub fn modelled(offset: u16) -> bool
+    ensures { λ known. ⌜ known ≡ modelled offset ⌝ }
+{
+    (offset == 0x058) | (file::place(offset) < file::FLAG)
+}

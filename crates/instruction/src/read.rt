@@ -1,0 +1,16 @@
+// The instruction that two words are.
+ghost use mathlib.Core.Path.{_≡_};
+ghost use Rattle.instruction.specs.Instruction.{instruction};
+use crate::types::Instruction;
+
+pub fn instruction(first: u16, second: u16) -> Instruction
+    ensures { λ found. ⌜ found ≡ instruction first second ⌝ }
+{
+    if first % 2 == 0 {
+        return Instruction::Move(first & 0x01FE, second);
+    }
+    if second % 2 == 0 {
+        return Instruction::Wait(first, second);
+    }
+    Instruction::Skip(first, second)
+}

@@ -28,10 +28,12 @@ pub fn frame_from(ram: &mut [u16], file: &mut [u16], beam: u32, start: u32, lent
         left answer (now (ram .exit)) (now (file .exit))
         ≡ frameFrom (now (ram .entry)) (now (file .entry)) beam start lent ⌝ }
 {
-    if blit::memory::memory_size(ram.len()) {
+    let bad = blit::memory::memory_size(ram.len());
+    let fine = file::accepted(file);
+    if bad {
         return refused_at_start(blit::types::Refusal::MemorySize, beam);
     }
-    if !file::accepted(file) {
+    if !fine {
         return refused_at_start(blit::types::Refusal::RegisterFile, beam);
     }
     crate::onward::onward(ram, file, beam, start, lent)

@@ -30,9 +30,9 @@ pub fn onward(ram: &mut [u16], file: &mut [u16], beam: u32, start: u32, lent: u3
         }
         match instruction::take(ram, file, place, word) {
             Taken::Done(next, after) => {
+                done = done + 1;
                 place = next;
                 word = after;
-                done = done + 1;
             }
             Taken::Refused(why) => {
                 return Answer {

@@ -33,7 +33,8 @@ fn blit_to(ram: &mut [u16], file: &mut [u16], size: u16, beam: u32, word: u32) -
         ≡ blitted (blitStep (now (ram .entry)) (now (file .entry)) size)
         (machine (now (ram .entry)) (now (file .entry)) beam word) ⌝ }
 {
-    match blit::blit_step(ram, file, size) {
+    let answer = blit::blit_step(ram, file, size);
+    match answer {
         blit::types::Answer::Done(_) => moved(beam, word),
         blit::types::Answer::Refused(why) => Taken::Refused(Refusal::Blit(why)),
     }
@@ -53,10 +54,12 @@ fn move_to(
         left taken beam word (now (ram .exit)) (now (file .exit))
         ≡ moveEffect offset value (machine (now (ram .entry)) (now (file .entry)) beam word) ⌝ }
 {
-    if !crate::permitted::permitted(file, offset) {
+    let may = crate::permitted::permitted(file, offset);
+    let known = crate::permitted::modelled(offset);
+    if !may {
         return Taken::Refused(Refusal::Forbidden);
     }
-    if !crate::permitted::modelled(offset) {
+    if !known {
         return Taken::Refused(Refusal::NotModelled);
     }
     if offset == 0x058 {

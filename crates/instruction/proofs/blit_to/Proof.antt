@@ -13,8 +13,8 @@ enum-told c = search needs
 moved-requires : tie.Need-moved-requires
 moved-requires c κs = search needs
 
-enum-known-why : tie.Need-enum-known-why
-enum-known-why c = search needs
+enum-known-answer : tie.Need-enum-known-answer
+enum-known-answer c = search needs
 
 same-length : tie.Need-same-length
 same-length c = search needs
@@ -41,7 +41,7 @@ blit-to-spec =
     blit-step-requires
     enum-told
     moved-requires
-    enum-known-why
+    enum-known-answer
     same-length
     same-length-2
     returns

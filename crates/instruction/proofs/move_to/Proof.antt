@@ -7,14 +7,14 @@ use Rattle.instruction.proofs.move_to.Tie as tie
 permitted-requires : tie.Need-permitted-requires
 permitted-requires c κs = search needs
 
+modelled-requires : tie.Need-modelled-requires
+modelled-requires c κs = search needs
+
 same-length : tie.Need-same-length
 same-length c = search needs
 
 returns : tie.Need-returns
 returns c = search moveEffect-when-forbidden
-
-modelled-requires : tie.Need-modelled-requires
-modelled-requires c κs = search needs
 
 same-length-2 : tie.Need-same-length-2
 same-length-2 c = search needs
@@ -57,9 +57,9 @@ move-to-spec =
     tie.close
     (tie.spec
     permitted-requires
+    modelled-requires
     same-length
     returns
-    modelled-requires
     same-length-2
     returns-2
     blit-to-requires

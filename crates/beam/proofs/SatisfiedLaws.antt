@@ -1,12 +1,12 @@
 -- Laws of a comparison: a line that lies below the first word's has no place where it is satisfied.
-use mathlib.Core.Path.{_≡_, refl, sym, ap, _∙_}
-use Prim.Native.Nat.{ℕ, _+_, _*_, _/_, _%_, _^_, _<_, _≤_}
+use mathlib.Core.Path.{_≡_, sym, ap, _∙_}
+use Prim.Native.Nat.{ℕ, _+_, _*_, _/_, _%_, _^_, _<_}
 use native.Mathlib.Omega.{arith}
 use mathlib.Core.Bool.{Bool, true, false}
 use borrow.Author.Tests.{lt-leb, ltb-true}
 use lib.Dec.{ltb, leb}
 use lib.Bits.{bitAnd, and-block, and-lt}
-use Rattle.beam.specs.Beam.{line, position}
+use Rattle.beam.specs.Beam.{line}
 use Rattle.beam.specs.Satisfied.{mask, compared, satisfied}
 
 pub satisfied-of-parts : (first second place bits number : ℕ) → bits ≡ mask second → number ≡ compared place
@@ -25,9 +25,6 @@ and-of-bytes number bits =
     ∙ and-block 8 (number / 256) (bits / 256) (number % 256) (bits % 256) (omega arith) (omega arith)
 
 -- the line's byte decides where it lies below
-byte-decides : (high low part least : ℕ) → high < part → low < 256 → high * 256 + low < part * 256 + least
-byte-decides high low part least below small = omega (arith, below, small)
-
 pub satisfied-on-line-below : (first second place : ℕ)
     → ltb (bitAnd (line place % 256) (mask second / 256)) (bitAnd (first / 256) (mask second / 256)) ≡ true
     → satisfied first second place ≡ false

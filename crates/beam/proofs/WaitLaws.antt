@@ -1,12 +1,12 @@
 -- Laws of a WAIT: places that aren't satisfied are passed, and the first that is satisfied is where it ends.
-use mathlib.Core.Path.{_≡_, refl, sym, ap, _∙_}
+use mathlib.Core.Path.{_≡_, sym, ap, _∙_}
 use Prim.Native.Nat.{ℕ, zero, suc, _+_, _-_, _*_, _/_, _%_, _<_, _≤_}
 use native.Mathlib.Nat.{add-zero, zero-add}
 use native.Mathlib.Omega.{arith}
 use mathlib.Core.Bool.{Bool, true, false}
 use lib.Dec.{ltb}
 use lib.Bits.{bitAnd}
-use Rattle.beam.specs.Beam.{positions, frameEnd, line}
+use Rattle.beam.specs.Beam.{frameEnd, line}
 use Rattle.beam.specs.Satisfied.{mask, satisfied}
 use Rattle.beam.specs.Wait.{firstSatisfied, waited}
 use Rattle.beam.proofs.SatisfiedLaws.{satisfied-on-line-below}

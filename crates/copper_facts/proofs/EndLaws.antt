@@ -1,16 +1,14 @@
 -- A frame has room for 14,869 instructions: so many as are done have taken the beam four places on each.
-use mathlib.Core.Path.{_≡_, sym, ap, _∙_}
+use mathlib.Core.Path.{_≡_}
 use Prim.Native.Nat.{ℕ, zero, suc, _+_, _*_, _<_, _≤_}
-use native.Mathlib.Nat.{add-zero}
 use native.Mathlib.Omega.{arith}
 use mathlib.Core.Bool.{true, false}
-use mathlib.Core.List.{List}
-use borrow.Author.Tests.{leb-false, eq-eqb}
+use borrow.Author.Tests.{leb-false}
 use lib.Dec.{eqb}
 use Rattle.word.proofs.ChoiceLaws.{if-either}
 use Rattle.beam.specs.Beam.{frameEnd}
 use Rattle.instruction.specs.Effect.{Machine, machine, effect}
-use Rattle.copper.specs.Frame.{usedUp, refusal, Frame, stopped, over, onward, startRefusal, frameFrom}
+use Rattle.copper.specs.Frame.{refusal, stopped, over, onward, startRefusal, frameFrom}
 use Rattle.copper_facts.specs.Course.{after, goes}
 use Rattle.copper_facts.specs.EveryFrameEnds.{mostInstructions, Ends, EveryFrameEnds}
 use Rattle.copper_facts.proofs.BeamLaws.{effect-forward}

@@ -1,15 +1,14 @@
 -- Where the sample list's WAITs end. A line that lies below the first word's is passed whole, of any other each position is tried.
-use mathlib.Core.Path.{_≡_, refl, sym, ap, _∙_}
-use Prim.Native.Nat.{ℕ, suc, _+_, _-_, _*_, _/_, _%_, _<_, _≤_}
+use mathlib.Core.Path.{_≡_, refl, ap, _∙_}
+use Prim.Native.Nat.{ℕ, _+_, _-_, _*_, _/_, _%_, _<_, _≤_}
 use native.Mathlib.Omega.{arith}
 use mathlib.Core.Bool.{Bool, true, false, not, _||_}
-use mathlib.Core.List.{List, _++_, map}
 use borrow.Author.Tests.{not-true}
 use lib.Dec.{T, ltb}
 use lib.Bits.{bitAnd}
 use Rattle.word.specs.Choice.{every}
 use Rattle.word.proofs.ChoiceLaws.{every-at}
-use Rattle.beam.specs.Beam.{positions, frameEnd, line}
+use Rattle.beam.specs.Beam.{frameEnd, line}
 use Rattle.beam.specs.Satisfied.{mask, satisfied}
 use Rattle.beam.specs.Wait.{firstSatisfied, waited}
 use Rattle.beam.proofs.SatisfiedLaws.{satisfied-on-line-below}

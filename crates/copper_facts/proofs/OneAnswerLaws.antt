@@ -1,7 +1,6 @@
 -- Two answers that meet the promise are equal: the numbers tell the refusals apart, and why a frame stopped is told.
 use mathlib.Core.Path.{_≡_, refl, sym, ap, _∙_}
 use Prim.Native.Nat.{ℕ}
-use native.Mathlib.Omega.{arith}
 use lib.Dec.{eqb}
 use Rattle.word.specs.Choice.{if_then_else_}
 use Rattle.blit.specs.declared.types.Refusal.the-variants.{MemorySize, RegisterFile, Line, BothFills, FillUpward, ALeaves, BLeaves, CLeaves, DLeaves}
@@ -11,7 +10,7 @@ use Rattle.copper.specs.declared.types.Why.{Why}
 use Rattle.copper.specs.declared.types.Answer.{Answer}
 use Rattle.copper.specs.Frame.{Frame}
 use Rattle.instruction.specs.Taken.{refusalNumber}
-use Rattle.copper.specs.Answer.{whyNumber, answerNumber, left}
+use Rattle.copper.specs.Answer.{whyNumber, answerNumber}
 use Rattle.copper_facts.specs.OneAnswer.{OneAnswer}
 
 -- the refusal with a number

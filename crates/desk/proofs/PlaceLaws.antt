@@ -21,7 +21,7 @@ use Rattle.widen.specs.Widen.{widening}
 use Rattle.copper.specs.declared.types.Answer as copperAnswer
 use Rattle.instruction.specs.Effect as coppers
 use Rattle.copper.specs.Answer as frames
-use Rattle.copper.specs.Frame.{Frame, stopped, Told, told, frame, frameFrom}
+use Rattle.copper.specs.Frame.{stopped, told, frame, frameFrom}
 use Rattle.blit.specs.declared.types.Answer as blitAnswer
 use Rattle.blit.specs.Blit as blits
 use Rattle.blit.specs.Blit.{blit}

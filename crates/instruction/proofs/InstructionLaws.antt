@@ -2,7 +2,6 @@
 use mathlib.Core.Path.{_≡_}
 use Prim.Native.Nat.{ℕ, _%_}
 use borrow.Author.Tests.{eq-eqb, ne-eqb}
-use lib.Dec.{eqb}
 use Rattle.instruction.specs.declared.types.Instruction.the-variants.{Move, Wait, Skip}
 use Rattle.instruction.specs.Instruction.{offset, instruction}
 

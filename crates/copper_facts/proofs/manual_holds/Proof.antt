@@ -11,7 +11,7 @@ use Rattle.file.specs.File.{registers, placeIn, place, isRegister, keptBits, ke
 use Rattle.beam.specs.Satisfied.{satisfied}
 use Rattle.instruction.specs.Instruction.{instruction}
 use Rattle.instruction.specs.Permitted.{danger, permitted, modelled}
-use Rattle.instruction.specs.Effect.{blitted, moveEffect, waitEffect, skipEffect, instructionEffect, effect}
+use Rattle.instruction.specs.Effect.{moveEffect, waitEffect, instructionEffect, effect}
 use Rattle.copper_facts.specs.Course.{after}
 use Rattle.copper_facts.specs.ManualHolds.{Example, linesBefore, down, comparisons, sampleList}
 use Rattle.copper_facts.proofs.ManualLaws.{waited-for-150, waited-for-never}

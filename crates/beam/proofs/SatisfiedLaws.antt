@@ -3,10 +3,10 @@ use mathlib.Core.Path.{_≡_, sym, ap, _∙_}
 use Prim.Native.Nat.{ℕ, _+_, _*_, _/_, _%_, _^_, _<_}
 use native.Mathlib.Omega.{arith}
 use mathlib.Core.Bool.{Bool, true, false}
-use borrow.Author.Tests.{lt-leb, ltb-true}
+use borrow.Author.Tests.{lt-leb, leb-false, ltb-true}
 use lib.Dec.{ltb, leb}
 use lib.Bits.{bitAnd, and-block, and-lt}
-use Rattle.beam.specs.Beam.{line}
+use Rattle.beam.specs.Beam.{line, position}
 use Rattle.beam.specs.Satisfied.{mask, compared, satisfied}
 
 pub satisfied-of-parts : (first second place bits number : ℕ) → bits ≡ mask second → number ≡ compared place
@@ -24,6 +24,16 @@ and-of-bytes number bits =
     ∙ ap (λ (these : ℕ). bitAnd (number / 256 * 2 ^ 8 + number % 256) these) parts
     ∙ and-block 8 (number / 256) (bits / 256) (number % 256) (bits % 256) (omega arith) (omega arith)
 
+-- a place's line and position ANDed apart
+compared-bytes : (bits place : ℕ)
+    → bitAnd (compared place) bits ≡ bitAnd (line place % 256) (bits / 256) * 256 + bitAnd (position place) (bits % 256)
+compared-bytes bits place =
+    let high : compared place / 256 ≡ line place % 256 = omega arith in
+    let low : compared place % 256 ≡ position place = omega arith in
+    and-of-bytes (compared place) bits
+    ∙ ap (λ (byte : ℕ). bitAnd byte (bits / 256) * 256 + bitAnd (compared place % 256) (bits % 256)) high
+    ∙ ap (λ (byte : ℕ). bitAnd (line place % 256) (bits / 256) * 256 + bitAnd byte (bits % 256)) low
+
 -- the line's byte decides where it lies below
 pub satisfied-on-line-below : (first second place : ℕ)
     → ltb (bitAnd (line place % 256) (mask second / 256)) (bitAnd (first / 256) (mask second / 256)) ≡ true
@@ -31,13 +41,10 @@ pub satisfied-on-line-below : (first second place : ℕ)
 unfolding satisfied
 satisfied-on-line-below first second place below =
     let bits : ℕ = mask second in
-    let high : compared place / 256 ≡ line place % 256 = omega arith in
-    let here : bitAnd (compared place) bits ≡ bitAnd (line place % 256) (bits / 256) * 256 + bitAnd (compared place % 256) (bits % 256) =
-    and-of-bytes (compared place) bits ∙ ap (λ (byte : ℕ). bitAnd byte (bits / 256) * 256 + bitAnd (compared place % 256) (bits % 256)) high in
-    let there = and-of-bytes first bits in
     let less = ltb-true (bitAnd (line place % 256) (bits / 256)) (bitAnd (first / 256) (bits / 256)) below in
-    let low : bitAnd (compared place % 256) (bits % 256) < 2 ^ 8 = and-lt 8 (compared place % 256) (bits % 256) (omega arith) (omega arith) in
-    lt-leb (bitAnd first bits) (bitAnd (compared place) bits) (omega (arith, here, there, less, low))
+    let low : bitAnd (position place) (bits % 256) < 2 ^ 8 = and-lt 8 (position place) (bits % 256) (omega arith) (omega arith) in
+    lt-leb (bitAnd first bits) (bitAnd (compared place) bits)
+    (omega (arith, compared-bytes bits place, and-of-bytes first bits, less, low))
 
 pub line-below-of-mask : (first second place bits : ℕ) → bits ≡ mask second
     → ltb (bitAnd (place / 227 % 256) (bits / 256)) (bitAnd (first / 256) (bits / 256))
@@ -47,3 +54,18 @@ line-below-of-mask first second place bits masks = rw masks
 pub satisfied-told : (first second place : ℕ) (holds : Bool) → holds ≡ satisfied first second place → holds ≡ false
     → satisfied first second place ≡ false
 satisfied-told first second place holds is fails = sym is ∙ fails
+
+-- on the line of a place that isn't satisfied the position's byte decides: the line lies below or compares alike
+pub satisfied-on-line-of : (first second place other : ℕ) → satisfied first second place ≡ false → line other ≡ line place
+    → bitAnd (position other) (mask second % 256) < bitAnd (first % 256) (mask second % 256)
+    → satisfied first second other ≡ false
+unfolding satisfied
+satisfied-on-line-of first second place other fails same low =
+    let bits : ℕ = mask second in
+    let less = leb-false (bitAnd first bits) (bitAnd (compared place) bits) fails in
+    let byte : (at : ℕ) → bitAnd (compared at) bits ≡ bitAnd (line at % 256) (bits / 256) * 256 + bitAnd (position at) (bits % 256) = compared-bytes bits in
+    let alike : bitAnd (line other % 256) (bits / 256) ≡ bitAnd (line place % 256) (bits / 256) =
+    ap (λ (this : ℕ). bitAnd (this % 256) (bits / 256)) same in
+    let small : bitAnd (first % 256) (bits % 256) < 2 ^ 8 = and-lt 8 (first % 256) (bits % 256) (omega arith) (omega arith) in
+    lt-leb (bitAnd first bits) (bitAnd (compared other) bits)
+    (omega (arith, less, byte place, byte other, and-of-bytes first bits, alike, small, low))

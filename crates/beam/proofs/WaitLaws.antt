@@ -6,10 +6,10 @@ use native.Mathlib.Omega.{arith}
 use mathlib.Core.Bool.{Bool, true, false}
 use lib.Dec.{ltb}
 use lib.Bits.{bitAnd}
-use Rattle.beam.specs.Beam.{frameEnd, line}
+use Rattle.beam.specs.Beam.{frameEnd, line, position}
 use Rattle.beam.specs.Satisfied.{mask, satisfied}
 use Rattle.beam.specs.Wait.{firstSatisfied, waited}
-use Rattle.beam.proofs.SatisfiedLaws.{satisfied-on-line-below}
+use Rattle.beam.proofs.SatisfiedLaws.{satisfied-on-line-below, satisfied-on-line-of}
 
 -- so many places, none of which is satisfied, are passed
 pub firstSatisfied-passes : (first second many more place : ℕ)
@@ -84,3 +84,18 @@ pub firstSatisfied-turn : (first second place next whole : ℕ)
     → firstSatisfied first second (frameEnd - place) place ≡ whole
     → firstSatisfied first second (frameEnd - next) next ≡ whole
 firstSatisfied-turn first second place next whole passes so-far = passes ∙ so-far
+
+-- a turn of the loop along a line: a position below the first word's, masked
+pub firstSatisfied-on-line : (first second place next at bits least whole : ℕ)
+    → bits ≡ mask second % 256 → least ≡ bitAnd (first % 256) bits → satisfied first second place ≡ false → place < frameEnd
+    → next ≡ place / 227 * 227 + at → at < 227 → bitAnd at bits < least
+    → firstSatisfied first second (frameEnd - next) next ≡ whole
+    → firstSatisfied first second (frameEnd - (next + 1)) (next + 1) ≡ whole
+firstSatisfied-on-line first second place next at bits least whole is-bits is-least fails inside here short low so-far =
+    let same : line next ≡ line place = omega (arith, here, short) in
+    let there : position next ≡ at = omega (arith, here, short) in
+    let below : bitAnd (position next) (mask second % 256) < bitAnd (first % 256) (mask second % 256) =
+    rw (there, ← is-bits, ← is-least) low in
+    firstSatisfied-past-place first second next (omega (arith, here, short, inside))
+    (satisfied-on-line-of first second place next fails same below)
+    ∙ so-far

@@ -54,8 +54,9 @@ fn move_to(
         left taken beam word (now (ram .exit)) (now (file .exit))
         ≡ moveEffect offset value (machine (now (ram .entry)) (now (file .entry)) beam word) ⌝ }
 {
+    let place = file::place(offset);
     let may = crate::permitted::permitted(file, offset);
-    let known = crate::permitted::modelled(offset);
+    let known = crate::permitted::modelled(offset, place);
     if !may {
         return Taken::Refused(Refusal::Forbidden);
     }
@@ -65,7 +66,6 @@ fn move_to(
     if offset == 0x058 {
         return blit_to(ram, file, value, beam, word);
     }
-    let place = file::place(offset);
     word::memory::write(file, place, file::kept(place, value));
     moved(beam, word)
 }

@@ -1,5 +1,6 @@
 // The offsets that a MOVE may write.
 ghost use mathlib.Core.Path.{_≡_};
+ghost use Rattle.file.specs.File.{place};
 ghost use Rattle.instruction.specs.Permitted.{danger, permitted, modelled};
 
 // The danger bit: bit 1 of COPCON.
@@ -15,8 +16,10 @@ pub fn permitted(file: &[u16], offset: u16) -> bool
     (0x080 <= offset) | ((0x040 <= offset) & danger(file))
 }
 
-pub fn modelled(offset: u16) -> bool
+// An offset whose place in the register file has been found.
+pub fn modelled(offset: u16, found: u32) -> bool
+    requires { ⌜ found ≡ place offset ⌝ }
     ensures { λ known. ⌜ known ≡ modelled offset ⌝ }
 {
-    (offset == 0x058) | (file::place(offset) < file::FLAG)
+    (offset == 0x058) | (found < file::FLAG)
 }

@@ -1,5 +1,5 @@
--- `beam::next_tried` meets its contract: no place is left out where the comparison is satisfied.
-use Rattle.beam.proofs.WaitLaws.{firstSatisfied-past-line, firstSatisfied-past-place}
+-- `beam::next_tried` meets its contract: a line that lies below is passed whole, of any other the positions.
+use Rattle.beam.proofs.WaitLaws.{firstSatisfied-past-line}
 use borrow.Author.Needs.{needs}
 use Rattle.beam.proofs.next_tried.Statement.{statement}
 use Rattle.beam.proofs.next_tried.Tie as tie
@@ -16,12 +16,13 @@ mul-result c = search needs
 returns : tie.Need-returns
 returns c = (search needs, search needs, search firstSatisfied-past-line)
 
-add-result-2 : tie.Need-add-result-2
-add-result-2 c = search needs
+next-on-line-requires : tie.Need-next-on-line-requires
+next-on-line-requires c κs = search needs
 
 returns-2 : tie.Need-returns-2
-returns-2 c = (search needs, search needs, search firstSatisfied-past-place)
+returns-2 c = search needs
 
 pub next-tried-spec : {M : Type 1} → statement M
 next-tried-spec =
-    tie.close (tie.spec line-below-requires add-result mul-result returns add-result-2 returns-2)
+    tie.close
+    (tie.spec line-below-requires add-result mul-result returns next-on-line-requires returns-2)

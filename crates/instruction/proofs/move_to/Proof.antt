@@ -4,6 +4,9 @@ use borrow.Author.Needs.{needs}
 use Rattle.instruction.proofs.move_to.Statement.{statement}
 use Rattle.instruction.proofs.move_to.Tie as tie
 
+place-requires : tie.Need-place-requires
+place-requires c κs = search needs
+
 permitted-requires : tie.Need-permitted-requires
 permitted-requires c κs = search needs
 
@@ -34,9 +37,6 @@ same-length-4 c = search needs
 returns-3 : tie.Need-returns-3
 returns-3 c = search moveEffect-of-size
 
-place-requires : tie.Need-place-requires
-place-requires c κs = search needs
-
 kept-requires : tie.Need-kept-requires
 kept-requires c κs = search needs
 
@@ -56,6 +56,7 @@ pub move-to-spec : {M : Type 1} → statement M
 move-to-spec =
     tie.close
     (tie.spec
+    place-requires
     permitted-requires
     modelled-requires
     same-length
@@ -66,7 +67,6 @@ move-to-spec =
     same-length-3
     same-length-4
     returns-3
-    place-requires
     kept-requires
     write-requires
     moved-requires

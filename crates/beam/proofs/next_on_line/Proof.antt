@@ -1,0 +1,70 @@
+-- `beam::next_on_line` meets its contract: the places passed on the line aren't satisfied.
+use mathlib.Core.Path.{_≡_}
+use Prim.Native.Nat.{_+_, _-_, _*_, _/_, _%_, _<_, _≤_}
+use lib.Bits.{bitAnd}
+use Rattle.beam.specs.Beam.{frameEnd}
+use Rattle.beam.specs.Satisfied.{mask}
+use Rattle.beam.specs.Wait.{firstSatisfied}
+use Rattle.beam.proofs.WaitLaws.{firstSatisfied-past-place, firstSatisfied-on-line}
+use borrow.Author.Needs.{needs}
+use Rattle.beam.proofs.next_on_line.Statement.{statement}
+use Rattle.beam.proofs.next_on_line.Tie as tie
+
+abbrev Inv-loop : tie.InvT-loop
+Inv-loop first second place bits least next₀ position₀ next position =
+    (firstSatisfied first second (frameEnd - next) next ≡ firstSatisfied first second (frameEnd - place) place)
+    × (bits ≡ mask second % 256)
+    × (least ≡ bitAnd (first % 256) bits)
+    × (next ≡ place / 227 * 227 + position)
+    × (place % 227 < position)
+    × (position ≤ 227)
+
+abbrev μ-loop : tie.MeasureT-loop
+μ-loop first second place bits least next₀ position₀ next position = 227 - position
+
+mask-requires : tie.Need-mask-requires Inv-loop μ-loop
+mask-requires c κs = search needs
+
+add-next : tie.Need-add-next Inv-loop μ-loop
+add-next c = search needs
+
+add-position : tie.Need-add-position Inv-loop μ-loop
+add-position c = search needs
+
+loop-holds : tie.Need-loop-holds Inv-loop μ-loop
+loop-holds c = (search firstSatisfied-past-place, search needs, search needs, search needs, search needs, search needs)
+
+returns : tie.Need-returns Inv-loop μ-loop
+returns c = (search needs, search needs, search needs)
+
+add-next-2 : tie.Need-add-next-2 Inv-loop μ-loop
+add-next-2 c = search needs
+
+add-position-2 : tie.Need-add-position-2 Inv-loop μ-loop
+add-position-2 c = search needs
+
+loop-less : tie.Need-loop-less Inv-loop μ-loop
+loop-less c = search needs
+
+loop-again : tie.Need-loop-again Inv-loop μ-loop
+loop-again c = (search firstSatisfied-on-line, search needs, search needs, search needs, search needs, search needs)
+
+returns-2 : tie.Need-returns-2 Inv-loop μ-loop
+returns-2 c = (search needs, search needs, search needs)
+
+pub next-on-line-spec : {M : Type 1} → statement M
+next-on-line-spec =
+    tie.close
+    (tie.spec
+    Inv-loop
+    μ-loop
+    mask-requires
+    add-next
+    add-position
+    loop-holds
+    returns
+    add-next-2
+    add-position-2
+    loop-less
+    loop-again
+    returns-2)

@@ -43,13 +43,16 @@ fn line_below(first: u16, second: u16, place: u32) -> bool
     place / 227 % 256 & bits < (first as u32) / 256 & bits
 }
 
-// The next place on a line whose position is at least the first word's, masked; the next line's first where there is none.
-// After a place that isn't satisfied no other on its line is.
-fn next_on_line(first: u16, second: u16, place: u32) -> u32
+// The place to try after one that isn't satisfied. A line that lies below is passed whole; on any other the position's byte
+// decides.
+fn next_tried(first: u16, second: u16, place: u32) -> u32
     requires { ⌜ (place < frameEnd) × (satisfied first second place ≡ false) ⌝ }
     ensures { λ next. ⌜ (place < next) × (next ≤ frameEnd)
         × (firstSatisfied first second (frameEnd - next) next ≡ firstSatisfied first second (frameEnd - place) place) ⌝ }
 {
+    if line_below(first, second, place) {
+        return (place / 227 + 1) * 227;
+    }
     let bits = mask(second) % 256;
     let least = (first as u32) % 256 & bits;
     let mut next = place + 1;
@@ -62,18 +65,6 @@ fn next_on_line(first: u16, second: u16, place: u32) -> u32
         position = position + 1;
     }
     next
-}
-
-// The place to try after one that isn't satisfied; no place is left out where the comparison is.
-fn next_tried(first: u16, second: u16, place: u32) -> u32
-    requires { ⌜ (place < frameEnd) × (satisfied first second place ≡ false) ⌝ }
-    ensures { λ next. ⌜ (place < next) × (next ≤ frameEnd)
-        × (firstSatisfied first second (frameEnd - next) next ≡ firstSatisfied first second (frameEnd - place) place) ⌝ }
-{
-    if line_below(first, second, place) {
-        return (place / 227 + 1) * 227;
-    }
-    next_on_line(first, second, place)
 }
 
 // The first place at or after one where a comparison is satisfied; past the frame where there is none.

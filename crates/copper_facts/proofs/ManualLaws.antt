@@ -69,3 +69,10 @@ waited-for-150 = waited-past 0x9601 0xFF00 150 16 tt (omega arith) (omega arith)
 pub waited-for-never : waited 0xFFFF 0xFFFE 34066 ≡ 59474
 unfolding fails-on satisfied firstSatisfied
 waited-for-never = waited-past 0xFFFF 0xFFFE 262 34066 tt (omega arith) (omega arith)
+
+-- FFFF FFFE is satisfied at no place of the frame
+pub firstSatisfied-never : firstSatisfied 0xFFFF 0xFFFE 59474 0 ≡ 59474
+unfolding fails-on satisfied firstSatisfied
+firstSatisfied-never =
+    firstSatisfied-passes 0xFFFF 0xFFFE 59474 0 0
+    (λ k inside. satisfied-fails-below 0xFFFF 0xFFFE 262 tt (0 + k) (omega (arith, inside)))

@@ -1,6 +1,6 @@
--- The manual's chapter 2: its comparisons, as the lines of a frame on which they hold at a position, the highest first; and
--- the colour part of its sample list, as the beam's line and position and colours 0 to 3 after each instruction. One list,
--- computed on the left, what the manual's text comes to on the right.
+-- The manual's chapter 2: its comparisons, as the lines of a frame on which they hold at a position, or the positions at
+-- which they hold on a line, the highest first; and the colour part of its sample list, as the beam's line and position and
+-- colours 0 to 3 after each instruction. One list, computed on the left, what the manual's text comes to on the right.
 use Prim.Native.Nat.{ℕ, zero, suc, _+_, _-_, _*_}
 use mathlib.Core.Path.{_≡_}
 use mathlib.Core.Bool.{Bool}
@@ -8,8 +8,9 @@ use mathlib.Core.List.{List, [], _∷_, _++_, map}
 use lib.ListN.{getD, replicate}
 use Rattle.word.specs.Choice.{if_then_else_}
 use Rattle.file.specs.Places.{fileLength, colour0}
-use Rattle.beam.specs.Beam.{lines, positions, line, position}
+use Rattle.beam.specs.Beam.{lines, positions, frameEnd, line, position}
 use Rattle.beam.specs.Satisfied.{satisfied}
+use Rattle.beam.specs.Wait.{firstSatisfied}
 use Rattle.instruction.specs.Effect.{Machine, machine}
 use Rattle.copper_facts.specs.Course.{after}
 
@@ -21,16 +22,19 @@ infix 70 _is_
 abbrev pub _is_ : (gives says : List ℕ) → Example
 gives is says = record { gives = gives; says = says }
 
--- the lines before one on which a test holds, the highest first
-unfoldable pub linesBefore : (test : ℕ → Bool) → (line : ℕ) → List ℕ
-linesBefore test zero = []
-linesBefore test (suc line) =
-    if test line then line ∷ linesBefore test line else
-    linesBefore test line
+-- the numbers before one at which a test holds, the highest first
+unfoldable pub numbersBefore : (test : ℕ → Bool) → (end : ℕ) → List ℕ
+numbersBefore test zero = []
+numbersBefore test (suc number) =
+    if test number then number ∷ numbersBefore test number else
+    numbersBefore test number
 
--- the lines of a frame on which a comparison is satisfied at a position
+-- the lines of a frame on which a comparison is satisfied at a position, and the positions of a line at which it is
 abbrev pub linesAt : (position first second : ℕ) → List ℕ
-linesAt position first second = linesBefore (λ line. satisfied first second (line * positions + position)) lines
+linesAt position first second = numbersBefore (λ line. satisfied first second (line * positions + position)) lines
+
+abbrev pub positionsOn : (line first second : ℕ) → List ℕ
+positionsOn line first second = numbersBefore (λ position. satisfied first second (line * positions + position)) positions
 
 -- so many numbers down from one, each so much below the one before
 unfoldable pub down : (from apart many : ℕ) → List ℕ
@@ -41,9 +45,6 @@ abbrev pub comparisons : List Example
 comparisons =
     -- 9601 FF00: lines 150 to 255
     linesAt 0 0x9601 0xFF00 is down 255 1 106
-    -- FFFF FFFE: none, at no position: at the last, 226, neither
-    ∷ linesAt 0 0xFFFF 0xFFFE is []
-    ∷ linesAt 226 0xFFFF 0xFFFE is []
     -- 6401 FF01: lines 100 to 255
     ∷ linesAt 0 0x6401 0xFF01 is down 255 1 156
     -- 0F01 8F00: lines 15, 31, .. 111, then 127 to 255
@@ -56,12 +57,19 @@ comparisons =
     ∷ linesAt 0 0xFF01 0xFE01 is (255 ∷ 254 ∷ [])
     -- 00E3 80FE: lines 128 to 255 at any position, every line at 226
     ∷ linesAt 0 0x00E3 0x80FE is down 255 1 128
-    ∷ linesAt 225 0x00E3 0x80FE is down 255 1 128
+    ∷ positionsOn 128 0x00E3 0x80FE is down 226 1 227
     ∷ linesAt 226 0x00E3 0x80FE is down 261 1 262
+    ∷ positionsOn 0 0x00E3 0x80FE is (226 ∷ [])
     -- 80E3 80FE: lines 128 to 255, at position 226 alone
-    ∷ linesAt 0 0x80E3 0x80FE is []
-    ∷ linesAt 225 0x80E3 0x80FE is []
     ∷ linesAt 226 0x80E3 0x80FE is down 255 1 128
+    ∷ positionsOn 128 0x80E3 0x80FE is (226 ∷ [])
+    ∷ linesAt 225 0x80E3 0x80FE is []
+    ∷ []
+
+abbrev pub never : List Example
+never =
+    -- FFFF FFFE: no line, at any position: the first place where it holds is past the frame
+    (firstSatisfied 0xFFFF 0xFFFE frameEnd 0 ∷ []) is (frameEnd ∷ [])
     ∷ []
 
 -- the colour part of the sample list, at word 0 of memory
@@ -104,5 +112,5 @@ sampleList =
 -- every example gives what the manual's text comes to
 abbrev pub ManualHolds : Type 0
 ManualHolds =
-    map (λ (example : Example). example .gives) (comparisons ++ sampleList)
-    ≡ map (λ (example : Example). example .says) (comparisons ++ sampleList)
+    map (λ (example : Example). example .gives) (comparisons ++ (never ++ sampleList))
+    ≡ map (λ (example : Example). example .says) (comparisons ++ (never ++ sampleList))

@@ -1,28 +1,86 @@
--- `beam::next_tried` meets its contract: a line that lies below is passed whole, of any other the positions.
-use Rattle.beam.proofs.WaitLaws.{firstSatisfied-past-line}
+-- `beam::next_tried` meets its contract: no place is passed where the comparison is satisfied.
+use mathlib.Core.Path.{_≡_}
+use Prim.Native.Nat.{_+_, _-_, _*_, _/_, _%_, _<_, _≤_}
+use lib.Bits.{bitAnd}
+use Rattle.beam.specs.Beam.{frameEnd}
+use Rattle.beam.specs.Satisfied.{mask}
+use Rattle.beam.specs.Wait.{firstSatisfied}
+use Rattle.beam.proofs.WaitLaws.{firstSatisfied-past-line, firstSatisfied-past-place, firstSatisfied-on-line}
 use borrow.Author.Needs.{needs}
 use Rattle.beam.proofs.next_tried.Statement.{statement}
 use Rattle.beam.proofs.next_tried.Tie as tie
 
-line-below-requires : tie.Need-line-below-requires
+abbrev Inv-loop : tie.InvT-loop
+Inv-loop first second place bits least next₀ position₀ next position =
+    (firstSatisfied first second (frameEnd - next) next ≡ firstSatisfied first second (frameEnd - place) place)
+    × (bits ≡ mask second % 256)
+    × (least ≡ bitAnd (first % 256) bits)
+    × (next ≡ place / 227 * 227 + position)
+    × (place % 227 < position)
+    × (position ≤ 227)
+
+abbrev μ-loop : tie.MeasureT-loop
+μ-loop first second place bits least next₀ position₀ next position = 227 - position
+
+line-below-requires : tie.Need-line-below-requires Inv-loop μ-loop
 line-below-requires c κs = search needs
 
-add-result : tie.Need-add-result
+add-result : tie.Need-add-result Inv-loop μ-loop
 add-result c = search needs
 
-mul-result : tie.Need-mul-result
+mul-result : tie.Need-mul-result Inv-loop μ-loop
 mul-result c = search needs
 
-returns : tie.Need-returns
+returns : tie.Need-returns Inv-loop μ-loop
 returns c = (search needs, search needs, search firstSatisfied-past-line)
 
-next-on-line-requires : tie.Need-next-on-line-requires
-next-on-line-requires c κs = search needs
+mask-requires : tie.Need-mask-requires Inv-loop μ-loop
+mask-requires c κs = search needs
 
-returns-2 : tie.Need-returns-2
-returns-2 c = search needs
+add-next : tie.Need-add-next Inv-loop μ-loop
+add-next c = search needs
+
+add-position : tie.Need-add-position Inv-loop μ-loop
+add-position c = search needs
+
+loop-holds : tie.Need-loop-holds Inv-loop μ-loop
+loop-holds c = (search firstSatisfied-past-place, search needs, search needs, search needs, search needs, search needs)
+
+returns-2 : tie.Need-returns-2 Inv-loop μ-loop
+returns-2 c = (search needs, search needs, search needs)
+
+add-next-2 : tie.Need-add-next-2 Inv-loop μ-loop
+add-next-2 c = search needs
+
+add-position-2 : tie.Need-add-position-2 Inv-loop μ-loop
+add-position-2 c = search needs
+
+loop-less : tie.Need-loop-less Inv-loop μ-loop
+loop-less c = search needs
+
+loop-again : tie.Need-loop-again Inv-loop μ-loop
+loop-again c = (search firstSatisfied-on-line, search needs, search needs, search needs, search needs, search needs)
+
+returns-3 : tie.Need-returns-3 Inv-loop μ-loop
+returns-3 c = (search needs, search needs, search needs)
 
 pub next-tried-spec : {M : Type 1} → statement M
 next-tried-spec =
     tie.close
-    (tie.spec line-below-requires add-result mul-result returns next-on-line-requires returns-2)
+    (tie.spec
+    Inv-loop
+    μ-loop
+    line-below-requires
+    add-result
+    mul-result
+    returns
+    mask-requires
+    add-next
+    add-position
+    loop-holds
+    returns-2
+    add-next-2
+    add-position-2
+    loop-less
+    loop-again
+    returns-3)

@@ -13,8 +13,8 @@ use Rattle.instruction.specs.Instruction.{instruction}
 use Rattle.instruction.specs.Permitted.{danger, permitted, modelled}
 use Rattle.instruction.specs.Effect.{moveEffect, waitEffect, instructionEffect, effect}
 use Rattle.copper_facts.specs.Course.{after}
-use Rattle.copper_facts.specs.ManualHolds.{Example, linesBefore, down, comparisons, sampleList}
-use Rattle.copper_facts.proofs.ManualLaws.{waited-for-150, waited-for-never}
+use Rattle.copper_facts.specs.ManualHolds.{Example, numbersBefore, down, comparisons, never, sampleList}
+use Rattle.copper_facts.proofs.ManualLaws.{waited-for-150, waited-for-never, firstSatisfied-never}
 use Rattle.copper_facts.proofs.manual_holds.Statement.{statement}
 use Rattle.copper_facts.proofs.manual_holds.Tie as tie
 
@@ -58,13 +58,17 @@ allSame-is-same (example ∷ rest) same =
     rw (heads, tails)
 
 comparisons-hold : allGive comparisons ≡ allSay comparisons
-unfolding sameNumbers allSame satisfied linesBefore down
+unfolding sameNumbers allSame satisfied numbersBefore down
 comparisons-hold = allSame-is-same comparisons refl
+
+never-holds : allGive never ≡ allSay never
+never-holds = rw firstSatisfied-never
 
 returns : tie.Need-returns
 returns c =
-    ap (λ (rows : List (List ℕ)). rows ++ allGive sampleList) comparisons-hold
-    ∙ ap (λ (rows : List (List ℕ)). allSay comparisons ++ rows) sample-holds
+    ap (λ (rows : List (List ℕ)). rows ++ (allGive never ++ allGive sampleList)) comparisons-hold
+    ∙ ap (λ (rows : List (List ℕ)). allSay comparisons ++ (rows ++ allGive sampleList)) never-holds
+    ∙ ap (λ (rows : List (List ℕ)). allSay comparisons ++ (allSay never ++ rows)) sample-holds
 
 pub manual-holds-spec : {M : Type 1} → statement M
 manual-holds-spec = tie.close (tie.spec returns)

@@ -1,4 +1,5 @@
--- Laws of places and lengths: a job has at most 4,096 words and a folded job too, so that 32 bits hold them.
+-- Laws of places and lengths: a job has at most 4,096 words and a folded job too, so that 32 bits hold them. And what the entries
+-- tell, by the answers of the calls.
 use mathlib.Core.Path.{_≡_, refl, ap}
 use Prim.Native.Nat.{ℕ, zero, suc, _+_, _<_, _≤_}
 use native.Mathlib.Decide.{decLt}

@@ -1,11 +1,13 @@
 -- Laws of an instruction's effect: what each kind leaves, and that a refused one changes nothing.
 use mathlib.Core.Path.{_≡_, refl, ap, _∙_}
 use Prim.Native.Nat.{ℕ, _+_, _<_, _≤_}
+use native.Mathlib.Omega.{arith}
 use mathlib.Core.Bool.{Bool, true, false, not}
 use mathlib.Core.List.{List}
 use borrow.Author.Tests.{eq-eqb, ne-eqb, eqb-false, lt-ltb, le-ltb}
 use lib.Dec.{eqb, ltb}
 use lib.ListN.{length, getD, set}
+use Rattle.word.specs.Choice.{if_then_else_}
 use Rattle.word.proofs.ChoiceLaws.{if-either}
 use Rattle.file.specs.File.{place, kept}
 use Rattle.beam.specs.Satisfied.{satisfied}
@@ -115,41 +117,43 @@ unfolding effect
 effect-when-inside beam word first second memory file next end found taken inside one two is gives =
     rw (lt-ltb (word + 1) (length memory) inside, ← one, ← two, ← is) gives
 
--- a refused instruction leaves the machine
-Stays : Machine → Step → Type 0
-Stays here taken = (taken .number ≡ 0 → ⊥) → taken .machine ≡ here
-
-module _ (here : Machine) where
-  done-stays : (after : Machine) → Stays here (step 0 after)
-  unfolding Stays
-  done-stays after some = absurd (some refl)
-
-  refused-stays : (number : ℕ) → Stays here (step number here)
-  unfolding Stays
-  refused-stays number some = refl
-
-  blitted-stays : (outcome : Outcome) → Stays here (blitted outcome here)
+-- what holds of an instruction that is refused, and of each kind that is done, holds of every one
+module _ (Holds : Step → Type 0) (here : Machine) (refuses : (number : ℕ) → (number ≡ 0 → ⊥) → Holds (step number here))
+    (moves : (memory file : List ℕ) → Holds (moved memory file here))
+    (waits : (first second : ℕ) → Holds (waitEffect first second here))
+    (skips : (first second : ℕ) → Holds (skipEffect first second here)) where
+  blitted-either : (outcome : Outcome) → Holds (blitted outcome here)
   unfolding blitted
-  blitted-stays outcome =
-      if-either (Stays here) (eqb (outcome .number) 0) (moved (outcome .memory) (outcome .file) here) (step (outcome .number) here)
-      (done-stays (moved (outcome .memory) (outcome .file) here .machine)) (refused-stays (outcome .number))
+  blitted-either outcome = by-number (eqb (outcome .number) 0) refl
+    where
+      by-number : (done : Bool) → eqb (outcome .number) 0 ≡ done
+          → Holds (if done then moved (outcome .memory) (outcome .file) here else step (outcome .number) here)
+      by-number true is = moves (outcome .memory) (outcome .file)
+      by-number false is = refuses (outcome .number) (eqb-false (outcome .number) 0 is)
 
-  moveEffect-stays : (offset value : ℕ) → Stays here (moveEffect offset value here)
+  moveEffect-either : (offset value : ℕ) → Holds (moveEffect offset value here)
   unfolding moveEffect
-  moveEffect-stays offset value =
-      if-either (Stays here) (not (permitted (here .file) offset)) _ _ (refused-stays 21)
-      (if-either (Stays here) (not (modelled offset)) _ _ (refused-stays 22)
-      (if-either (Stays here) (eqb offset sizeOffset) _ _ (blitted-stays (blitStep (here .memory) (here .file) value))
-      (done-stays _)))
+  moveEffect-either offset value =
+      if-either Holds (not (permitted (here .file) offset)) _ _ (refuses 21 (λ none. omega (arith, none)))
+      (if-either Holds (not (modelled offset)) _ _ (refuses 22 (λ none. omega (arith, none)))
+      (if-either Holds (eqb offset sizeOffset) _ _ (blitted-either (blitStep (here .memory) (here .file) value)) (moves _ _)))
 
-  instructionEffect-stays : (found : Instruction) → Stays here (instructionEffect found here)
-  unfolding instructionEffect waitEffect skipEffect
-  instructionEffect-stays (Move offset value) = moveEffect-stays offset value
-  instructionEffect-stays (Wait first second) = done-stays _
-  instructionEffect-stays (Skip first second) = done-stays _
+  instructionEffect-either : (found : Instruction) → Holds (instructionEffect found here)
+  unfolding instructionEffect
+  instructionEffect-either (Move offset value) = moveEffect-either offset value
+  instructionEffect-either (Wait first second) = waits first second
+  instructionEffect-either (Skip first second) = skips first second
 
-  pub effect-stays : (effect here .number ≡ 0 → ⊥) → effect here .machine ≡ here
-  unfolding Stays effect
-  effect-stays =
-      if-either (Stays here) (not (ltb (here .word + 1) (length (here .memory)))) _ _ (refused-stays 23)
-      (instructionEffect-stays (instruction (getD (here .memory) (here .word) 0) (getD (here .memory) (here .word + 1) 0)))
+  pub effect-either : Holds (effect here)
+  unfolding effect
+  effect-either =
+      if-either Holds (not (ltb (here .word + 1) (length (here .memory)))) _ _ (refuses 23 (λ none. omega (arith, none)))
+      (instructionEffect-either (instruction (getD (here .memory) (here .word) 0) (getD (here .memory) (here .word + 1) 0)))
+
+-- a refused instruction leaves the machine
+pub effect-stays : (here : Machine) → (effect here .number ≡ 0 → ⊥) → effect here .machine ≡ here
+unfolding waitEffect skipEffect
+effect-stays here =
+    effect-either (λ (taken : Step). (taken .number ≡ 0 → ⊥) → taken .machine ≡ here) here
+    (λ number some other. refl) (λ memory file some. absurd (some refl)) (λ first second some. absurd (some refl))
+    (λ first second some. absurd (some refl))

@@ -7,6 +7,7 @@ use borrow.Author.Tests.{lt-leb, leb-false, ltb-true}
 use lib.Dec.{ltb, leb}
 use lib.Bits.{bitAnd, and-block, and-lt}
 use Rattle.beam.specs.Beam.{line, position}
+use Rattle.beam.specs.LineBelow.{lineBelow}
 use Rattle.beam.specs.Satisfied.{mask, compared, satisfied}
 
 pub satisfied-of-parts : (first second place bits number : ℕ) → bits ≡ mask second → number ≡ compared place
@@ -36,7 +37,7 @@ compared-bytes bits place =
 
 -- the line's byte decides where it lies below
 pub satisfied-on-line-below : (first second place : ℕ)
-    → ltb (bitAnd (line place % 256) (mask second / 256)) (bitAnd (first / 256) (mask second / 256)) ≡ true
+    → lineBelow first second (line place) ≡ true
     → satisfied first second place ≡ false
 unfolding satisfied
 satisfied-on-line-below first second place below =
@@ -46,10 +47,10 @@ satisfied-on-line-below first second place below =
     lt-leb (bitAnd first bits) (bitAnd (compared place) bits)
     (omega (arith, compared-bytes bits place, and-of-bytes first bits, less, low))
 
-pub line-below-of-mask : (first second place bits : ℕ) → bits ≡ mask second
+pub lineBelow-of-mask : (first second place bits : ℕ) → bits ≡ mask second
     → ltb (bitAnd (place / 227 % 256) (bits / 256)) (bitAnd (first / 256) (bits / 256))
-    ≡ ltb (bitAnd (line place % 256) (mask second / 256)) (bitAnd (first / 256) (mask second / 256))
-line-below-of-mask first second place bits masks = rw masks
+    ≡ lineBelow first second (line place)
+lineBelow-of-mask first second place bits masks = rw masks
 
 pub satisfied-told : (first second place : ℕ) (holds : Bool) → holds ≡ satisfied first second place → holds ≡ false
     → satisfied first second place ≡ false

@@ -4,9 +4,9 @@ use Prim.Native.Nat.{ℕ, zero, suc, _+_, _-_, _*_, _/_, _%_, _<_, _≤_}
 use native.Mathlib.Nat.{add-zero, zero-add}
 use native.Mathlib.Omega.{arith}
 use mathlib.Core.Bool.{Bool, true, false}
-use lib.Dec.{ltb}
 use lib.Bits.{bitAnd}
 use Rattle.beam.specs.Beam.{frameEnd, line, position}
+use Rattle.beam.specs.LineBelow.{lineBelow}
 use Rattle.beam.specs.Satisfied.{mask, satisfied}
 use Rattle.beam.specs.Wait.{firstSatisfied, waited}
 use Rattle.beam.proofs.SatisfiedLaws.{satisfied-on-line-below, satisfied-on-line-of}
@@ -48,14 +48,14 @@ firstSatisfied-past-place first second place inside fails =
 
 -- the rest of a line passed that lies below
 pub firstSatisfied-past-line : (first second place : ℕ) (below : Bool) → place < frameEnd
-    → below ≡ ltb (bitAnd (line place % 256) (mask second / 256)) (bitAnd (first / 256) (mask second / 256)) → below ≡ true
+    → below ≡ lineBelow first second (line place) → below ≡ true
     → firstSatisfied first second (frameEnd - (place / 227 + 1) * 227) ((place / 227 + 1) * 227)
     ≡ firstSatisfied first second (frameEnd - place) place
 firstSatisfied-past-line first second place below inside is holds =
     firstSatisfied-on first second place ((place / 227 + 1) * 227) (omega arith) (omega (arith, inside))
     (λ k near. let same : line (place + k) ≡ line place = omega (arith, near) in
     satisfied-on-line-below first second (place + k)
-    (ap (λ (this : ℕ). ltb (bitAnd (this % 256) (mask second / 256)) (bitAnd (first / 256) (mask second / 256))) same ∙ sym is ∙ holds))
+    (ap (lineBelow first second) same ∙ sym is ∙ holds))
 
 -- the loop's ends: at a place that is satisfied, and past the frame
 pub firstSatisfied-at : (first second place whole : ℕ) (holds : Bool) → holds ≡ satisfied first second place → holds ≡ true → place < frameEnd

@@ -2,3 +2,4 @@
 pub mod Beam
 pub mod Satisfied
 pub mod Wait
+pub mod LineBelow

@@ -1,12 +1,11 @@
 // The beam of one frame: its places, where a comparison is satisfied, and where a WAIT takes it.
 ghost use mathlib.Core.Path.{_≡_};
 ghost use mathlib.Core.Bool.{false};
-ghost use Prim.Native.Nat.{_-_, _/_, _%_, _<_, _≤_};
-ghost use lib.Dec.{ltb};
-ghost use lib.Bits.{bitAnd};
+ghost use Prim.Native.Nat.{_-_, _<_, _≤_};
 ghost use Rattle.beam.specs.Beam.{frameEnd, line};
 ghost use Rattle.beam.specs.Satisfied.{mask, compared, satisfied};
 ghost use Rattle.beam.specs.Wait.{firstSatisfied, waited};
+ghost use Rattle.beam.specs.LineBelow.{lineBelow};
 
 // The first place past the frame.
 pub const END: u32 = 59474;
@@ -35,9 +34,7 @@ pub fn satisfied(first: u16, second: u16, place: u32) -> bool
 
 // The line of a place lies, masked, below the first word's line: nowhere on it is the comparison satisfied.
 fn line_below(first: u16, second: u16, place: u32) -> bool
-    ensures { λ below. ⌜
-        below
-        ≡ ltb (bitAnd (line place % 256) (mask second / 256)) (bitAnd (first / 256) (mask second / 256)) ⌝ }
+    ensures { λ below. ⌜ below ≡ lineBelow first second (line place) ⌝ }
 {
     let bits = mask(second) / 256;
     place / 227 % 256 & bits < (first as u32) / 256 & bits

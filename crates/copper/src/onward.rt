@@ -28,7 +28,7 @@ pub fn onward(ram: &mut [u16], file: &mut [u16], beam: u32, start: u32, lent: u3
                 beam: place,
             };
         }
-        match instruction::take(ram, file, place, word) {
+        match instruction::effect(ram, file, place, word) {
             Taken::Done(next, after) => {
                 done = done + 1;
                 place = next;

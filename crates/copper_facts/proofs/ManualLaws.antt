@@ -4,23 +4,20 @@ use Prim.Native.Nat.{ℕ, _+_, _-_, _*_, _/_, _%_, _<_, _≤_}
 use native.Mathlib.Omega.{arith}
 use mathlib.Core.Bool.{Bool, true, false, not, _||_}
 use borrow.Author.Tests.{not-true}
-use lib.Dec.{T, ltb}
-use lib.Bits.{bitAnd}
+use lib.Dec.{T}
 use Rattle.word.specs.Choice.{every}
 use Rattle.word.proofs.ChoiceLaws.{every-at}
 use Rattle.beam.specs.Beam.{frameEnd, line}
-use Rattle.beam.specs.Satisfied.{mask, satisfied}
+use Rattle.beam.specs.Satisfied.{satisfied}
+use Rattle.beam.specs.LineBelow.{lineBelow}
 use Rattle.beam.specs.Wait.{firstSatisfied, waited}
 use Rattle.beam.proofs.SatisfiedLaws.{satisfied-on-line-below}
 use Rattle.beam.proofs.WaitLaws.{firstSatisfied-passes}
 
 module _ (first second : ℕ) where
-  abbrev lies-below : (this : ℕ) → Bool
-  lies-below this = ltb (bitAnd (this % 256) (mask second / 256)) (bitAnd (first / 256) (mask second / 256))
-
   -- nowhere on a line is the comparison satisfied
   fails-on : (this : ℕ) → Bool
-  fails-on this = lies-below this || every (λ (at : ℕ). not (satisfied first second (this * 227 + at))) 227
+  fails-on this = lineBelow first second this || every (λ (at : ℕ). not (satisfied first second (this * 227 + at))) 227
 
   is-true : (test : Bool) → T test → test ≡ true
   is-true true holds = refl
@@ -28,14 +25,14 @@ module _ (first second : ℕ) where
 
   satisfied-fails-on : (this at : ℕ) → at < 227 → T (fails-on this) → satisfied first second (this * 227 + at) ≡ false
   unfolding fails-on
-  satisfied-fails-on this at inside = by-line (lies-below this) refl
+  satisfied-fails-on this at inside = by-line (lineBelow first second this) refl
     where
-      by-line : (below : Bool) → lies-below this ≡ below
+      by-line : (below : Bool) → lineBelow first second this ≡ below
           → T (below || every (λ (at : ℕ). not (satisfied first second (this * 227 + at))) 227)
           → satisfied first second (this * 227 + at) ≡ false
       by-line true is fails =
           let here : line (this * 227 + at) ≡ this = omega (arith, inside) in
-          satisfied-on-line-below first second (this * 227 + at) (ap lies-below here ∙ is)
+          satisfied-on-line-below first second (this * 227 + at) (ap (lineBelow first second) here ∙ is)
       by-line false is fails =
           not-true (satisfied first second (this * 227 + at))
           (is-true (not (satisfied first second (this * 227 + at)))

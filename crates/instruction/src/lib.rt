@@ -26,7 +26,7 @@ fn moved(beam: u32, word: u32) -> Taken
 }
 
 // Runs the blit of a size.
-fn blit_to(ram: &mut [u16], file: &mut [u16], size: u16, beam: u32, word: u32) -> Taken
+fn blitted(ram: &mut [u16], file: &mut [u16], size: u16, beam: u32, word: u32) -> Taken
     requires { ⌜ (beam < frameEnd) × (word < 262144) ⌝ }
     ensures { λ taken. ⌜
         left taken beam word (now (ram .exit)) (now (file .exit))
@@ -41,7 +41,7 @@ fn blit_to(ram: &mut [u16], file: &mut [u16], size: u16, beam: u32, word: u32) -
 }
 
 // Does a MOVE: a blit for the size register, else a write of the bits that the register keeps.
-fn move_to(
+fn move_effect(
     ram: &mut [u16],
     file: &mut [u16],
     offset: u16,
@@ -64,7 +64,7 @@ fn move_to(
         return Taken::Refused(Refusal::NotModelled);
     }
     if offset == 0x058 {
-        return blit_to(ram, file, value, beam, word);
+        return blitted(ram, file, value, beam, word);
     }
     word::memory::write(file, place, file::kept(place, value));
     moved(beam, word)
@@ -82,7 +82,7 @@ fn skipped(first: u16, second: u16, beam: u32, word: u32) -> u32
 }
 
 // Does an instruction that has been read. A refused one changes nothing.
-fn do_instruction(
+fn instruction_effect(
     ram: &mut [u16],
     file: &mut [u16],
     instruction: Instruction,
@@ -95,7 +95,7 @@ fn do_instruction(
         ≡ instructionEffect instruction (machine (now (ram .entry)) (now (file .entry)) beam word) ⌝ }
 {
     match instruction {
-        Instruction::Move(offset, value) => move_to(ram, file, offset, value, beam, word),
+        Instruction::Move(offset, value) => move_effect(ram, file, offset, value, beam, word),
         Instruction::Wait(first, second) => {
             let place = beam::waited(first, second, beam);
             let next = word + 2;
@@ -110,7 +110,7 @@ fn do_instruction(
 }
 
 // Reads the instruction at a word, as memory stands, and does it.
-pub fn take(ram: &mut [u16], file: &mut [u16], beam: u32, word: u32) -> Taken
+pub fn effect(ram: &mut [u16], file: &mut [u16], beam: u32, word: u32) -> Taken
     requires { ⌜ (beam < frameEnd) × (length (now ram) ≤ 262144) ⌝ }
     ensures { λ taken. ⌜
         left taken beam word (now (ram .exit)) (now (file .exit))
@@ -122,5 +122,5 @@ pub fn take(ram: &mut [u16], file: &mut [u16], beam: u32, word: u32) -> Taken
     let first = word::memory::read(ram, word);
     let second = word::memory::read(ram, word + 1);
     let instruction = crate::read::instruction(first, second);
-    do_instruction(ram, file, instruction, beam, word)
+    instruction_effect(ram, file, instruction, beam, word)
 }

@@ -1,5 +1,5 @@
 -- `beam::line_below` meets its contract: it compares the high bytes.
-use Rattle.beam.proofs.SatisfiedLaws.{line-below-of-mask}
+use Rattle.beam.proofs.SatisfiedLaws.{lineBelow-of-mask}
 use borrow.Author.Needs.{needs}
 use Rattle.beam.proofs.line_below.Statement.{statement}
 use Rattle.beam.proofs.line_below.Tie as tie
@@ -8,7 +8,7 @@ mask-requires : tie.Need-mask-requires
 mask-requires c κs = search needs
 
 returns : tie.Need-returns
-returns c = search line-below-of-mask
+returns c = search lineBelow-of-mask
 
 pub line-below-spec : {M : Type 1} → statement M
 line-below-spec = tie.close (tie.spec mask-requires returns)

@@ -31,8 +31,8 @@ same-length-2 c = search needs
 returns : tie.Need-returns Inv-loop μ-loop
 returns c = search onward-at-last
 
-take-requires : tie.Need-take-requires Inv-loop μ-loop
-take-requires c κs = search needs
+effect-requires : tie.Need-effect-requires Inv-loop μ-loop
+effect-requires c κs = search needs
 
 enum-known-next : tie.Need-enum-known-next Inv-loop μ-loop
 enum-known-next c = search needs
@@ -77,7 +77,7 @@ onward-spec =
     same-length
     same-length-2
     returns
-    take-requires
+    effect-requires
     enum-known-next
     add-done
     loop-less

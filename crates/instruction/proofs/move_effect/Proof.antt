@@ -1,8 +1,8 @@
--- `instruction::move_to` meets its contract: 21, then 22, then the blit or the register.
+-- `instruction::move_effect` meets its contract: 21, then 22, then the blit or the register.
 use Rattle.instruction.proofs.EffectLaws.{moveEffect-when-forbidden, moveEffect-when-not-modelled, moveEffect-of-size, moveEffect-of-register}
 use borrow.Author.Needs.{needs}
-use Rattle.instruction.proofs.move_to.Statement.{statement}
-use Rattle.instruction.proofs.move_to.Tie as tie
+use Rattle.instruction.proofs.move_effect.Statement.{statement}
+use Rattle.instruction.proofs.move_effect.Tie as tie
 
 place-requires : tie.Need-place-requires
 place-requires c κs = search needs
@@ -25,8 +25,8 @@ same-length-2 c = search needs
 returns-2 : tie.Need-returns-2
 returns-2 c = search moveEffect-when-not-modelled
 
-blit-to-requires : tie.Need-blit-to-requires
-blit-to-requires c κs = search needs
+blitted-requires : tie.Need-blitted-requires
+blitted-requires c κs = search needs
 
 same-length-3 : tie.Need-same-length-3
 same-length-3 c = search needs
@@ -52,8 +52,8 @@ same-length-5 c = search needs
 returns-4 : tie.Need-returns-4
 returns-4 c = search moveEffect-of-register
 
-pub move-to-spec : {M : Type 1} → statement M
-move-to-spec =
+pub move-effect-spec : {M : Type 1} → statement M
+move-effect-spec =
     tie.close
     (tie.spec
     place-requires
@@ -63,7 +63,7 @@ move-to-spec =
     returns
     same-length-2
     returns-2
-    blit-to-requires
+    blitted-requires
     same-length-3
     same-length-4
     returns-3

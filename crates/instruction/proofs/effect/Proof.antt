@@ -1,8 +1,8 @@
--- `instruction::take` meets its contract: 23 comes first, then the instruction that stands there.
+-- `instruction::effect` meets its contract: 23 comes first, then the instruction that stands there.
 use Rattle.instruction.proofs.EffectLaws.{effect-when-outside, effect-when-inside}
 use borrow.Author.Needs.{needs}
-use Rattle.instruction.proofs.take.Statement.{statement}
-use Rattle.instruction.proofs.take.Tie as tie
+use Rattle.instruction.proofs.effect.Statement.{statement}
+use Rattle.instruction.proofs.effect.Tie as tie
 
 add-if1 : tie.Need-add-if1
 add-if1 c = search needs
@@ -22,8 +22,8 @@ read-requires-2 c κs = search needs
 instruction-requires : tie.Need-instruction-requires
 instruction-requires c κs = search needs
 
-do-instruction-requires : tie.Need-do-instruction-requires
-do-instruction-requires c κs = search needs
+instruction-effect-requires : tie.Need-instruction-effect-requires
+instruction-effect-requires c κs = search needs
 
 same-length : tie.Need-same-length
 same-length c = search needs
@@ -34,8 +34,8 @@ same-length-2 c = search needs
 returns-2 : tie.Need-returns-2
 returns-2 c = search effect-when-inside
 
-pub take-spec : {M : Type 1} → statement M
-take-spec =
+pub effect-spec : {M : Type 1} → statement M
+effect-spec =
     tie.close
     (tie.spec
     add-if1
@@ -44,7 +44,7 @@ take-spec =
     add-read
     read-requires-2
     instruction-requires
-    do-instruction-requires
+    instruction-effect-requires
     same-length
     same-length-2
     returns-2)

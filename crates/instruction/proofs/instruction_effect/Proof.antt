@@ -1,14 +1,14 @@
--- `instruction::do_instruction` meets its contract: each kind has its own effect.
+-- `instruction::instruction_effect` meets its contract: each kind has its own effect.
 use Rattle.instruction.proofs.EffectLaws.{instructionEffect-of-move, instructionEffect-of-wait, instructionEffect-of-skip}
 use borrow.Author.Needs.{needs}
-use Rattle.instruction.proofs.do_instruction.Statement.{statement}
-use Rattle.instruction.proofs.do_instruction.Tie as tie
+use Rattle.instruction.proofs.instruction_effect.Statement.{statement}
+use Rattle.instruction.proofs.instruction_effect.Tie as tie
 
 enum-known-instruction : tie.Need-enum-known-instruction
 enum-known-instruction c = search needs
 
-move-to-requires : tie.Need-move-to-requires
-move-to-requires c κs = search needs
+move-effect-requires : tie.Need-move-effect-requires
+move-effect-requires c κs = search needs
 
 enum-known-instruction-2 : tie.Need-enum-known-instruction-2
 enum-known-instruction-2 c = search needs
@@ -43,12 +43,12 @@ returns-2 c = search instructionEffect-of-wait
 returns-3 : tie.Need-returns-3
 returns-3 c = search instructionEffect-of-skip
 
-pub do-instruction-spec : {M : Type 1} → statement M
-do-instruction-spec =
+pub instruction-effect-spec : {M : Type 1} → statement M
+instruction-effect-spec =
     tie.close
     (tie.spec
     enum-known-instruction
-    move-to-requires
+    move-effect-requires
     enum-known-instruction-2
     waited-requires
     add-next

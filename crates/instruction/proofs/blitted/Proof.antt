@@ -1,8 +1,8 @@
--- `instruction::blit_to` meets its contract: the MOVE answers what its blit answers.
+-- `instruction::blitted` meets its contract: the MOVE answers what its blit answers.
 use Rattle.instruction.proofs.EffectLaws.{blitted-when-done, blitted-when-refused}
 use borrow.Author.Needs.{needs}
-use Rattle.instruction.proofs.blit_to.Statement.{statement}
-use Rattle.instruction.proofs.blit_to.Tie as tie
+use Rattle.instruction.proofs.blitted.Statement.{statement}
+use Rattle.instruction.proofs.blitted.Tie as tie
 
 blit-step-requires : tie.Need-blit-step-requires
 blit-step-requires c κs = search needs
@@ -34,8 +34,8 @@ same-length-4 c = search needs
 returns-2 : tie.Need-returns-2
 returns-2 c = search blitted-when-refused
 
-pub blit-to-spec : {M : Type 1} → statement M
-blit-to-spec =
+pub blitted-spec : {M : Type 1} → statement M
+blitted-spec =
     tie.close
     (tie.spec
     blit-step-requires

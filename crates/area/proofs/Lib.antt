@@ -4,3 +4,4 @@ pub mod RowsLaws
 pub mod CountLaws
 pub mod ChannelLaws
 pub mod CopyLaws
+pub mod SixteenBitsLaws

@@ -9,15 +9,17 @@ use mathlib.Core.List.{List, []}
 use borrow.Author.Tests.{ne-eqb, eqb-true, eqb-false, leb-false}
 use lib.Dec.{eqb, leb}
 use lib.ListN.{length, getD, set}
-use lib.Seq.{getD-set-other, getD-set-same, set-out}
+use lib.Seq.{getD-set-other, getD-set-same}
 use Rattle.word.specs.declared.types.Direction.{Direction}
 use Rattle.word.specs.declared.types.Direction.the-variants.{Ascending, Descending}
 use Rattle.word.specs.declared.types.Pointer.{Pointer}
 use Rattle.word.specs.declared.types.Fill.the-variants.{Off}
 use Rattle.word.specs.Repeat.{repeated}
 use Rattle.word.specs.Pointer.{pointerEnd, moved, passed}
+use Rattle.word.specs.Word.{SixteenBits}
 use Rattle.word.specs.Size.{height, width}
 use Rattle.word.proofs.ChoiceLaws.{or-left, or-right}
+use Rattle.word.proofs.WordLaws.{SixteenBits-of-set}
 use Rattle.word.proofs.SizeLaws.{width-le}
 use Rattle.file.specs.Places.{pointerD}
 use Rattle.area.specs.declared.types.Setup.{Setup}
@@ -64,21 +66,11 @@ first-or-later : (left : ℕ) (Holds : ℕ → Type 0) → Holds 0 → ((i : ℕ
 first-or-later left Holds first later zero within = first
 first-or-later left Holds first later (suc i) within = later i (omega arith)
 
--- words stay words under a store of one
-set-keeps-words : (memory : List ℕ) (at word : ℕ) → ((place : ℕ) → getD memory place 0 < 65536) → word < 65536
-    → (place : ℕ) → getD (set memory at word) place 0 < 65536
-set-keeps-words memory at word all small place = by-place (eqb at place) refl (decLt at (length memory))
-  where
-    by-place : (here : Bool) → eqb at place ≡ here → Dec (at < length memory) → getD (set memory at word) place 0 < 65536
-    by-place false apart inside = rw (getD-set-other memory at place word 0 (λ same. eqb-false at place apart (sym same))) (all place)
-    by-place true same (yes inside) = rw (← eqb-true at place same, getD-set-same memory at word 0 inside) small
-    by-place true same (no outside) = rw (set-out memory at word (omega arith)) (all place)
-
 module _ (setup : Setup) (copying : Copying setup) (width : ℕ) where
   -- a row's words, of which so many are left, are copied: the pending word is for no word that A still comes to, but the first
   row-copies : (left : ℕ) (now : State) → left ≤ 64
-      → ((place : ℕ) → getD (now .memory) place 0 < 65536)
-      → ((place : ℕ) → getD (storePending now .memory) place 0 < 65536)
+      → SixteenBits (now .memory)
+      → SixteenBits (storePending now .memory)
       → now .flow .earlier .a < 65536
       → now .flow .pointers .d .word < pointerEnd
       → ((j : ℕ) → j < left → spot (setup .direction) j (now .flow .pointers .d) < length (now .memory))
@@ -114,7 +106,7 @@ module _ (setup : Setup) (copying : Copying setup) (width : ℕ) where
       ap (λ (at : Pointer). getD (storePending (words setup width left next) .memory) (spot (setup .direction) i at) 0) (sym to-d)
       ∙ row-copies left next (omega arith)
       (λ place. rw memory (all-next place))
-      (λ place. rw stores (set-keeps-words stored (d .word) word all-next (all (a .word)) place))
+      (λ place. rw stores (SixteenBits-of-set stored (d .word) word all-next (all (a .word)) place))
       (rw (oneWord-hands-on setup copying width left now (all (a .word)) before) (all (a .word)))
       (rw to-d (moved-lt (setup .direction) d))
       (λ j few. rw (to-d, memory, storePending-keeps-length now) (inside (suc j) (omega arith)))

@@ -7,3 +7,4 @@ pub mod OnlyDChanges
 pub mod OneAnswer
 pub mod UnusedStay
 pub mod CopyOfOneRow
+pub mod AcceptedAgain

@@ -8,6 +8,7 @@ use Rattle.word.specs.declared.types.Direction.{Direction}
 use Rattle.word.specs.declared.types.Direction.the-variants.{Ascending, Descending}
 use Rattle.word.specs.declared.types.Pointer.{Pointer}
 use Rattle.word.specs.Repeat.{repeated}
+use Rattle.word.specs.Word.{SixteenBits}
 use Rattle.word.specs.Pointer.{moved}
 use Rattle.word.specs.Size.{height, width}
 use Rattle.file.specs.Places.{firstMask, lastMask}
@@ -35,7 +36,7 @@ spot direction i pointer = repeated (λ _. moved direction) i pointer .word
 abbrev pub CopyOfOneRow : Type 0
 CopyOfOneRow =
     (direction : Direction) (memory file : List ℕ) (size : ℕ)
-    → ((at : ℕ) → getD memory at 0 < 65536)
+    → SixteenBits memory
     → Copies direction file
     → height size ≡ 1
     → refusal (length memory) file size ≡ 0

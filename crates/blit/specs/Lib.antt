@@ -6,4 +6,5 @@ pub mod Blit
 pub mod OnlyDChanges
 pub mod UnusedStay
 pub mod CopyOfOneRow
+pub mod AcceptedAgain
 pub mod OneAnswer

@@ -2,6 +2,7 @@
 ghost use Rattle.blit.specs.OnlyDChanges.{OnlyDChanges, WithoutDNothingChanges};
 ghost use Rattle.blit.specs.UnusedStay.{UnusedStay};
 ghost use Rattle.blit.specs.CopyOfOneRow.{CopyOfOneRow};
+ghost use Rattle.blit.specs.AcceptedAgain.{AcceptedAgain};
 ghost use Rattle.blit.specs.OneAnswer.{OneAnswer};
 
 pub fn only_d_changes()
@@ -18,6 +19,10 @@ pub fn unused_stay()
 
 pub fn copy_of_one_row()
     ensures { λ _. ⌜ CopyOfOneRow ⌝ }
+{}
+
+pub fn accepted_again()
+    ensures { λ _. ⌜ AcceptedAgain ⌝ }
 {}
 
 pub fn one_answer()

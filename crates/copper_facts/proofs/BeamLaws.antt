@@ -26,7 +26,7 @@ pub effect-forward : (here : Machine) → effect here .number ≡ 0 → here .be
 unfolding waitEffect skipEffect
 effect-forward here =
     effect-either (λ (taken : Step). taken .number ≡ 0 → here .beam + 4 ≤ taken .machine .beam) here
-    (λ number some none. absurd (some none)) (λ memory file none. omega arith)
+    (λ number some none. absurd (some none)) (λ size none. omega arith) (λ place value none. omega arith)
     (λ first second none. omega (arith, waited-ge first second (here .beam))) (λ first second none. omega arith)
 
 pub beam-goes-forward : BeamGoesForward

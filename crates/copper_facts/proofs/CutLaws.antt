@@ -1,43 +1,110 @@
 -- Cutting a frame and going on, and a refused one: wherever a frame stops.
-use mathlib.Core.Path.{_≡_, refl, ap, _∙_}
-use Prim.Native.Nat.{ℕ, _+_}
+use mathlib.Core.Path.{_≡_, refl, sym, ap, _∙_}
+use Prim.Native.Nat.{ℕ, zero, suc, _+_}
+use native.Mathlib.Nat.{add-zero}
 use native.Mathlib.Omega.{arith}
-use mathlib.Core.Bool.{Bool, true, false}
+use mathlib.Core.Bool.{Bool, true, false, not}
 use mathlib.Core.List.{List}
-use borrow.Author.Tests.{eq-eqb, ne-eqb}
+use borrow.Author.Tests.{eq-eqb, ne-eqb, eqb-true}
 use lib.Dec.{eqb}
-use Rattle.word.specs.Choice.{if_then_else_}
-use Rattle.instruction.specs.Effect.{Machine, machine}
-use Rattle.copper.specs.Frame.{usedUp, refusal, Frame, stopped, onward, startRefusal, frameFrom, frame}
-use Rattle.copper_facts.specs.CutAndGoOn.{_goingOn_, CutAndGoOn}
+use lib.ListN.{length}
+use Rattle.word.specs.Choice.{if_then_else_, given}
+use Rattle.word.specs.Word.{SixteenBits}
+use Rattle.file.specs.File.{accepted}
+use Rattle.blit.specs.AcceptedAgain.{Ready}
+use Rattle.blit.specs.Refusal.{memorySize}
+use Rattle.instruction.specs.Effect.{Machine, machine, effect}
+use Rattle.copper.specs.Frame.{endOfFrame, usedUp, refusal, Frame, stopped, over, onward, startRefusal, frameFrom}
+use Rattle.copper_facts.specs.Course.{after}
+use Rattle.copper_facts.specs.AcceptedAgain.{ReadyAt}
+use Rattle.copper_facts.specs.CutAndGoOn.{countedOn, _goingOn_, CutAndGoOn}
 use Rattle.copper_facts.specs.RefusedChangesNothing.{RefusedChangesNothing}
+use Rattle.copper_facts.proofs.AcceptedAgainLaws.{after-ready}
 use Rattle.copper_facts.proofs.CourseLaws.{onward-goes, onward-wherever, onward-stops-over, onward-stops-used-up, onward-stops-refused}
 
-onward-cut : (lent more done : ℕ) (here : Machine) → onward (lent + more) done here ≡ (onward lent done here goingOn more)
-unfolding _goingOn_
-onward-cut lent more done here =
-    onward-wherever (λ (end : Frame). onward (lent + more) done here ≡ (end goingOn more)) lent done here
-    (λ many few all past. onward-stops-over many done here all (lent + more) (omega (arith, few)) past)
-    (λ all within. onward-goes lent more done here all)
-    (λ many few all within some. onward-stops-refused many done here all within (lent + more) (omega (arith, few)) some)
+-- what is taken at the start, and what is taken again
+StartsWith : (n : ℕ) → (fine : Bool) → Type 0
+StartsWith n fine = (memorySize n ≡ false) × (fine ≡ true)
 
-pub cut-and-go-on : CutAndGoOn
-unfolding frameFrom _goingOn_
-cut-and-go-on memory file start lent more = by-start (eqb (startRefusal memory file) 0)
+starts-with : (memory file : List ℕ) → startRefusal memory file ≡ 0 → StartsWith (length memory) (accepted file)
+unfolding startRefusal given StartsWith
+starts-with memory file starts = by-tests (memorySize (length memory)) (accepted file) starts
   where
-    by-start : (fine : Bool)
-        → (if fine then onward (lent + more) 0 (machine memory file 0 start) else
-        stopped refusal (startRefusal memory file) 0 (machine memory file 0 0))
-        ≡ ((if fine then onward lent 0 (machine memory file 0 start) else
-        stopped refusal (startRefusal memory file) 0 (machine memory file 0 0)) goingOn more)
-    by-start true = onward-cut lent more 0 (machine memory file 0 start)
-    by-start false = refl
+    by-tests : (bad fine : Bool) → (if bad then 1 else if not fine then 2 else 0) ≡ 0 → (bad ≡ false) × (fine ≡ true)
+    by-tests true fine wrong = absurd (omega (arith, wrong))
+    by-tests false true starts = (refl, refl)
+    by-tests false false wrong = absurd (omega (arith, wrong))
+
+starts-again : (n : ℕ) (here : Machine) → memorySize n ≡ false → ReadyAt n here → startRefusal (here .memory) (here .file) ≡ 0
+unfolding startRefusal given
+starts-again n here room ready = rw (ready .long, room, ready .file)
 
 -- a frame that starts
-pub frame-when-started : (memory file : List ℕ) (start lent : ℕ) → startRefusal memory file ≡ 0
-    → frame memory file start lent ≡ onward lent 0 (machine memory file 0 start)
+pub frameFrom-when-started : (memory file : List ℕ) (beam start lent : ℕ) → startRefusal memory file ≡ 0
+    → frameFrom memory file beam start lent ≡ onward lent 0 (machine memory file beam start)
 unfolding frameFrom
-frame-when-started memory file start lent starts = rw (eq-eqb (startRefusal memory file) 0 starts)
+frameFrom-when-started memory file beam start lent starts = rw (eq-eqb (startRefusal memory file) 0 starts)
+
+-- a frame counts on from what was done before
+onward-counts-on : (lent before done : ℕ) (here : Machine) → onward lent (before + done) here ≡ countedOn before (onward lent done here)
+unfolding onward
+onward-counts-on zero before done here = by-over (over here)
+  where
+    by-over : (past : Bool)
+        → (if past then stopped endOfFrame 0 (before + done) here else stopped usedUp 0 (before + done) here)
+        ≡ countedOn before (if past then stopped endOfFrame 0 done here else stopped usedUp 0 done here)
+    by-over true = refl
+    by-over false = refl
+onward-counts-on (suc lent) before done here =
+    let one : suc (before + done) ≡ before + suc done = omega arith in
+    by-tests (over here) (eqb (effect here .number) 0)
+    (ap (λ (count : ℕ). onward lent count (effect here .machine)) one ∙ onward-counts-on lent before (suc done) (effect here .machine))
+  where
+    by-tests : (past none : Bool)
+        → onward lent (suc (before + done)) (effect here .machine) ≡ countedOn before (onward lent (suc done) (effect here .machine))
+        → (if past then stopped endOfFrame 0 (before + done) here else
+        if none then onward lent (suc (before + done)) (effect here .machine) else
+        stopped refusal (effect here .number) (before + done) here)
+        ≡ countedOn before
+        (if past then stopped endOfFrame 0 done here else
+        if none then onward lent (suc done) (effect here .machine) else
+        stopped refusal (effect here .number) done here)
+    by-tests true none later = refl
+    by-tests false true later = later
+    by-tests false false later = refl
+
+-- the next call, from where the frame stands
+onward-is-next : (n more done : ℕ) (here : Machine) → memorySize n ≡ false → ReadyAt n here
+    → onward more done here ≡ countedOn done (frameFrom (here .memory) (here .file) (here .beam) (here .word) more)
+onward-is-next n more done here room ready =
+    ap (λ (count : ℕ). onward more count here) (sym (add-zero done))
+    ∙ onward-counts-on more done 0 here
+    ∙ ap (countedOn done)
+    (sym (frameFrom-when-started (here .memory) (here .file) (here .beam) (here .word) more (starts-again n here room ready)))
+
+onward-cut : (n lent more : ℕ) (here : Machine) → memorySize n ≡ false → ReadyAt n here
+    → onward (lent + more) 0 here ≡ (onward lent 0 here goingOn more)
+unfolding _goingOn_
+onward-cut n lent more here room ready =
+    onward-wherever (λ (end : Frame). onward (lent + more) 0 here ≡ (end goingOn more)) lent 0 here
+    (λ many few all past. onward-stops-over many 0 here all (lent + more) (omega (arith, few)) past)
+    (λ all within. onward-goes lent more 0 here all ∙ onward-is-next n more (lent + 0) (after lent here) room (after-ready n lent here ready))
+    (λ many few all within some. onward-stops-refused many 0 here all within (lent + more) (omega (arith, few)) some)
+
+pub cut-and-go-on : CutAndGoOn
+unfolding frameFrom _goingOn_ StartsWith
+cut-and-go-on memory file beam start lent more all = by-start (eqb (startRefusal memory file) 0) refl
+  where
+    by-start : (fine : Bool) → eqb (startRefusal memory file) 0 ≡ fine
+        → (if fine then onward (lent + more) 0 (machine memory file beam start) else
+        stopped refusal (startRefusal memory file) 0 (machine memory file beam 0))
+        ≡ ((if fine then onward lent 0 (machine memory file beam start) else
+        stopped refusal (startRefusal memory file) 0 (machine memory file beam 0)) goingOn more)
+    by-start true is =
+        let fine = starts-with memory file (eqb-true (startRefusal memory file) 0 is) in
+        onward-cut (length memory) lent more (machine memory file beam start) (fine .0)
+        (record { long = refl; words = all; file = fine .1 })
+    by-start false is = refl
 
 onward-refused : (lent : ℕ) (here : Machine) → onward lent 0 here .why ≡ refusal
     → onward (onward lent 0 here .done) 0 here ≡ stopped usedUp 0 (onward lent 0 here .done) (onward lent 0 here .machine)
@@ -52,9 +119,9 @@ onward-refused lent here =
 
 pub refused-changes-nothing : RefusedChangesNothing
 unfolding frameFrom
-refused-changes-nothing memory file start lent =
+refused-changes-nothing memory file beam start lent =
     record {
       beforeAny = λ some. rw (ne-eqb (startRefusal memory file) 0 some);
       atOne = λ starts why. rw (eq-eqb (startRefusal memory file) 0 starts)
-          (onward-refused lent (machine memory file 0 start) (rw (eq-eqb (startRefusal memory file) 0 starts) at why));
+          (onward-refused lent (machine memory file beam start) (rw (eq-eqb (startRefusal memory file) 0 starts) at why));
     }

@@ -50,10 +50,10 @@ onward-ends lent here =
 
 pub every-frame-ends : EveryFrameEnds
 unfolding frameFrom
-every-frame-ends memory file start lent =
-    if-either (Ends lent) (eqb (startRefusal memory file) 0) (onward lent 0 (machine memory file 0 start))
-    (stopped refusal (startRefusal memory file) 0 (machine memory file 0 0))
-    (onward-ends lent (machine memory file 0 start))
+every-frame-ends memory file beam start lent =
+    if-either (Ends lent) (eqb (startRefusal memory file) 0) (onward lent 0 (machine memory file beam start))
+    (stopped refusal (startRefusal memory file) 0 (machine memory file beam 0))
+    (onward-ends lent (machine memory file beam start))
     (record {
       few = omega arith;
       never = λ enough used. omega (arith, used);

@@ -2,6 +2,7 @@
 pub mod BeamLaws
 pub mod CourseLaws
 pub mod EndLaws
+pub mod AcceptedAgainLaws
 pub mod CutLaws
 pub mod WhyLaws
 pub mod OneAnswerLaws

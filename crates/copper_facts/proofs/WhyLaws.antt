@@ -9,7 +9,7 @@ use Rattle.copper.specs.Frame.{endOfFrame, usedUp, refusal, Frame, stopped, ove
 use Rattle.copper_facts.specs.Course.{after, goes}
 use Rattle.copper_facts.specs.WhyExactly.{ExactWhy, WhyExactly}
 use Rattle.copper_facts.proofs.CourseLaws.{onward-wherever, onward-stops-over, onward-stops-used-up, onward-stops-refused}
-use Rattle.copper_facts.proofs.CutLaws.{frame-when-started}
+use Rattle.copper_facts.proofs.CutLaws.{frameFrom-when-started}
 
 module _ (lent : ℕ) (here : Machine) where
   -- a count from 0 on
@@ -76,5 +76,5 @@ module _ (lent : ℕ) (here : Machine) where
       }
 
 pub why-exactly : WhyExactly
-why-exactly memory file start lent starts =
-    rw (frame-when-started memory file start lent starts) (onward-exactly lent (machine memory file 0 start))
+why-exactly memory file beam start lent starts =
+    rw (frameFrom-when-started memory file beam start lent starts) (onward-exactly lent (machine memory file beam start))

@@ -2,6 +2,7 @@
 pub mod Course
 pub mod BeamGoesForward
 pub mod EveryFrameEnds
+pub mod AcceptedAgain
 pub mod CutAndGoOn
 pub mod RefusedChangesNothing
 pub mod WhyExactly

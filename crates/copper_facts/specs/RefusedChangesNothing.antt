@@ -4,15 +4,17 @@ use Prim.Native.Nat.{ℕ}
 use mathlib.Core.Path.{_≡_}
 use mathlib.Core.List.{List}
 use Rattle.instruction.specs.Effect.{machine}
-use Rattle.copper.specs.Frame.{usedUp, refusal, stopped, startRefusal, frame}
+use Rattle.copper.specs.Frame.{usedUp, refusal, stopped, startRefusal, frameFrom}
 
-pub record Stands (memory file : List ℕ) (start lent : ℕ) : Type 0 where
-  pub beforeAny : (startRefusal memory file ≡ 0 → ⊥) → frame memory file start lent .machine ≡ machine memory file 0 0
+pub record Stands (memory file : List ℕ) (beam start lent : ℕ) : Type 0 where
+  pub beforeAny :
+      (startRefusal memory file ≡ 0 → ⊥)
+      → frameFrom memory file beam start lent .machine ≡ machine memory file beam 0
   pub atOne :
       startRefusal memory file ≡ 0
-      → frame memory file start lent .why ≡ refusal
-      → frame memory file start (frame memory file start lent .done)
-      ≡ stopped usedUp 0 (frame memory file start lent .done) (frame memory file start lent .machine)
+      → frameFrom memory file beam start lent .why ≡ refusal
+      → frameFrom memory file beam start (frameFrom memory file beam start lent .done)
+      ≡ stopped usedUp 0 (frameFrom memory file beam start lent .done) (frameFrom memory file beam start lent .machine)
 
 abbrev pub RefusedChangesNothing : Type 0
-RefusedChangesNothing = (memory file : List ℕ) (start lent : ℕ) → Stands memory file start lent
+RefusedChangesNothing = (memory file : List ℕ) (beam start lent : ℕ) → Stands memory file beam start lent

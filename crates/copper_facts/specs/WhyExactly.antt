@@ -7,7 +7,7 @@ use mathlib.Core.List.{List}
 use mathlib.Core.Logic.{_↔_}
 use Rattle.instruction.specs.Effect.{Machine, machine, effect}
 use Rattle.copper.specs.Frame as frames
-use Rattle.copper.specs.Frame.{Frame, stopped, over, startRefusal, frame}
+use Rattle.copper.specs.Frame.{Frame, stopped, over, startRefusal, frameFrom}
 use Rattle.copper_facts.specs.Course.{after, goes}
 
 -- a frame that starts at a machine, with so many instructions lent
@@ -29,6 +29,6 @@ pub record ExactWhy (here : Machine) (lent : ℕ) (end : Frame) : Type 0 where
 -- 1 and 2 come before any instruction
 abbrev pub WhyExactly : Type 0
 WhyExactly =
-    (memory file : List ℕ) (start lent : ℕ)
+    (memory file : List ℕ) (beam start lent : ℕ)
     → startRefusal memory file ≡ 0
-    → ExactWhy (machine memory file 0 start) lent (frame memory file start lent)
+    → ExactWhy (machine memory file beam start) lent (frameFrom memory file beam start lent)

@@ -1,6 +1,7 @@
 // What is proved of the Copper's definitions; each function has its theorem as its contract, and does nothing.
 ghost use Rattle.copper_facts.specs.BeamGoesForward.{BeamGoesForward};
 ghost use Rattle.copper_facts.specs.EveryFrameEnds.{EveryFrameEnds};
+ghost use Rattle.copper_facts.specs.AcceptedAgain.{AcceptedAgain};
 ghost use Rattle.copper_facts.specs.CutAndGoOn.{CutAndGoOn};
 ghost use Rattle.copper_facts.specs.RefusedChangesNothing.{RefusedChangesNothing};
 ghost use Rattle.copper_facts.specs.WhyExactly.{WhyExactly};
@@ -13,6 +14,10 @@ pub fn beam_goes_forward()
 
 pub fn every_frame_ends()
     ensures { λ _. ⌜ EveryFrameEnds ⌝ }
+{}
+
+pub fn accepted_again()
+    ensures { λ _. ⌜ AcceptedAgain ⌝ }
 {}
 
 pub fn cut_and_go_on()

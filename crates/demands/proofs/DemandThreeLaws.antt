@@ -12,6 +12,7 @@ use Rattle.word.specs.Choice.{if_then_else_, given}
 use Rattle.word.specs.Pointer.{high, low}
 use Rattle.file.specs.File.{accepted}
 use Rattle.file.specs.Places.{blitterLength, pointerD, flag, fileLength}
+use Rattle.file.proofs.FileLaws.{accepted-has-length}
 use Rattle.area.specs.Setup.{setup}
 use Rattle.blit.specs.Refusal.{memorySize, stepRefusal}
 use Rattle.blit.specs.Blit.{refused, blitStep}
@@ -30,12 +31,11 @@ use Rattle.settled.proofs.WordsLaws.{afterSettled, settledWords-run, blitStep-n
 use Rattle.settled.proofs.AgreeLaws.{Agree, uses-alike, stepRefusal-alike, settledEnd-alike, settledWords-alike}
 use Rattle.settled.specs.Learn.{written, forgotten, movedD}
 use Rattle.settled.specs.Settled.{settled}
-use Rattle.folder.specs.Folding.{folding, byStep}
-use Rattle.folder.specs.Folding as folds
 use Rattle.folder.specs.Fold.{folded, learned, rawWords, piece, learnedAfter, foldSteps, foldFrom, fold}
 use Rattle.demands.proofs.AgreesLaws.{Agrees, agrees-of-set, agrees-of-flag}
-use Rattle.demands.proofs.SettledKnownLaws.{both-first, settled-is-lawful, settled-uses-d, settled-agrees}
-use Rattle.demands.proofs.GoodStepLaws.{Good, byStep-is-clean, byStep-fits, steps-are-good}
+use Rattle.demands.proofs.SettledKnownLaws.{settled-is-lawful, settled-uses-d, settled-agrees}
+use Rattle.demands.proofs.FoldedJobLaws.{Done, folding-when-done, foldedJob-is-fold}
+use Rattle.demands.proofs.GoodStepLaws.{Good, steps-are-good}
 use Rattle.demands.specs.DemandThree.{DemandThree}
 use Rattle.demands.proofs.StepRunLaws.{SameButPlace, copied-runs}
 use Rattle.demands.proofs.StandsLaws.{Stands, after-lengths, stands-after-register, stands-after-store, stands-after-flag, stands-after-kept}
@@ -139,10 +139,6 @@ getD-of-nothing zero place = refl
 getD-of-nothing (suc n) zero = refl
 getD-of-nothing (suc n) (suc place) = getD-of-nothing n place
 
-accepted-length : (file : List ℕ) → accepted file ≡ true → length file ≡ fileLength
-unfolding accepted
-accepted-length file fine = eqb-true (length file) fileLength (both-first (eqb (length file) fileLength) _ fine)
-
 -- nothing known agrees with every file
 nothing-agrees : (file : List ℕ) → Agrees nothing file
 unfolding Agrees
@@ -154,37 +150,23 @@ start-of-none : (memory file job : List ℕ) → memorySize (length memory) ≡ 
 unfolding run startRefusal given
 start-of-none memory file job room fine short = rw (room, fine, short)
 
--- nor of 1 and 3 to a folding that is done
-pub folding-starts : (n : ℕ) (job out : List ℕ) → folding n job out .number ≡ 0
-    → (memorySize n ≡ false) × (jobLength job ≡ false) × (byStep (fold n job) out (steps job) .number ≡ 0)
-unfolding folding folds.startRefusal given
-folding-starts n job out done = by-tests (memorySize n) (jobLength job) done
-  where
-    by-tests : (bad long : Bool)
-        → (if eqb (if bad then 1 else if long then 3 else 0) 0 then byStep (fold n job) out (steps job) else folds.refused (if bad then 1 else if long then 3 else 0) 0 out) .number ≡ 0
-        → (bad ≡ false) × (long ≡ false) × (byStep (fold n job) out (steps job) .number ≡ 0)
-    by-tests true long wrong = absurd (omega arith)
-    by-tests false true wrong = absurd (omega arith)
-    by-tests false false done = (refl, refl, done)
-
 short-job : (words : List ℕ) → length words ≤ 4096 → jobLength words ≡ false
 unfolding jobLength
 short-job words fits = ap not (le-leb (length words) 4096 fits)
 
 pub demand-three : DemandThree
 unfolding fold foldFrom
-demand-three n job memory file accepts sized fine =
-    let starts = folding-starts n job (accepts .out) (accepts .done) in
-    let room : memorySize (length memory) ≡ false = ap memorySize sized ∙ starts .0 in
-    let fits : length (fold n job) ≤ 4096 = byStep-fits (fold n job) (accepts .out) (steps job) (starts .2) in
-    let good : Good job (steps job) = steps-are-good job 0 0 job refl (byStep-is-clean (fold n job) (accepts .out) (steps job) (starts .2)) in
+demand-three n job out memory file accepts sized fine =
+    let is : Done n job out = folding-when-done n job out accepts in
+    let room : memorySize (length memory) ≡ false = ap memorySize sized ∙ is .room in
+    let good : Good job (steps job) = steps-are-good job 0 0 job refl (is .clean) in
     let stands : Stands n nothing (machine memory file 0) =
-    record { memory = sized; file = accepted-length file fine; long = nothing-length; agrees = nothing-agrees file } in
+    record { memory = sized; file = accepted-has-length file fine; long = nothing-length; agrees = nothing-agrees file } in
     let alike : SameButPlace (runFrom 0 (fold n job) (machine memory file 0)) (runFrom 0 job (machine memory file 0)) =
     simulate n job (steps job) good 0 nothing (machine memory file 0) stands in
-    let this : run memory file (fold n job) ≡ runFrom 0 (fold n job) (machine memory file 0) = start-of-none memory file (fold n job) room fine (short-job (fold n job) fits) in
-    let that : run memory file job ≡ runFrom 0 job (machine memory file 0) = start-of-none memory file job room fine (starts .1) in
-    rw (this, that)
+    let this : run memory file (fold n job) ≡ runFrom 0 (fold n job) (machine memory file 0) = start-of-none memory file (fold n job) room fine (short-job (fold n job) (is .fits)) in
+    let that : run memory file job ≡ runFrom 0 job (machine memory file 0) = start-of-none memory file job room fine (is .short) in
+    rw (foldedJob-is-fold n job out is, this, that)
     (record {
       memory = ap (λ (m : Machine). m .memory) (alike .machines);
       file = ap (λ (m : Machine). m .file) (alike .machines);

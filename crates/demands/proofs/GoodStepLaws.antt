@@ -4,10 +4,8 @@ use Prim.Native.Nat.{ℕ, zero, suc, _+_, _≤_}
 use native.Mathlib.Nat.{le-refl}
 use native.Mathlib.Numerals.{one-add}
 use native.Mathlib.Omega.{arith}
-use mathlib.Core.Bool.{Bool, true, false, not, _||_}
+use mathlib.Core.Bool.{Bool, true, false}
 use mathlib.Core.List.{List, [], _∷_}
-use borrow.Author.Tests.{eqb-true, eqb-false, leb-true}
-use lib.Dec.{eqb, leb}
 use lib.ListN.{length, take, drop}
 use lib.Seq.{length-take-le, drop-drop}
 use Rattle.word.specs.Choice.{if_then_else_}
@@ -21,7 +19,7 @@ use Rattle.job.specs.Steps.{Placed, placed, following, stepsFrom}
 use Rattle.job.proofs.StepLaws.{front-le}
 use Rattle.runner.proofs.FrontLaws.{front-of-take, front-is-some}
 use Rattle.folder.specs.Fold.{rawWords}
-use Rattle.folder.specs.Folding.{refused, done, tooLong, byStep}
+use Rattle.demands.proofs.FoldedJobLaws.{Clean}
 
 -- a step that some words begin is begun by them wherever they stand
 begun-elsewhere : (begins : Kind) (at to : ℕ) (rest : List ℕ) (step : Step) (next : ℕ)
@@ -46,7 +44,7 @@ begun-elsewhere (Kind.Store high) at to (low ∷ value ∷ rest) step next reads
 begun-elsewhere (Kind.Flag flag) at to rest step next reads =
     let same : Step.Flag flag ≡ step = cc in ap (found to) same
 
-front-elsewhere : (at to first : ℕ) (rest : List ℕ) (step : Step) (next : ℕ)
+pub front-elsewhere : (at to first : ℕ) (rest : List ℕ) (step : Step) (next : ℕ)
     → front at (first ∷ rest) ≡ Read.Step step next → front to (first ∷ rest) ≡ found to step
 unfolding front
 front-elsewhere at to first rest step next reads = begun-elsewhere (kind first) at to rest step next reads
@@ -62,41 +60,6 @@ pub record GoodStep (job : List ℕ) (one : Placed) : Type 0 where
 unfoldable pub Good : (job : List ℕ) → List Placed → Type 0
 Good job [] = Unit
 Good job (one ∷ rest) = GoodStep job one × Good job rest
-
--- no number is told for any of them
-unfoldable pub Clean : List Placed → Type 0
-Clean [] = Unit
-Clean (one ∷ rest) = (readNumber (one .read) ≡ 0) × Clean rest
-
-pub byStep-is-clean : (words out : List ℕ) (list : List Placed) → byStep words out list .number ≡ 0 → Clean list
-unfolding byStep Clean
-byStep-is-clean words out [] whole = tt
-byStep-is-clean words out (one ∷ rest) whole =
-    by-number (λ later. byStep-is-clean words out rest later) (eqb (readNumber (one .read)) 0) refl whole
-  where
-    by-number : (byStep words out rest .number ≡ 0 → Clean rest) → (none : Bool) → eqb (readNumber (one .read)) 0 ≡ none
-        → (if none then byStep words out rest else refused (readNumber (one .read)) (one .place) out) .number ≡ 0
-        → (readNumber (one .read) ≡ 0) × Clean rest
-    by-number later true is whole = (eqb-true (readNumber (one .read)) 0 is, later whole)
-    by-number later false is wrong = absurd (eqb-false (readNumber (one .read)) 0 is wrong)
-
-pub byStep-fits : (words out : List ℕ) (list : List Placed) → byStep words out list .number ≡ 0 → length words ≤ 4096
-unfolding byStep tooLong
-byStep-fits words out [] whole = by-test (leb (length words) (length out)) (leb (length words) 4096) refl whole
-  where
-    by-test : (room short : Bool) → leb (length words) 4096 ≡ short
-        → (if not room || not short then refused 11 0 out else done words out) .number ≡ 0
-        → length words ≤ 4096
-    by-test room true is whole = leb-true (length words) 4096 is
-    by-test true false is wrong = absurd (omega arith)
-    by-test false false is wrong = absurd (omega arith)
-byStep-fits words out (one ∷ rest) whole = by-number (λ later. byStep-fits words out rest later) (eqb (readNumber (one .read)) 0) refl whole
-  where
-    by-number : (byStep words out rest .number ≡ 0 → length words ≤ 4096) → (none : Bool) → eqb (readNumber (one .read)) 0 ≡ none
-        → (if none then byStep words out rest else refused (readNumber (one .read)) (one .place) out) .number ≡ 0
-        → length words ≤ 4096
-    by-number later true is whole = later whole
-    by-number later false is wrong = absurd (eqb-false (readNumber (one .read)) 0 is wrong)
 
 -- one word on
 drop-next : (job : List ℕ) (at first : ℕ) (rest : List ℕ) → drop at job ≡ first ∷ rest → drop (at + 1) job ≡ rest

@@ -5,16 +5,18 @@ use Prim.Native.Nat.{ℕ}
 use mathlib.Core.Path.{_≡_}
 use mathlib.Core.Bool.{true}
 use mathlib.Core.List.{List}
-use lib.ListN.{length}
+use lib.ListN.{length, take}
 use Rattle.file.specs.File.{accepted}
 use Rattle.runner.specs.Run.{End, run}
-use Rattle.folder.specs.Fold.{fold}
 use Rattle.folder.specs.Folding.{folding}
 
--- the folder accepts a job: for some output run the folding is done
-pub record FolderAccepts (n : ℕ) (job : List ℕ) : Type 0 where
-  pub out : List ℕ
-  pub done : folding n job out .number ≡ 0
+-- the folder accepts a job and an output run: the folding is done
+abbrev pub FolderAccepts : (n : ℕ) → (job out : List ℕ) → Type 0
+FolderAccepts n job out = folding n job out .number ≡ 0
+
+-- the folded job, as the caller holds it: the first `length` words of the output run
+abbrev pub foldedJob : (n : ℕ) → (job out : List ℕ) → List ℕ
+foldedJob n job out = take (folding n job out .length) (folding n job out .out)
 
 -- the runner accepts a register file at the start; its last word is the zero flag
 abbrev pub RunnerAccepts : (file : List ℕ) → Type 0
@@ -29,8 +31,8 @@ pub record SameEnd (folded original : End) : Type 0 where
 
 abbrev pub DemandThree : Type 0
 DemandThree =
-    (n : ℕ) (job memory file : List ℕ)
-    → FolderAccepts n job
+    (n : ℕ) (job out memory file : List ℕ)
+    → FolderAccepts n job out
     → length memory ≡ n
     → RunnerAccepts file
-    → SameEnd (run memory file (fold n job)) (run memory file job)
+    → SameEnd (run memory file (foldedJob n job out)) (run memory file job)

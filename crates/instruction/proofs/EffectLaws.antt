@@ -119,16 +119,20 @@ effect-when-inside beam word first second memory file next end found taken insid
 
 -- what holds of an instruction that is refused, and of each kind that is done, holds of every one
 module _ (Holds : Step → Type 0) (here : Machine) (refuses : (number : ℕ) → (number ≡ 0 → ⊥) → Holds (step number here))
-    (moves : (memory file : List ℕ) → Holds (moved memory file here))
+    (blits : (size : ℕ) → Holds (moved (blitStep (here .memory) (here .file) size .memory) (blitStep (here .memory) (here .file) size .file) here))
+    (writes : (place value : ℕ) → Holds (moved (here .memory) (set (here .file) place (kept place value)) here))
     (waits : (first second : ℕ) → Holds (waitEffect first second here))
     (skips : (first second : ℕ) → Holds (skipEffect first second here)) where
-  blitted-either : (outcome : Outcome) → Holds (blitted outcome here)
+  blitted-either : (size : ℕ) → Holds (blitted (blitStep (here .memory) (here .file) size) here)
   unfolding blitted
-  blitted-either outcome = by-number (eqb (outcome .number) 0) refl
+  blitted-either size = by-number (eqb (outcome .number) 0) refl
     where
+      outcome : Outcome
+      outcome = blitStep (here .memory) (here .file) size
+
       by-number : (done : Bool) → eqb (outcome .number) 0 ≡ done
           → Holds (if done then moved (outcome .memory) (outcome .file) here else step (outcome .number) here)
-      by-number true is = moves (outcome .memory) (outcome .file)
+      by-number true is = blits size
       by-number false is = refuses (outcome .number) (eqb-false (outcome .number) 0 is)
 
   moveEffect-either : (offset value : ℕ) → Holds (moveEffect offset value here)
@@ -136,7 +140,7 @@ module _ (Holds : Step → Type 0) (here : Machine) (refuses : (number : ℕ) �
   moveEffect-either offset value =
       if-either Holds (not (permitted (here .file) offset)) _ _ (refuses 21 (λ none. omega (arith, none)))
       (if-either Holds (not (modelled offset)) _ _ (refuses 22 (λ none. omega (arith, none)))
-      (if-either Holds (eqb offset sizeOffset) _ _ (blitted-either (blitStep (here .memory) (here .file) value)) (moves _ _)))
+      (if-either Holds (eqb offset sizeOffset) _ _ (blitted-either value) (writes (place offset) value)))
 
   instructionEffect-either : (found : Instruction) → Holds (instructionEffect found here)
   unfolding instructionEffect
@@ -155,5 +159,5 @@ pub effect-stays : (here : Machine) → (effect here .number ≡ 0 → ⊥) → 
 unfolding waitEffect skipEffect
 effect-stays here =
     effect-either (λ (taken : Step). (taken .number ≡ 0 → ⊥) → taken .machine ≡ here) here
-    (λ number some other. refl) (λ memory file some. absurd (some refl)) (λ first second some. absurd (some refl))
+    (λ number some other. refl) (λ size some. absurd (some refl)) (λ place value some. absurd (some refl)) (λ first second some. absurd (some refl))
     (λ first second some. absurd (some refl))

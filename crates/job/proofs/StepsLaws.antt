@@ -29,7 +29,7 @@ pub steps-of-end : (job : List ℕ) (at : ℕ) → stepAt job at ≡ Read.End �
 steps-of-end job at reads = steps-at-end job at (stepAt-of-end job at reads)
 
 -- a run that begins with a step
-stepsFrom-of-step : (at : ℕ) (words : List ℕ) (step : Step) (next : ℕ) → front at words ≡ Read.Step step next
+pub stepsFrom-of-step : (at : ℕ) (words : List ℕ) (step : Step) (next : ℕ) → front at words ≡ Read.Step step next
     → stepsFrom 0 at words ≡ placed at (Read.Step step next) ∷ stepsFrom 0 next (drop (suc (operands step)) words)
 unfolding stepsFrom following front
 stepsFrom-of-step at [] step next reads = let n : _≡_ {A = ℕ} 0 1 = cc in absurd (omega arith)

@@ -10,3 +10,4 @@ pub mod CutLaws
 pub mod RefusedRunStandsLaws
 pub mod EachNumberExactlyLaws
 pub mod OneAnswerLaws
+pub mod AcceptedAgainLaws

@@ -6,4 +6,5 @@ pub mod Table
 pub mod RunAppend
 pub mod RefusedRunStands
 pub mod EachNumberExactly
+pub mod AcceptedAgain
 pub mod OneAnswer

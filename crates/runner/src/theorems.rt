@@ -2,6 +2,7 @@
 ghost use Rattle.runner.specs.RunAppend.{RunAppend};
 ghost use Rattle.runner.specs.RefusedRunStands.{RefusedRunStands};
 ghost use Rattle.runner.specs.EachNumberExactly.{EachNumberExactly};
+ghost use Rattle.runner.specs.AcceptedAgain.{AcceptedAgain};
 ghost use Rattle.runner.specs.OneAnswer.{OneAnswer};
 
 pub fn run_append()
@@ -14,6 +15,10 @@ pub fn refused_run_stands()
 
 pub fn each_number_exactly()
     ensures { λ _. ⌜ EachNumberExactly ⌝ }
+{}
+
+pub fn accepted_again()
+    ensures { λ _. ⌜ AcceptedAgain ⌝ }
 {}
 
 pub fn one_answer()

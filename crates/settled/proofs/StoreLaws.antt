@@ -1,18 +1,18 @@
 -- Laws of store steps: what the words of a store, a pointer and a flag do when they are run.
 use mathlib.Core.Path.{_≡_, refl, _∙_}
-use Prim.Native.Nat.{ℕ, zero, suc, _+_, _*_, _/_, _%_, _<_}
-use native.Mathlib.Nat.{add-zero, mod-eq-of-lt}
+use Prim.Native.Nat.{ℕ, zero, suc, _+_, _%_, _<_}
+use native.Mathlib.Nat.{add-zero}
 use native.Mathlib.Omega.{arith}
 use mathlib.Core.Bool.{Bool, true, false}
 use mathlib.Core.List.{List, _∷_, _++_}
 use borrow.Author.Tests.{ne-eqb, lt-leb}
-use lib.Bits.{and-mask, and-high}
 use lib.ListN.{length, set}
 use Rattle.word.specs.declared.types.Pointer.{Pointer}
 use Rattle.word.specs.Choice.{if_then_else_}
 use Rattle.word.specs.Pointer.{pointerEnd, pointer, high, low}
 use Rattle.file.specs.File.{registers, placeIn, place, isRegister, keptBits, kept}
 use Rattle.file.specs.Places.{pointerD, flag}
+use Rattle.file.proofs.FileLaws.{kept-of-high, kept-of-low}
 use Rattle.job.specs.declared.types.Kind.{Kind}
 use Rattle.job.specs.declared.types.Step.{Step}
 use Rattle.job.specs.Kind.{kind}
@@ -55,17 +55,14 @@ unfolding stepsFrom runSteps found following operands effect stepEffect storeEff
 run-of-store at value to more memory file stored small inside =
     rw (front-of-store at value to more small, lt-leb (length memory) (to .word) inside)
 
--- what the kept bits of a pointer's halves are: the halves
-kept-of-high : (to : Pointer) → kept pointerD (high to) ≡ high to
-unfolding kept keptBits registers
-kept-of-high to = and-mask (high to) 3 ∙ mod-eq-of-lt (omega arith)
+-- D's pointer keeps its halves
+high-kept : (to : Pointer) → kept pointerD (high to) ≡ high to
+unfolding keptBits registers
+high-kept to = kept-of-high pointerD to refl
 
-kept-of-low : (to : Pointer) → kept (pointerD + 1) (low to) ≡ low to
-unfolding kept keptBits registers
-kept-of-low to = and-high (low to) 15 1 ∙ half-twice (to .word % 32768) (omega arith)
-  where
-    half-twice : (n : ℕ) → n < 32768 → n * 2 / 2 % 32768 * 2 ≡ n * 2
-    half-twice n small = omega arith
+low-kept : (to : Pointer) → kept (pointerD + 1) (low to) ≡ low to
+unfolding keptBits registers
+low-kept to = kept-of-low (pointerD + 1) to refl
 
 front-of-high : (at value : ℕ) (more : List ℕ) → front at (0x0054 ∷ value ∷ more) ≡ found at (Step.Register pointerD value)
 unfolding front begun kind isRegister place placeIn registers
@@ -91,7 +88,7 @@ run-of-end at to allzero more memory file stored =
     rw (front-of-high at (high to) (0x0056 ∷ low to ∷ (if allzero then 0xC001 else 0xC000) ∷ more))
     (rw (front-of-low (at + 1 + 1) (low to) ((if allzero then 0xC001 else 0xC000) ∷ more))
     (rw (front-of-flag (at + 1 + 1 + 1 + 1) allzero more)
-    (rw (kept-of-high to, kept-of-low to, add-zero, add-zero, add-zero))))
+    (rw (high-kept to, low-kept to, add-zero, add-zero, add-zero))))
 
 -- the steps of a store's words, and of the words that end a settled blit
 pub steps-of-store : (at value : ℕ) (to : Pointer) (more : List ℕ) → to .word < pointerEnd

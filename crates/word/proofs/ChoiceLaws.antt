@@ -63,6 +63,11 @@ every-at test (suc n) all k inside =
     by-place below (yes earlier) = below earlier
     by-place below (no later) = let same : k ≡ n = omega arith in rw same (T-left (test n) (every test n) all)
 
+-- and one that holds at each was computed
+pub every-of-each : (test : ℕ → Bool) (n : ℕ) → ((k : ℕ) → k < n → test k ≡ true) → every test n ≡ true
+every-of-each test zero each = refl
+every-of-each test (suc n) each = rw (each n (omega arith), every-of-each test n (λ k inside. each k (omega (arith, inside))))
+
 -- a test at every number below a sum: at the first n, and at those after them
 pub every-of-sum : (test : ℕ → Bool) (n more : ℕ) → (every (λ (k : ℕ). test (n + k)) more && every test n) ≡ every test (n + more)
 every-of-sum test n zero = rw add-zero

@@ -132,6 +132,18 @@ inclusive-is-or start this small =
     (or-lt 16 (exclusive start this) this (exclusive-lt start this) small)
     (λ i inside. bit-of-or (exclusive start this) this i ∙ ap (λ (n : ℕ). bitOr n (bit this i)) (bit-of-exclusive start this i inside))
 
+inclusive-lt : (start this : ℕ) → inclusive start this < 2 ^ 16
+unfolding inclusive
+inclusive-lt start this =
+    ofBits-lt (λ i. bitOr (carry start this (suc i)) (bit this i)) 16
+    (λ i. or-lt 1 (carry start this (suc i)) (bit this i) (carry-lt start this (suc i)) (bit-lt this i))
+
+pub filled-lt : (fill : Fill) (start this : ℕ) → this < 2 ^ 16 → filled fill start this .word < 2 ^ 16
+unfolding filled
+filled-lt Off start this small = small
+filled-lt Inclusive start this small = inclusive-lt start this
+filled-lt Exclusive start this small = exclusive-lt start this
+
 -- the carry that goes on is bit 15 of the exclusive fill
 pub carry-is-top-bit : (start this : ℕ) → exclusive start this / 32768 ≡ carry start this 16
 carry-is-top-bit start this =

@@ -17,10 +17,17 @@ unfolding repeated
 repeated-done step zero now whole none same = same
 repeated-done step (suc n) now whole none same = absurd (omega arith)
 
+-- what holds after a step if it held before holds after all the steps
+pub repeated-holds : {State : Type 0} (step : ℕ → State → State) (Holds : State → Type 0)
+    → ((left : ℕ) (state : State) → Holds state → Holds (step left state))
+    → (n : ℕ) (state : State) → Holds state → Holds (repeated step n state)
+unfolding repeated
+repeated-holds step Holds again zero state holds = holds
+repeated-holds step Holds again (suc n) state holds = repeated-holds step Holds again n (step n state) (again n state holds)
+
 -- what every step keeps, all the steps keep
 pub repeated-keeps : {State Part : Type 0} (step : ℕ → State → State) (part : State → Part)
     → ((left : ℕ) (state : State) → part (step left state) ≡ part state)
     → (n : ℕ) (state : State) → part (repeated step n state) ≡ part state
-unfolding repeated
-repeated-keeps step part keeps zero state = refl
-repeated-keeps step part keeps (suc n) state = repeated-keeps step part keeps n (step n state) ∙ keeps n state
+repeated-keeps step part keeps n state =
+    repeated-holds step (λ now. part now ≡ part state) (λ left now same. keeps left now ∙ same) n state refl

@@ -3,13 +3,19 @@ use mathlib.Core.Path.{_≡_, refl, sym, ap, ap₂, _∙_}
 use Prim.Native.Nat.{ℕ, zero, suc, _+_, _-_, _*_, _/_, _%_, _^_, _<_}
 use native.Mathlib.Nat.{mod-lt, mod-one, mod-eq-of-lt, add-zero, zero-lt-suc}
 use native.Mathlib.Numerals.{one-add}
+use native.Mathlib.Decide.{decLt}
 use native.Mathlib.Omega.{arith}
+use mathlib.Core.Bool.{Bool, true, false}
+use mathlib.Core.List.{List, _∷_}
+use borrow.Author.Tests.{eqb-true, eqb-false}
 use lib.Dec.{eqb, lit<, eqb→eq}
+use lib.ListN.{length, getD, set}
+use lib.Seq.{getD-set-other, getD-set-same, set-out}
 use lib.Pow.{mod-pow-add, pow-pos, field, mod-mod-pow, high, low, shr-shr, shl-shr}
 use lib.Arith.{digits-lt}
 use lib.Bits.{bitAnd, bitOr, bitXor, and-shr, or-shr, xor-shr, and-mod, or-mod, xor-mod}
 use Rattle.word.specs.Choice.{every}
-use Rattle.word.specs.Word.{bit, ofBits}
+use Rattle.word.specs.Word.{SixteenBits, bit, ofBits}
 use Rattle.word.proofs.ChoiceLaws.{every-at}
 
 pub bit-lt : (x i : ℕ) → bit x i < 2
@@ -104,6 +110,17 @@ bits-are-enough-at-any-width x y e =
     bits-are-enough (x + y) x y (native.Mathlib.Nat.lt-of-le-of-lt (omega arith) (lt-pow-self (x + y)))
     (native.Mathlib.Nat.lt-of-le-of-lt (omega arith) (lt-pow-self (x + y))) (λ i h. e i)
 
+again-bit : (a b : ℕ) → a < 2 → b < 2 → bitAnd (bitAnd a b) b ≡ bitAnd a b
+again-bit a b ha hb =
+    bit-cases (λ a. bitAnd (bitAnd a b) b ≡ bitAnd a b) (bit-cases (λ b. bitAnd (bitAnd 0 b) b ≡ bitAnd 0 b) refl refl b hb)
+    (bit-cases (λ b. bitAnd (bitAnd 1 b) b ≡ bitAnd 1 b) refl refl b hb) a ha
+
+-- what was masked is masked
+pub and-again : (a b : ℕ) → bitAnd (bitAnd a b) b ≡ bitAnd a b
+and-again a b =
+    bits-are-enough-at-any-width (bitAnd (bitAnd a b) b) (bitAnd a b)
+    (λ i. simp bit-of-and (again-bit (bit a i) (bit b i) (bit-lt a i) (bit-lt b i)))
+
 assoc-bit : (a b c : ℕ) → a < 2 → b < 2 → c < 2 → bitXor (bitXor a b) c ≡ bitXor a (bitXor b c)
 assoc-bit a b c ha hb hc =
     bit-cases (λ a. bitXor (bitXor a b) c ≡ bitXor a (bitXor b c)) refl
@@ -113,3 +130,15 @@ pub xor-assoc : (a b c : ℕ) → bitXor (bitXor a b) c ≡ bitXor a (bitXor b c
 xor-assoc a b c =
     bits-are-enough-at-any-width (bitXor (bitXor a b) c) (bitXor a (bitXor b c))
     (λ i. simp bit-of-xor (assoc-bit (bit a i) (bit b i) (bit c i) (bit-lt a i) (bit-lt b i) (bit-lt c i)))
+
+-- a run's words have 16 bits with one of 16 bits put among them, and after the first
+pub SixteenBits-of-set : (run : List ℕ) (at word : ℕ) → SixteenBits run → word < 65536 → SixteenBits (set run at word)
+SixteenBits-of-set run at word all small place = by-place (eqb at place) refl (decLt at (length run))
+  where
+    by-place : (here : Bool) → eqb at place ≡ here → Dec (at < length run) → getD (set run at word) place 0 < 65536
+    by-place false apart inside = rw (getD-set-other run at place word 0 (λ same. eqb-false at place apart (sym same))) (all place)
+    by-place true same (yes inside) = rw (← eqb-true at place same, getD-set-same run at word 0 inside) small
+    by-place true same (no outside) = rw (set-out run at word (omega arith)) (all place)
+
+pub SixteenBits-of-rest : (first : ℕ) (rest : List ℕ) → SixteenBits (first ∷ rest) → SixteenBits rest
+SixteenBits-of-rest first rest all place = all (suc place)

@@ -1,0 +1,102 @@
+-- What a blit leaves is accepted again: a pointer is written as the bits that its registers keep, a data register holds a
+-- word of memory, and the flag is 0 or 1.
+use mathlib.Core.Path.{_≡_, refl, _∙_}
+use Prim.Native.Nat.{ℕ, _+_, _<_}
+use native.Mathlib.Omega.{arith}
+use mathlib.Core.Bool.{Bool, true, false}
+use mathlib.Core.List.{List}
+use lib.Dec.{lit<}
+use lib.ListN.{length, getD, set}
+use Rattle.word.specs.declared.types.Pointer.{Pointer}
+use Rattle.word.specs.Choice.{if_then_else_}
+use Rattle.word.specs.Pointer.{high, low}
+use Rattle.word.specs.Size.{height, width}
+use Rattle.word.specs.Word.{SixteenBits}
+use Rattle.file.specs.File.{registers, keptBits, kept, accepted}
+use Rattle.file.specs.Places.{fileLength, pointerA, pointerB, pointerC, pointerD, sourceA, sourceB, sourceC, flag}
+use Rattle.file.proofs.FileLaws.{kept-of-bits, kept-of-high, kept-of-low, accepted-word-lt, accepted-of-set}
+use Rattle.area.specs.declared.types.Uses.{Uses}
+use Rattle.area.specs.declared.types.Pointers.{Pointers}
+use Rattle.area.specs.Setup.{setup}
+use Rattle.area.specs.Flow.{State, state, sources, start}
+use Rattle.area.proofs.SixteenBitsLaws.{Bounded, areaBlit-bounded}
+use Rattle.blit.specs.Refusal.{stepRefusal, refusal}
+use Rattle.blit.specs.WriteBack.{putPointer, putPointers, putSource, putSources, putFlag}
+use Rattle.blit.specs.Blit.{Outcome, finished, done, refused, answered, blitStep, blit}
+use Rattle.blit.specs.AcceptedAgain.{Ready, AcceptedAgain}
+use Rattle.blit.proofs.BlitLaws.{answered-either, answered-keeps-memory-length}
+
+putPointer-accepted : (used : Bool) (place : ℕ) (to : Pointer) (file : List ℕ)
+    → getD keptBits place 0 ≡ 0x0007 → getD keptBits (place + 1) 0 ≡ 0xFFFE
+    → accepted file ≡ true → accepted (putPointer used place to file) ≡ true
+unfolding putPointer
+putPointer-accepted true place to file three even fine =
+    accepted-of-set (set file place (high to)) (accepted-of-set file fine place (high to) (kept-of-high place to three))
+    (place + 1) (low to) (kept-of-low (place + 1) to even)
+putPointer-accepted false place to file three even fine = fine
+
+putSource-accepted : (used : Bool) (place word : ℕ) (file : List ℕ) → getD keptBits place 0 ≡ 0xFFFF → word < 65536
+    → accepted file ≡ true → accepted (putSource used place word file) ≡ true
+unfolding putSource
+putSource-accepted true place word file all small fine = accepted-of-set file fine place word (kept-of-bits place word 16 all small)
+putSource-accepted false place word file all small fine = fine
+
+putFlag-accepted : (allzero : Bool) (file : List ℕ) → accepted file ≡ true → accepted (putFlag allzero file) ≡ true
+unfolding putFlag keptBits registers
+putFlag-accepted true file fine = accepted-of-set file fine flag 1 (kept-of-bits flag 1 1 refl (lit< tt))
+putFlag-accepted false file fine = accepted-of-set file fine flag 0 (kept-of-bits flag 0 1 refl (lit< tt))
+
+putPointers-accepted : (uses : Uses) (at : Pointers) (file : List ℕ) → accepted file ≡ true → accepted (putPointers uses at file) ≡ true
+unfolding putPointers keptBits registers
+putPointers-accepted uses at file fine =
+    putPointer-accepted (uses .d) pointerD (at .d) _ refl refl
+    (putPointer-accepted (uses .c) pointerC (at .c) _ refl refl
+    (putPointer-accepted (uses .b) pointerB (at .b) _ refl refl
+    (putPointer-accepted (uses .a) pointerA (at .a) file refl refl fine)))
+
+done-accepted : (file : List ℕ) (end : State) → Bounded end → accepted file ≡ true → accepted (done file end .file) ≡ true
+unfolding done putSources keptBits registers
+done-accepted file end bounded fine =
+    putFlag-accepted (end .flow .allzero) _
+    (putSource-accepted (setup file .uses .c) sourceC (end .flow .sources .c) _ refl (bounded .c)
+    (putSource-accepted (setup file .uses .b) sourceB (end .flow .sources .b) _ refl (bounded .b)
+    (putSource-accepted (setup file .uses .a) sourceA (end .flow .sources .a) _ refl (bounded .a)
+    (putPointers-accepted (setup file .uses) (end .flow .pointers) file fine))))
+
+-- a blit starts with memory, data registers of the file, and nothing that waits
+start-bounded : (memory file : List ℕ) → SixteenBits memory → accepted file ≡ true → Bounded (state memory (start file))
+unfolding start sources keptBits registers
+start-bounded memory file all fine =
+    record {
+      memory = all;
+      a = accepted-word-lt file fine sourceA (lit< tt);
+      b = accepted-word-lt file fine sourceB (lit< tt);
+      c = accepted-word-lt file fine sourceC (lit< tt);
+      pending = omega arith;
+    }
+
+-- done or refused
+module _ (n number : ℕ) (memory file : List ℕ) (size : ℕ) (ready : Ready n memory file) where
+  end-bounded : Bounded (finished memory file size)
+  unfolding finished
+  end-bounded =
+      areaBlit-bounded (setup file) (width size) (height size) (state memory (start file)) (start-bounded memory file (ready .words) (ready .file))
+
+  answered-ready : Ready n (answered number memory file size .memory) (answered number memory file size .file)
+  unfolding done refused
+  answered-ready =
+      record {
+        long = answered-keeps-memory-length number memory file size ∙ ready .long;
+        words = answered-either (λ (end : Outcome). SixteenBits (end .memory)) number memory file size (end-bounded .memory) (ready .words);
+        file =
+            answered-either (λ (end : Outcome). accepted (end .file) ≡ true) number memory file size
+            (done-accepted file (finished memory file size) end-bounded (ready .file)) (ready .file);
+      }
+
+pub accepted-again : AcceptedAgain
+unfolding blit blitStep
+accepted-again =
+    record {
+      blit = λ n memory file size ready. answered-ready n (refusal (length memory) file size) memory file size ready;
+      step = λ n memory file size ready. answered-ready n (stepRefusal (length memory) file size) memory file size ready;
+    }

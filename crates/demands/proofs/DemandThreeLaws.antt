@@ -13,7 +13,7 @@ use Rattle.word.specs.Pointer.{high, low}
 use Rattle.file.specs.File.{accepted}
 use Rattle.file.specs.Places.{blitterLength, pointerD, flag, fileLength}
 use Rattle.area.specs.Setup.{setup}
-use Rattle.blit.specs.Refusal.{memorySize, stepRefusal}
+use Rattle.refusal.specs.Refusal.{memorySize, stepRefusal}
 use Rattle.blit.specs.Blit.{refused, blitStep}
 use Rattle.job.specs.declared.types.Step.{Step}
 use Rattle.job.specs.declared.types.Read.{Read}

@@ -12,7 +12,7 @@ use Rattle.area.specs.declared.types.Pointers.{Pointers}
 use Rattle.area.specs.declared.types.Sources.{Sources}
 use Rattle.area.specs.Setup.{con0, uses, setup}
 use Rattle.area.specs.Flow.{start}
-use Rattle.blit.specs.Refusal.{stepRefusal}
+use Rattle.refusal.specs.Refusal.{stepRefusal}
 use Rattle.blit.specs.WriteBack.{putPointer, putPointers, putSource, putSources, putFlag}
 use Rattle.blit.specs.Blit.{Outcome, finished, done, refused, blitStep}
 use Rattle.blit.proofs.BlitLaws.{answered-either}

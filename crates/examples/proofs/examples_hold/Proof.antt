@@ -17,8 +17,8 @@ use Rattle.area.specs.Finish.{maskedA, result, final, finish}
 use Rattle.area.specs.Store.{wait, memoryWith, countWith, storePending}
 use Rattle.area.specs.Move.{stepped, moveOn, turned, rowEnd}
 use Rattle.area.specs.Rows.{finishedWord, storedBefore, oneWord, rowStart, oneRow, areaBlit}
-use Rattle.blit.specs.Touch.{rowTouches, afterRow, touches, leaves, channelLeaves}
-use Rattle.blit.specs.Refusal.{memorySize, bothFills, fillUpward, stepRefusal, refusal}
+use Rattle.refusal.specs.Touch.{rowTouches, afterRow, touches, leaves, channelLeaves}
+use Rattle.refusal.specs.Refusal.{memorySize, bothFills, fillUpward, stepRefusal, refusal}
 use Rattle.blit.specs.Blit.{finished, done, answered, blit}
 use Rattle.job.specs.Kind.{kind}
 use Rattle.job.specs.Step.{operands, found, begun, front}

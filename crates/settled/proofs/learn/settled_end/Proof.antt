@@ -1,5 +1,5 @@
 -- `settled::learn::settled_end` meets its contract: the rows on a memory of no words.
-use Rattle.blit.proofs.RefusalLaws.{width-is-few}
+use Rattle.refusal.proofs.RefusalLaws.{width-is-few}
 use Rattle.blit.proofs.BlitLaws.{setup-shifts-a, setup-shifts-b, start-room}
 use Rattle.settled.proofs.LearnLaws.{settledEnd-of-parts}
 use borrow.Author.Needs.{needs}

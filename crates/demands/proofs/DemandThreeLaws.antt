@@ -28,7 +28,7 @@ use Rattle.settled.specs.Words.{settledEnd, settledWords}
 use Rattle.settled.proofs.OnlyDLaws.{OnlyD}
 use Rattle.settled.proofs.WordsLaws.{afterSettled, settledWords-run, blitStep-number, blitStep-file}
 use Rattle.settled.proofs.AgreeLaws.{Agree, uses-alike, stepRefusal-alike, settledEnd-alike, settledWords-alike}
-use Rattle.settled.specs.Learn.{written, forgotten, movedD}
+use Rattle.learning.specs.Learn.{written, forgotten, movedD}
 use Rattle.settled.specs.Settled.{settled}
 use Rattle.folder.specs.Folding.{folding, byStep}
 use Rattle.folder.specs.Folding as folds

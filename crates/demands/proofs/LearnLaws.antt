@@ -18,7 +18,7 @@ use Rattle.blit.specs.Blit.{Outcome, finished, done, refused, blitStep}
 use Rattle.blit.proofs.BlitLaws.{answered-either}
 use Rattle.knowledge.specs.declared.types.Known.{Known}
 use Rattle.knowledge.specs.Known.{number, isKnown}
-use Rattle.settled.specs.Learn.{knownAt, mayUse, forgetPointer, forgetSource, forgetUsed, forgotten}
+use Rattle.learning.specs.Learn.{knownAt, mayUse, forgetPointer, forgetSource, forgetUsed, forgotten}
 use Rattle.demands.proofs.AgreesLaws.{Agrees, agrees-of-flag, agrees-of-source, agrees-of-pointer}
 
 -- the channels that a blit uses are among those it may use

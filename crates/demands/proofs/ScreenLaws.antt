@@ -19,7 +19,7 @@ use Rattle.blit.specs.WriteBack.{putPointer, putPointers, putSource, putSources
 use Rattle.refusal.specs.Refusal.{stepRefusal}
 use Rattle.blit.specs.Blit.{finished, done, refused, answered, blitStep}
 use Rattle.knowledge.specs.declared.types.Known.{Known}
-use Rattle.settled.specs.Learn.{written}
+use Rattle.learning.specs.Learn.{written}
 use Rattle.folder.specs.Fold.{learned}
 use Rattle.demands.specs.ScreenTouchesNeither.{withWord, ScreenTouchesNeither}
 

@@ -32,7 +32,7 @@ use Rattle.settled.proofs.StoreLaws.{steps-of-store, steps-of-end}
 use Rattle.settled.proofs.RunLaws.{afterStores, afterRows}
 use Rattle.settled.proofs.WordsLaws.{afterSettled}
 use Rattle.settled.specs.Settled.{settled}
-use Rattle.settled.specs.Learn.{written, forgotten, movedD}
+use Rattle.learning.specs.Learn.{written, forgotten, movedD}
 use Rattle.folder.specs.Fold.{folded, learned, rawWords, piece, learnedAfter, foldSteps, foldFrom, fold}
 use Rattle.demands.specs.SettledAreReplaced.{sizeOf, sizes, unsettledOf, unsettled, SettledAreReplaced}
 use Rattle.demands.proofs.SettledKnownLaws.{settled-uses-d}

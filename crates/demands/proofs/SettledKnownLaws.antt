@@ -20,7 +20,7 @@ use Rattle.knowledge.proofs.KnownLaws.{known-is-number}
 use Rattle.knowledge.proofs.KnowledgeLaws.{numbers-at}
 use Rattle.settled.proofs.OnlyDLaws.{OnlyD}
 use Rattle.settled.proofs.AgreeLaws.{Agree}
-use Rattle.settled.specs.Learn.{knownAt}
+use Rattle.learning.specs.Learn.{knownAt}
 use Rattle.settled.specs.Settled.{has, controlsKnown, onlyDUsed, sourcesKnown, settled}
 use Rattle.demands.proofs.AgreesLaws.{Agrees}
 

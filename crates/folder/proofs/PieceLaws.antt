@@ -24,7 +24,7 @@ use Rattle.job.proofs.StepLaws.{stepAt-moves, stepAt-next}
 use Rattle.settled.specs.Words.{blitStores, settledEnd, settledWords}
 use Rattle.knowledge.specs.declared.types.Known.{Known}
 use Rattle.knowledge.specs.Knowledge.{numbers}
-use Rattle.settled.specs.Learn.{written, forgotten, movedD}
+use Rattle.learning.specs.Learn.{written, forgotten, movedD}
 use Rattle.refusal.specs.Refusal.{stepRefusal}
 use Rattle.settled.specs.Settled.{controlsKnown, onlyDUsed, sourcesKnown, settled}
 use Rattle.output.proofs.StoresLaws.{blitStores-length}

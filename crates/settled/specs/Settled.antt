@@ -11,7 +11,7 @@ use Rattle.depends.specs.Depends.{counts}
 use Rattle.knowledge.specs.declared.types.Known.{Known}
 use Rattle.knowledge.specs.Known.{isKnown}
 use Rattle.knowledge.specs.Knowledge.{numbers}
-use Rattle.settled.specs.Learn.{knownAt}
+use Rattle.learning.specs.Learn.{knownAt}
 
 abbrev pub has : (known : List Known) → (place : ℕ) → Bool
 has known place = isKnown (knownAt known place)

@@ -27,7 +27,7 @@ use Rattle.depends.specs.Depends.{changes, counts}
 use Rattle.knowledge.specs.Known.{number, isKnown}
 use Rattle.knowledge.specs.Knowledge.{numbers}
 use Rattle.settled.specs.Words.{rowStores, blitStores, settledEnd, settledWords}
-use Rattle.settled.specs.Learn.{written, mayUse, forgetPointer, forgetSource, forgetUsed, forgotten, movedD}
+use Rattle.learning.specs.Learn.{written, mayUse, forgetPointer, forgetSource, forgetUsed, forgotten, movedD}
 use Rattle.settled.specs.Settled.{controlsKnown, onlyDUsed, sourcesKnown, settled}
 use Rattle.folder.specs.Fold.{folded, learned, piece, learnedAfter, foldSteps, foldFrom, fold}
 use Rattle.examples.specs.Examples.{examples}

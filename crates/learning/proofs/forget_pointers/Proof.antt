@@ -1,8 +1,8 @@
--- `settled::learn::forget_pointers` meets its contract, channel by channel.
-use Rattle.settled.proofs.LearnLaws.{forgetPointers-of-parts}
+-- `learning::forget_pointers` meets its contract, channel by channel.
+use Rattle.learning.proofs.LearnLaws.{forgetPointers-of-parts}
 use borrow.Author.Needs.{needs}
-use Rattle.settled.proofs.learn.forget_pointers.Statement.{statement}
-use Rattle.settled.proofs.learn.forget_pointers.Tie as tie
+use Rattle.learning.proofs.forget_pointers.Statement.{statement}
+use Rattle.learning.proofs.forget_pointers.Tie as tie
 
 forget-pointer-requires : tie.Need-forget-pointer-requires
 forget-pointer-requires c κs = search needs

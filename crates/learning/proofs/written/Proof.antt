@@ -1,8 +1,8 @@
--- `settled::learn::written` meets its contract: the kept bits.
-use Rattle.settled.proofs.LearnLaws.{written-of-parts}
+-- `learning::written` meets its contract: the kept bits.
+use Rattle.learning.proofs.LearnLaws.{written-of-parts}
 use borrow.Author.Needs.{needs}
-use Rattle.settled.proofs.learn.written.Statement.{statement}
-use Rattle.settled.proofs.learn.written.Tie as tie
+use Rattle.learning.proofs.written.Statement.{statement}
+use Rattle.learning.proofs.written.Tie as tie
 
 kept-requires : tie.Need-kept-requires
 kept-requires c κs = search needs

@@ -1,25 +1,18 @@
 -- Laws of what a step does to the knowledge: each change from its parts.
-use mathlib.Core.Path.{_≡_, refl, sym, ap, _∙_}
+use mathlib.Core.Path.{_≡_, sym, _∙_}
 use Prim.Native.Nat.{ℕ, _+_}
-use native.Mathlib.Omega.{arith}
 use mathlib.Core.Bool.{Bool, true, false}
-use mathlib.Core.List.{List, [], _∷_}
-use lib.ListN.{length, getD, set}
+use mathlib.Core.List.{List}
+use lib.ListN.{getD, set}
 use Rattle.word.specs.declared.types.Pointer.{Pointer}
 use Rattle.word.specs.Pointer.{high, low}
-use Rattle.word.specs.Size.{height, width}
 use Rattle.file.specs.File.{kept}
 use Rattle.file.specs.Places.{control0, pointerA, pointerB, pointerC, pointerD, sourceA, sourceB, sourceC}
 use Rattle.area.specs.declared.types.Uses.{Uses}
-use Rattle.area.specs.declared.types.Setup.{Setup}
-use Rattle.area.specs.declared.types.Flow.{Flow}
-use Rattle.area.specs.Setup.{uses, setup}
-use Rattle.area.specs.Flow.{state, start}
-use Rattle.area.specs.Rows.{rows}
-use Rattle.settled.specs.Words.{settledEnd}
+use Rattle.area.specs.Setup.{uses}
 use Rattle.knowledge.specs.declared.types.Known.{Known}
 use Rattle.knowledge.specs.Known.{number, isKnown}
-use Rattle.settled.specs.Learn.{written, mayUse, forgetPointer, forgetSource, forgetUsed, forgotten, movedD}
+use Rattle.learning.specs.Learn.{written, mayUse, forgetPointer, forgetSource, forgetUsed, forgotten, movedD}
 
 pub written-of-parts : (place value held : ℕ) (known after : List Known)
     → held ≡ kept place value → after ≡ set known place (Known.Is held) → after ≡ written place value known
@@ -79,17 +72,3 @@ pub movedD-of-parts : (pointer : Pointer) (up down : ℕ) (known half after : Li
     → half ≡ set known pointerD (Known.Is up) → after ≡ set half (pointerD + 1) (Known.Is down) → after ≡ movedD pointer known
 unfolding movedD
 movedD-of-parts pointer up down known half after is-up is-down one two = rw (one, is-up, is-down) at two
-
--- a memory of no words is the empty list
-pub none-is-empty : (memory : List ℕ) → length memory ≡ 0 → memory ≡ []
-none-is-empty [] none = refl
-none-is-empty (word ∷ rest) none = absurd (omega arith)
-
-pub settledEnd-of-parts : (file memory : List ℕ) (size wide tall : ℕ) (set : Setup) (flow end : Flow)
-    → set ≡ setup file → flow ≡ start file → wide ≡ width size → tall ≡ height size
-    → length memory ≡ 0
-    → state memory end ≡ rows set wide tall (state [] flow)
-    → state [] end ≡ settledEnd file size
-unfolding settledEnd
-settledEnd-of-parts file memory size wide tall set flow end is-set is-flow is-wide is-tall none does =
-    ap (λ (m : List ℕ). state m end) (sym (none-is-empty memory none)) ∙ rw (is-set, is-flow, is-wide, is-tall) at does

@@ -1,8 +1,8 @@
--- `settled::learn::forgotten` meets its contract: the channels that the blit may use.
-use Rattle.settled.proofs.LearnLaws.{forgotten-of-parts}
+-- `learning::forgotten` meets its contract: the channels that the blit may use.
+use Rattle.learning.proofs.LearnLaws.{forgotten-of-parts}
 use borrow.Author.Needs.{needs}
-use Rattle.settled.proofs.learn.forgotten.Statement.{statement}
-use Rattle.settled.proofs.learn.forgotten.Tie as tie
+use Rattle.learning.proofs.forgotten.Statement.{statement}
+use Rattle.learning.proofs.forgotten.Tie as tie
 
 may-use-requires : tie.Need-may-use-requires
 may-use-requires c κs = search needs

@@ -1,8 +1,8 @@
--- `settled::learn::forget_pointer` meets its contract, used or not.
-use Rattle.settled.proofs.LearnLaws.{forgetPointer-when-used, forgetPointer-when-unused}
+-- `learning::forget_pointer` meets its contract, used or not.
+use Rattle.learning.proofs.LearnLaws.{forgetPointer-when-used, forgetPointer-when-unused}
 use borrow.Author.Needs.{needs}
-use Rattle.settled.proofs.learn.forget_pointer.Statement.{statement}
-use Rattle.settled.proofs.learn.forget_pointer.Tie as tie
+use Rattle.learning.proofs.forget_pointer.Statement.{statement}
+use Rattle.learning.proofs.forget_pointer.Tie as tie
 
 with-requires : tie.Need-with-requires
 with-requires c κs = search needs

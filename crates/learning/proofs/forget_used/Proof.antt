@@ -1,8 +1,8 @@
--- `settled::learn::forget_used` meets its contract: the pointers, then source by source.
-use Rattle.settled.proofs.LearnLaws.{forgetUsed-of-parts}
+-- `learning::forget_used` meets its contract: the pointers, then source by source.
+use Rattle.learning.proofs.LearnLaws.{forgetUsed-of-parts}
 use borrow.Author.Needs.{needs}
-use Rattle.settled.proofs.learn.forget_used.Statement.{statement}
-use Rattle.settled.proofs.learn.forget_used.Tie as tie
+use Rattle.learning.proofs.forget_used.Statement.{statement}
+use Rattle.learning.proofs.forget_used.Tie as tie
 
 forget-pointers-requires : tie.Need-forget-pointers-requires
 forget-pointers-requires c κs = search needs

@@ -1,14 +1,10 @@
 // What a step does to the folder's knowledge.
 ghost use mathlib.Core.Path.{_≡_};
-ghost use mathlib.Core.List.{[]};
 ghost use Prim.Native.Nat.{_<_};
 ghost use Rattle.file.specs.Places.{fileLength};
-ghost use Rattle.area.specs.Flow.{state};
-ghost use Rattle.settled.specs.Words.{settledEnd};
 ghost use Rattle.knowledge.specs.Knowledge.{listed};
-ghost use Rattle.settled.specs.Learn.{written, mayUse, forgetPointer, forgetSource, forgetUsed};
-ghost use Rattle.settled.specs.Learn.{forgotten, movedD};
-use area::types::Flow;
+ghost use Rattle.learning.specs.Learn.{written, mayUse, forgetPointer, forgetSource, forgetUsed};
+ghost use Rattle.learning.specs.Learn.{forgotten, movedD};
 use area::types::Uses;
 use knowledge::types::Knowledge;
 use knowledge::types::Known;
@@ -93,16 +89,4 @@ pub fn moved_d(known: Knowledge, pointer: Pointer) -> Knowledge
 {
     let half = known.with(10, Known::Is(pointer.high()));
     half.with(11, Known::Is(pointer.low()))
-}
-
-// The end of a settled blit's rows, which have no use of a memory.
-pub fn settled_end(file: &[u16], size: u16) -> Flow
-    ensures { λ end. ⌜ state [] end ≡ settledEnd (now (file .entry)) size ⌝ }
-{
-    let mut none: [u16; 0] = [];
-    let setup = area::setup::setup(file);
-    let flow = area::flow::start(file);
-    let width = word::size::width(size);
-    let height = word::size::height(size);
-    engine::rows::rows(&mut none, setup, width, height, flow)
 }

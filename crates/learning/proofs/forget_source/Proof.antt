@@ -1,8 +1,8 @@
--- `settled::learn::forget_source` meets its contract, used or not.
-use Rattle.settled.proofs.LearnLaws.{forgetSource-when-used, forgetSource-when-unused}
+-- `learning::forget_source` meets its contract, used or not.
+use Rattle.learning.proofs.LearnLaws.{forgetSource-when-used, forgetSource-when-unused}
 use borrow.Author.Needs.{needs}
-use Rattle.settled.proofs.learn.forget_source.Statement.{statement}
-use Rattle.settled.proofs.learn.forget_source.Tie as tie
+use Rattle.learning.proofs.forget_source.Statement.{statement}
+use Rattle.learning.proofs.forget_source.Tie as tie
 
 with-requires : tie.Need-with-requires
 with-requires c κs = search needs

@@ -1,8 +1,8 @@
--- `settled::learn::moved_d` meets its contract, half by half.
-use Rattle.settled.proofs.LearnLaws.{movedD-of-parts}
+-- `learning::moved_d` meets its contract, half by half.
+use Rattle.learning.proofs.LearnLaws.{movedD-of-parts}
 use borrow.Author.Needs.{needs}
-use Rattle.settled.proofs.learn.moved_d.Statement.{statement}
-use Rattle.settled.proofs.learn.moved_d.Tie as tie
+use Rattle.learning.proofs.moved_d.Statement.{statement}
+use Rattle.learning.proofs.moved_d.Tie as tie
 
 high-requires : tie.Need-high-requires
 high-requires c κs = search needs

@@ -1,10 +1,10 @@
--- `settled::learn::settled_end` meets its contract: the rows on a memory of no words.
+-- `settled::words::settled_end` meets its contract: the rows on a memory of no words.
 use Rattle.refusal.proofs.RefusalLaws.{width-is-few}
 use Rattle.blit.proofs.BlitLaws.{setup-shifts-a, setup-shifts-b, start-room}
-use Rattle.settled.proofs.LearnLaws.{settledEnd-of-parts}
+use Rattle.settled.proofs.EndLaws.{settledEnd-of-parts}
 use borrow.Author.Needs.{needs}
-use Rattle.settled.proofs.learn.settled_end.Statement.{statement}
-use Rattle.settled.proofs.learn.settled_end.Tie as tie
+use Rattle.settled.proofs.words.settled_end.Statement.{statement}
+use Rattle.settled.proofs.words.settled_end.Tie as tie
 
 setup-requires : tie.Need-setup-requires
 setup-requires c κs = search needs

@@ -1,8 +1,8 @@
--- `settled::learn::may_use` meets its contract: the channels of a known BLTCON0, else all.
-use Rattle.settled.proofs.LearnLaws.{mayUse-when-known, mayUse-when-unknown}
+-- `learning::may_use` meets its contract: the channels of a known BLTCON0, else all.
+use Rattle.learning.proofs.LearnLaws.{mayUse-when-known, mayUse-when-unknown}
 use borrow.Author.Needs.{needs}
-use Rattle.settled.proofs.learn.may_use.Statement.{statement}
-use Rattle.settled.proofs.learn.may_use.Tie as tie
+use Rattle.learning.proofs.may_use.Statement.{statement}
+use Rattle.learning.proofs.may_use.Tie as tie
 
 enum-known-con0 : tie.Need-enum-known-con0
 enum-known-con0 c = search needs

@@ -26,7 +26,7 @@ use Rattle.area.specs.Store.{storePending, countWith}
 use Rattle.area.specs.Rows.{areaBlit}
 use Rattle.area.proofs.RowsLaws.{areaBlit-keeps-length}
 use Rattle.area.proofs.CountLaws.{each, rows-count-all}
-use Rattle.refusal.specs.Refusal.{stepRefusal, refusal, refusalNumber, verdictNumber}
+use Rattle.refusal.specs.Refusal.{stepRefusal, refusal, verdictNumber}
 use Rattle.refusal.proofs.RefusalLaws.{refusal-is-some}
 use Rattle.blit.specs.WriteBack.{putPointer, putPointers, putSource, putSources, putFlag}
 use Rattle.blit.specs.Blit.{Outcome, finished, done, refused, answered, blitStep, blit, left}

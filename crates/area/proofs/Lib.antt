@@ -1,4 +1,5 @@
 -- The laws of the definitions in specs/, a file for each.
+-- The functions' proofs name what each call gives, the last one first: `cc` would find it too, in seconds for each.
 pub mod StoreLaws
 pub mod RowsLaws
 pub mod CountLaws

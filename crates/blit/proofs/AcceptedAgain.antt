@@ -20,7 +20,7 @@ use Rattle.area.specs.declared.types.Pointers.{Pointers}
 use Rattle.area.specs.Setup.{setup}
 use Rattle.area.specs.Flow.{State, state, sources, start}
 use Rattle.area.proofs.SixteenBitsLaws.{Bounded, areaBlit-bounded}
-use Rattle.blit.specs.Refusal.{stepRefusal, refusal}
+use Rattle.refusal.specs.Refusal.{stepRefusal, refusal}
 use Rattle.blit.specs.WriteBack.{putPointer, putPointers, putSource, putSources, putFlag}
 use Rattle.blit.specs.Blit.{Outcome, finished, done, refused, answered, blitStep, blit}
 use Rattle.blit.specs.AcceptedAgain.{Ready, AcceptedAgain}

@@ -15,10 +15,9 @@ use Rattle.word.proofs.SizeLaws.{height-le, words-le}
 use Rattle.file.specs.Places.{flag}
 use Rattle.area.specs.declared.types.Setup.{Setup}
 use Rattle.area.specs.declared.types.Flow.{Flow}
-use Rattle.blit.specs.declared.types.Refusal.{Refusal}
-use Rattle.blit.specs.declared.types.Refusal.the-variants.{MemorySize, RegisterFile, Line, BothFills, FillUpward, ALeaves, BLeaves, CLeaves, DLeaves}
-use Rattle.blit.specs.declared.types.Verdict.{Verdict}
-use Rattle.blit.specs.declared.types.Verdict.the-variants as verdicts
+use Rattle.refusal.specs.declared.types.Refusal.{Refusal}
+use Rattle.refusal.specs.declared.types.Verdict.{Verdict}
+use Rattle.refusal.specs.declared.types.Verdict.the-variants as verdicts
 use Rattle.blit.specs.declared.types.Answer.{Answer}
 use Rattle.blit.specs.declared.types.Answer.the-variants.{Done, Refused}
 use Rattle.area.specs.Setup.{shifts, setup}
@@ -27,7 +26,8 @@ use Rattle.area.specs.Store.{storePending, countWith}
 use Rattle.area.specs.Rows.{areaBlit}
 use Rattle.area.proofs.RowsLaws.{areaBlit-keeps-length}
 use Rattle.area.proofs.CountLaws.{each, rows-count-all}
-use Rattle.blit.specs.Refusal.{stepRefusal, refusal, refusalNumber, verdictNumber}
+use Rattle.refusal.specs.Refusal.{stepRefusal, refusal, verdictNumber}
+use Rattle.refusal.proofs.RefusalLaws.{refusal-is-some}
 use Rattle.blit.specs.WriteBack.{putPointer, putPointers, putSource, putSources, putFlag}
 use Rattle.blit.specs.Blit.{Outcome, finished, done, refused, answered, blitStep, blit, left}
 
@@ -80,17 +80,6 @@ pub answered-when-done : (memory file after changed : List ℕ) (size stored : �
     → left (Done stored) after changed ≡ answered (verdictNumber verdict) memory file size
 unfolding answered
 answered-when-done memory file after changed size stored verdict lawful does = rw lawful does
-
-pub refusal-is-some : (why : Refusal) → eqb (refusalNumber why) 0 ≡ false
-refusal-is-some MemorySize = refl
-refusal-is-some RegisterFile = refl
-refusal-is-some Line = refl
-refusal-is-some BothFills = refl
-refusal-is-some FillUpward = refl
-refusal-is-some ALeaves = refl
-refusal-is-some BLeaves = refl
-refusal-is-some CLeaves = refl
-refusal-is-some DLeaves = refl
 
 pub answered-when-refused : (memory file : List ℕ) (size : ℕ) (why : Refusal) (verdict : Verdict)
     → verdict ≡ verdicts.Refused why → left (Refused why) memory file ≡ answered (verdictNumber verdict) memory file size

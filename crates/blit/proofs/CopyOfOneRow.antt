@@ -32,13 +32,13 @@ use Rattle.area.proofs.StoreLaws.{storePending-keeps-length}
 use Rattle.area.proofs.ChannelLaws.{oneWord-stores, oneWord-memory, oneWord-moves-a, oneWord-moves-d}
 use Rattle.area.proofs.CopyLaws.{Copying, finishedWord-copies, oneWord-hands-on}
 use Rattle.area.specs.declared.types.Pointers.{Pointers}
-use Rattle.blit.specs.Touch.{rowTouches, touches, among, leaves}
-use Rattle.blit.specs.Refusal.{refusal, leaving}
+use Rattle.refusal.specs.Touch.{rowTouches, touches, among, leaves}
+use Rattle.refusal.specs.Refusal.{refusal, leaving}
 use Rattle.blit.specs.Blit.{finished, done, answered, blit}
 use Rattle.blit.specs.CopyOfOneRow.{plain, Copies, spot, CopyOfOneRow}
 use Rattle.word.proofs.PointerLaws.{moves-are-one, moved-lt}
-use Rattle.blit.proofs.TouchLaws.{leaves-of-append}
-use Rattle.blit.proofs.RefusalLaws.{refusal-of-none, leaving-of-d, pointerAt-lt}
+use Rattle.refusal.proofs.TouchLaws.{leaves-of-append}
+use Rattle.refusal.proofs.RefusalLaws.{refusal-of-none, leaving-of-d, pointerAt-lt}
 use Rattle.blit.proofs.OnlyDChanges.{words-change-no-other}
 
 -- a word that is no spot of a row isn't touched by it

@@ -1,7 +1,4 @@
 -- The laws of the definitions in specs/, a file for each.
-pub mod RowTouchLaws
-pub mod TouchLaws
-pub mod RefusalLaws
 pub mod BlitLaws
 pub mod OnlyDChanges
 pub mod OneAnswer

@@ -4,13 +4,13 @@ use Prim.Native.Nat.{ℕ}
 use borrow.Author.Tests.{eqb-false}
 use lib.Dec.{eqb}
 use Rattle.word.specs.Choice.{if_then_else_}
-use Rattle.blit.specs.declared.types.Refusal.{Refusal}
-use Rattle.blit.specs.declared.types.Refusal.the-variants.{MemorySize, RegisterFile, Line, BothFills, FillUpward, ALeaves, BLeaves, CLeaves, DLeaves}
+use Rattle.refusal.specs.declared.types.Refusal.{Refusal}
+use Rattle.refusal.specs.declared.types.Refusal.the-variants.{MemorySize, RegisterFile, Line, BothFills, FillUpward, ALeaves, BLeaves, CLeaves, DLeaves}
 use Rattle.blit.specs.declared.types.Answer.{Answer}
 use Rattle.blit.specs.declared.types.Answer.the-variants.{Done, Refused}
-use Rattle.blit.specs.Refusal.{refusalNumber}
+use Rattle.refusal.specs.Refusal.{refusalNumber}
 use Rattle.blit.specs.Blit.{Outcome, answerNumber, answerStored, left}
-use Rattle.blit.proofs.BlitLaws.{refusal-is-some}
+use Rattle.refusal.proofs.RefusalLaws.{refusal-is-some}
 use Rattle.blit.specs.OneAnswer.{OneAnswer}
 
 -- the refusal with a number

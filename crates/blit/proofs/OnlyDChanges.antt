@@ -19,8 +19,8 @@ use Rattle.area.specs.Store.{memoryWith, storePending}
 use Rattle.area.specs.Move.{rowEnd}
 use Rattle.area.specs.Rows.{finishedWord, oneWord, words, rowStart, oneRow, rows, areaBlit}
 use Rattle.area.proofs.ChannelLaws.{oneWord-stores, oneWord-moves-d, oneRow-moves-d, rows-without-d}
-use Rattle.blit.specs.Touch.{rowTouches, afterRow, touches, among}
-use Rattle.blit.specs.Refusal.{refusal}
+use Rattle.refusal.specs.Touch.{rowTouches, afterRow, touches, among}
+use Rattle.refusal.specs.Refusal.{refusal}
 use Rattle.blit.specs.Blit.{Outcome, finished, done, refused, blit}
 use Rattle.blit.proofs.BlitLaws.{answered-either}
 use Rattle.blit.specs.OnlyDChanges.{OnlyDChanges, WithoutDNothingChanges}

@@ -16,8 +16,8 @@ use Rattle.area.specs.declared.types.Uses.{Uses}
 use Rattle.area.specs.declared.types.Pointers.{Pointers}
 use Rattle.area.specs.declared.types.Sources.{Sources}
 use Rattle.area.specs.Setup.{setup}
-use Rattle.blit.specs.Touch.{among}
-use Rattle.blit.specs.Refusal.{refusal}
+use Rattle.refusal.specs.Touch.{among}
+use Rattle.refusal.specs.Refusal.{refusal}
 use Rattle.blit.specs.WriteBack.{putPointer, putPointers, putSource, putSources, putFlag}
 use Rattle.blit.specs.Blit.{Outcome, finished, done, refused, blit}
 use Rattle.blit.proofs.BlitLaws.{answered-either}

@@ -11,7 +11,7 @@ use Rattle.area.specs.Setup.{setup}
 use Rattle.area.specs.Flow.{State, state, start}
 use Rattle.area.specs.Rows.{areaBlit}
 use Rattle.blit.specs.WriteBack.{putPointers, putSources, putFlag}
-use Rattle.blit.specs.Refusal.{stepRefusal, refusal, refusalNumber}
+use Rattle.refusal.specs.Refusal.{stepRefusal, refusal, refusalNumber}
 
 -- what a blit gives and leaves
 pub record Outcome : Type 0 where

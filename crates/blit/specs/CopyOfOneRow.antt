@@ -14,7 +14,7 @@ use Rattle.word.specs.Size.{height, width}
 use Rattle.file.specs.Places.{firstMask, lastMask}
 use Rattle.area.specs.Setup.{con0, con1}
 use Rattle.area.specs.Flow.{start}
-use Rattle.blit.specs.Refusal.{refusal}
+use Rattle.refusal.specs.Refusal.{refusal}
 use Rattle.blit.specs.Blit.{blit}
 
 -- BLTCON1 with no fill and no shift

@@ -1,6 +1,4 @@
 -- What a reader must believe of a whole blit, in the order of paper 01, and what is proved of it.
-pub mod Touch
-pub mod Refusal
 pub mod WriteBack
 pub mod Blit
 pub mod OnlyDChanges

@@ -7,7 +7,7 @@ use lib.ListN.{getD}
 use Rattle.word.specs.Size.{height, width}
 use Rattle.area.specs.Setup.{setup}
 use Rattle.area.specs.Flow.{start}
-use Rattle.blit.specs.Touch.{touches, among}
+use Rattle.refusal.specs.Touch.{touches, among}
 use Rattle.blit.specs.Blit.{blit}
 
 -- the words that D would touch

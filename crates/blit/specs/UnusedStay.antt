@@ -9,7 +9,7 @@ use Rattle.word.specs.Choice.{if_then_else_}
 use Rattle.file.specs.Places.{pointerA, pointerB, pointerC, pointerD, sourceA, sourceB, sourceC, flag}
 use Rattle.area.specs.declared.types.Uses.{Uses}
 use Rattle.area.specs.Setup.{setup}
-use Rattle.blit.specs.Touch.{among}
+use Rattle.refusal.specs.Touch.{among}
 use Rattle.blit.specs.Blit.{blit}
 
 -- the places of a used channel's pointer, and of a used source's data register

@@ -1,9 +1,9 @@
 // A blit that is done: all rows, and what is written back to the register file.
 ghost use mathlib.Core.Path.{_≡_};
 ghost use Rattle.blit.specs.Blit.{finished, done, answered, left};
-ghost use Rattle.blit.specs.Refusal.{verdictNumber};
+ghost use Rattle.refusal.specs.Refusal.{verdictNumber};
 use crate::types::Answer;
-use crate::types::Verdict;
+use refusal::types::Verdict;
 
 // Does a blit that nothing refuses, and answers the count of words stored.
 fn done(ram: &mut [u16], file: &mut [u16], size: u16) -> u32

@@ -1,23 +1,5 @@
-// The types that the answers of a blit speak of.
-
-// Why a blit is refused. One that leaves memory is refused by the first channel that does, in the order A, B, C, D.
-pub enum Refusal {
-    MemorySize,
-    RegisterFile,
-    Line,
-    BothFills,
-    FillUpward,
-    ALeaves,
-    BLeaves,
-    CLeaves,
-    DLeaves,
-}
-
-// Whether a blit would be done.
-pub enum Verdict {
-    Lawful,
-    Refused(Refusal),
-}
+// The answer of a blit.
+use refusal::types::Refusal;
 
 // What a blit answers: done with the count of words stored, or refused.
 pub enum Answer {

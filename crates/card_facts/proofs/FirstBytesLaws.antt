@@ -11,14 +11,14 @@ use lib.ListN.{length, getD, take, drop, length-append, length-drop, take-append
 use lib.Seq.{length-take-le, take-all, drop-append-le, getD-drop}
 use Rattle.word.specs.Choice.{if_then_else_}
 use Rattle.word.proofs.ChoiceLaws.{and-left, and-right}
-use Rattle.card_text.specs.Text.{byte, decimalDigit}
-use Rattle.card_text.specs.RamLine.{digits, spelled, ramWords, ramEnd, ramKey, ramLine}
-use Rattle.card_text.specs.Reading.{keyAt, wordAt, keyLine, badFrom, badLine}
+use Rattle.card_reading.specs.Text.{byte, decimalDigit}
+use Rattle.card_reading.specs.RamLine.{digits, spelled, ramWords, ramEnd, ramKey, ramLine}
+use Rattle.card_reading.specs.Reading.{keyAt, wordAt, keyLine, badFrom, badLine}
 use Rattle.card_text.specs.Card.{printed}
 use Rattle.card_facts.specs.FirstBytesDecide.{FirstBytesDecide}
-use Rattle.card_text.proofs.TextLaws.{decimalDigit-ge}
-use Rattle.card_text.proofs.ReadingLaws.{badFrom-of-none}
-use Rattle.card_text.proofs.RamLaws.{spelled-ge, ramWords-le}
+use Rattle.card_reading.proofs.TextLaws.{decimalDigit-ge}
+use Rattle.card_reading.proofs.ReadingLaws.{badFrom-of-none}
+use Rattle.card_reading.proofs.RamLaws.{spelled-ge, ramWords-le}
 
 -- the first of the digits is the first byte
 digits-first : (text : List ℕ) (first : ℕ) (rest : List ℕ) → digits text ≡ first ∷ rest → (getD text 0 0 ≡ first) × (48 ≤ first)

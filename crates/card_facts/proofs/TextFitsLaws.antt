@@ -14,16 +14,17 @@ use Rattle.job.specs.Steps.{stepsFrom}
 use Rattle.runner.specs.Run.{End, machine, startRefusal, run}
 use Rattle.runner.proofs.LengthLaws.{runSteps-keeps-memory-length}
 use Rattle.runner.proofs.StartLaws.{run-when-started, run-when-unstarted}
-use Rattle.card_text.specs.Text.{newline, colon, glyph, hex4, hex5, leading, decimal}
-use Rattle.card_text.specs.RamLine.{ramWords, ramEnd, ramLine}
-use Rattle.card_text.specs.Keys.{keyCount}
-use Rattle.card_text.specs.Reading.{badFrom, badLine}
-use Rattle.card_text.specs.Job.{counted, zeros, cardJob, cardRun}
+use Rattle.card_reading.specs.Text.{newline, colon, glyph, hex4, hex5, leading, decimal}
+use Rattle.card_reading.specs.RamLine.{ramWords, ramEnd, ramLine}
+use Rattle.card_reading.specs.Keys.{keyCount}
+use Rattle.card_reading.specs.Reading.{badFrom, badLine}
+use Rattle.card_reading.specs.Job.{cardJob}
+use Rattle.card_text.specs.Run.{counted, zeros, cardRun}
 use Rattle.card_text.specs.Printing.{answerIs, storedIs, zeroIs, wordIs, lineIs, numberLine, dptLine, wordLine, changedWord, changed, printedRun, printedBad}
 use Rattle.card_text.specs.Card.{printed}
 use Rattle.card_facts.specs.TextFits.{TextFits}
-use Rattle.card_text.proofs.JobLaws.{counted-length}
-use Rattle.card_text.proofs.RamLaws.{ramWords-le}
+use Rattle.card_text.proofs.RunLaws.{counted-length}
+use Rattle.card_reading.proofs.RamLaws.{ramWords-le}
 
 -- of two parts
 both-le : (one other : List ℕ) (most more : ℕ) → length one ≤ most → length other ≤ more → length (one ++ other) ≤ most + more

@@ -3,7 +3,7 @@ use mathlib.Core.Path.{_≡_}
 use mathlib.Core.List.{_++_, map}
 use lib.ListN.{take, drop}
 use Rattle.file.specs.File.{Register, blitterRegisters}
-use Rattle.card_text.specs.Job.{offsets}
+use Rattle.card_reading.specs.Job.{offsets}
 
 abbrev pub KeysAreRegisters : Type 0
 KeysAreRegisters = (take 12 offsets ++ drop 13 offsets) ≡ map (λ (register : Register). register .offset) blitterRegisters

@@ -10,15 +10,16 @@ use Rattle.file.specs.Places.{fileLength}
 use Rattle.runner.specs.declared.types.Answer.{Answer}
 use Rattle.runner.specs.Run.{ended, machine, run}
 use Rattle.runner.specs.Answer.{answerNumber, answerPlace, answerStored, left}
-use Rattle.card_text.specs.declared.types.Ram.{Ram}
-use Rattle.card_text.specs.Reading.{badFrom, badLine}
-use Rattle.card_text.specs.Ram.{ramRead}
-use Rattle.card_text.specs.Job.{counted, zeros, writeOrder, writes, cardRun}
+use Rattle.card_reading.specs.declared.types.Ram.{Ram}
+use Rattle.card_reading.specs.Reading.{badFrom, badLine}
+use Rattle.card_reading.specs.Ram.{ramRead}
+use Rattle.card_reading.specs.Job.{writeOrder, writes}
+use Rattle.card_text.specs.Run.{counted, zeros, cardRun}
 use Rattle.card_text.specs.Printing.{printedRun, printedBad}
 use Rattle.card_text.specs.Card.{Written, writing, printed}
 use Rattle.word.specs.Laid.{laid}
-use Rattle.card_text.proofs.JobLaws.{writes-fill}
-use Rattle.card_text.proofs.RamLaws.{ramRead-of-words, ramRead-of-bad}
+use Rattle.card_reading.proofs.JobLaws.{writes-fill}
+use Rattle.card_reading.proofs.RamLaws.{ramRead-of-words, ramRead-of-bad}
 
 -- what is printed of a run doesn't tell its place
 printedRun-anywhere : (number place stored : ℕ) (memory file : List ℕ)

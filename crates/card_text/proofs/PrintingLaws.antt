@@ -8,7 +8,7 @@ use lib.ListN.{length, getD, drop, drop-of-length-le}
 use lib.Seq.{drop-cons}
 use Rattle.file.specs.Places.{pointerD, flag}
 use Rattle.runner.specs.Run.{ended, machine}
-use Rattle.card_text.specs.Text.{newline, colon, glyph, hex4, hex5, leading, decimal}
+use Rattle.card_reading.specs.Text.{newline, colon, glyph, hex4, hex5, leading, decimal}
 use Rattle.card_text.specs.Printing.{answerIs, storedIs, zeroIs, dptIs, wordIs, lineIs, numberLine, dptLine, wordLine, changedWord, changed, printedRun, printedBad}
 use Rattle.card_text.specs.Card.{Written, written, writing}
 use Rattle.card_text.proofs.WritingLaws.{writing-of-none, writing-of-append, writing-then}

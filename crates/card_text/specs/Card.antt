@@ -5,8 +5,8 @@ use lib.Dec.{eqb}
 use lib.ListN.{length}
 use Rattle.word.specs.Choice.{if_then_else_}
 use Rattle.word.specs.Laid.{laid}
-use Rattle.card_text.specs.Reading.{badLine}
-use Rattle.card_text.specs.Job.{cardRun}
+use Rattle.card_reading.specs.Reading.{badLine}
+use Rattle.card_text.specs.Run.{cardRun}
 use Rattle.card_text.specs.Printing.{printedRun, printedBad}
 
 unfoldable pub printed : (text : List ℕ) → List ℕ

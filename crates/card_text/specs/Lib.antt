@@ -1,9 +1,4 @@
--- What a reader must believe of the bench card, in the order of paper 01.
-pub mod Text
-pub mod RamLine
-pub mod Keys
-pub mod Reading
-pub mod Job
+-- What a reader must believe of the bench card once it is read, in the order of paper 01.
+pub mod Run
 pub mod Printing
 pub mod Card
-pub mod Ram

@@ -6,7 +6,7 @@ use lib.ListN.{getD}
 use Rattle.word.specs.Choice.{if_then_else_}
 use Rattle.file.specs.Places.{pointerD, flag}
 use Rattle.runner.specs.Run.{End}
-use Rattle.card_text.specs.Text.{newline, equals, colon, hex4, hex5, decimal}
+use Rattle.card_reading.specs.Text.{newline, equals, colon, hex4, hex5, decimal}
 
 -- answer= stored= zero= dpt= word= line=
 abbrev pub answerIs : List ℕ

@@ -1,19 +1,17 @@
-// The bench card: its text read, its blit run, and what it prints, on lent bytes.
+// The bench card: its blit run, and what it prints, on lent bytes.
 mod printing;
-mod reading;
 mod start;
-mod text;
-pub mod types;
 
 ghost use mathlib.Core.Path.{_≡_};
 ghost use Prim.Native.Nat.{_+_, _≤_};
 ghost use lib.ListN.{length};
 ghost use Rattle.file.specs.Places.{fileLength};
 ghost use Rattle.runner.specs.Run.{run};
-ghost use Rattle.card_text.specs.Job.{counted, zeros, writeOrder, writes};
+ghost use Rattle.card_reading.specs.Job.{writeOrder, writes};
+ghost use Rattle.card_text.specs.Run.{counted, zeros};
 ghost use Rattle.card_text.specs.Printing.{printedRun};
 ghost use Rattle.card_text.specs.Card.{printed, written, writing};
-use crate::types::Ram;
+use card_reading::types::Ram;
 
 // Runs a job on memory whose word i starts as i, and registers that start as zero, and prints what it gives and leaves.
 fn run_on(ram: &mut [u16], job: &[u16], out: &mut [u8]) -> usize
@@ -45,7 +43,7 @@ fn good(text: &[u8], start: usize, words: u32, out: &mut [u8]) -> usize
         ≡ writing (printedRun (run (counted 0 words) (zeros fileLength) (writes (now (text .entry)) start writeOrder))) (written 0 (now (out .entry))) ⌝ }
 {
     let mut job = [0u16; 40];
-    crate::start::job(text, start, &mut job);
+    card_reading::writes::job(text, start, &mut job);
     let mut ram = room();
     run_on(&mut ram[..words as usize], &job, out)
 }
@@ -57,10 +55,10 @@ pub fn card(text: &[u8], out: &mut [u8]) -> usize
         written length (now (out .exit))
         ≡ writing (printed (now (text .entry))) (written 0 (now (out .entry))) ⌝ }
 {
-    match crate::reading::ram_line(text) {
+    match card_reading::lines::ram_line(text) {
         Ram::Bad => crate::printing::print_bad(out, 1),
         Ram::Words(words, start) => {
-            let line = crate::reading::bad_from(text, start);
+            let line = card_reading::lines::bad_from(text, start);
             if line == 0 {
                 return good(text, start, words, out);
             }

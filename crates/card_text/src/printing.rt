@@ -4,7 +4,7 @@ ghost use mathlib.Core.Path.{_≡_};
 ghost use mathlib.Core.List.{[], _∷_};
 ghost use Prim.Native.Nat.{_+_, _<_, _≤_};
 ghost use lib.ListN.{length, set};
-ghost use Rattle.card_text.specs.Text.{glyph, hex4, hex5, leading, decimal};
+ghost use Rattle.card_reading.specs.Text.{glyph, hex4, hex5, leading, decimal};
 ghost use Rattle.runner.specs.Run.{machine, ended};
 ghost use Rattle.card_text.specs.Printing.{numberLine, dptLine, wordLine, changedWord, changed, printedRun, printedBad};
 ghost use Rattle.card_text.specs.Card.{written, writing};

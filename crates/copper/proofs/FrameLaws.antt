@@ -12,9 +12,9 @@ use Rattle.word.specs.Pointer.{pointerEnd}
 use Rattle.word.proofs.ChoiceLaws.{or-right}
 use Rattle.file.specs.File.{accepted}
 use Rattle.beam.specs.Beam.{frameEnd}
-use Rattle.blit.specs.declared.types.Refusal as blits
-use Rattle.blit.specs.Refusal.{memorySize}
-use Rattle.blit.proofs.BlitLaws.{refusal-is-some}
+use Rattle.refusal.specs.declared.types.Refusal as blits
+use Rattle.refusal.specs.Refusal.{memorySize}
+use Rattle.refusal.proofs.RefusalLaws.{refusal-is-some}
 use Rattle.instruction.specs.declared.types.Refusal.{Refusal}
 use Rattle.instruction.specs.declared.types.Taken.{Taken}
 use Rattle.copper.specs.declared.types.Why.{Why}

@@ -11,7 +11,7 @@ use crate::types::Why;
 use instruction::types::Refusal;
 
 // A refusal before any instruction.
-fn refused_at_start(why: blit::types::Refusal, beam: u32) -> Answer
+fn refused_at_start(why: refusal::types::Refusal, beam: u32) -> Answer
     ensures { λ answer. ⌜ answer ≡ record { why = Why.Refused (Refusal.Blit why); done = 0; word = 0; beam = beam } ⌝ }
 {
     Answer {
@@ -28,13 +28,13 @@ pub fn frame_from(ram: &mut [u16], file: &mut [u16], beam: u32, start: u32, lent
         left answer (now (ram .exit)) (now (file .exit))
         ≡ frameFrom (now (ram .entry)) (now (file .entry)) beam start lent ⌝ }
 {
-    let bad = blit::memory::memory_size(ram.len());
+    let bad = refusal::memory_size(ram.len());
     let fine = file::accepted(file);
     if bad {
-        return refused_at_start(blit::types::Refusal::MemorySize, beam);
+        return refused_at_start(refusal::types::Refusal::MemorySize, beam);
     }
     if !fine {
-        return refused_at_start(blit::types::Refusal::RegisterFile, beam);
+        return refused_at_start(refusal::types::Refusal::RegisterFile, beam);
     }
     crate::onward::onward(ram, file, beam, start, lent)
 }

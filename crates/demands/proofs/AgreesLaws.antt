@@ -14,7 +14,7 @@ use Rattle.word.specs.Pointer.{high, low}
 use Rattle.file.specs.Places.{blitterLength, flag, fileLength}
 use Rattle.blit.specs.WriteBack.{putPointer, putSource}
 use Rattle.knowledge.specs.declared.types.Known.{Known}
-use Rattle.settled.specs.Learn.{forgetPointer, forgetSource}
+use Rattle.learning.specs.Learn.{forgetPointer, forgetSource}
 
 unfoldable pub Agrees : (known : List Known) (file : List ℕ) → Type 0
 Agrees known file = (place value : ℕ) → getD known place Known.Unknown ≡ Known.Is value → getD file place 0 ≡ value

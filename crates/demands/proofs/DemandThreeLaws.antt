@@ -14,7 +14,7 @@ use Rattle.file.specs.File.{accepted}
 use Rattle.file.specs.Places.{blitterLength, pointerD, flag, fileLength}
 use Rattle.file.proofs.FileLaws.{accepted-has-length}
 use Rattle.area.specs.Setup.{setup}
-use Rattle.blit.specs.Refusal.{memorySize, stepRefusal}
+use Rattle.refusal.specs.Refusal.{memorySize, stepRefusal}
 use Rattle.blit.specs.Blit.{refused, blitStep}
 use Rattle.job.specs.declared.types.Step.{Step}
 use Rattle.job.specs.declared.types.Read.{Read}
@@ -29,7 +29,7 @@ use Rattle.settled.specs.Words.{settledEnd, settledWords}
 use Rattle.settled.proofs.OnlyDLaws.{OnlyD}
 use Rattle.settled.proofs.WordsLaws.{afterSettled, settledWords-run, blitStep-number, blitStep-file}
 use Rattle.settled.proofs.AgreeLaws.{Agree, uses-alike, stepRefusal-alike, settledEnd-alike, settledWords-alike}
-use Rattle.settled.specs.Learn.{written, forgotten, movedD}
+use Rattle.learning.specs.Learn.{written, forgotten, movedD}
 use Rattle.settled.specs.Settled.{settled}
 use Rattle.folder.specs.Fold.{folded, learned, rawWords, piece, learnedAfter, foldSteps, foldFrom, fold}
 use Rattle.demands.proofs.AgreesLaws.{Agrees, agrees-of-set, agrees-of-flag}

@@ -12,13 +12,13 @@ use Rattle.area.specs.declared.types.Pointers.{Pointers}
 use Rattle.area.specs.declared.types.Sources.{Sources}
 use Rattle.area.specs.Setup.{con0, uses, setup}
 use Rattle.area.specs.Flow.{start}
-use Rattle.blit.specs.Refusal.{stepRefusal}
+use Rattle.refusal.specs.Refusal.{stepRefusal}
 use Rattle.blit.specs.WriteBack.{putPointer, putPointers, putSource, putSources, putFlag}
 use Rattle.blit.specs.Blit.{Outcome, finished, done, refused, blitStep}
 use Rattle.blit.proofs.BlitLaws.{answered-either}
 use Rattle.knowledge.specs.declared.types.Known.{Known}
 use Rattle.knowledge.specs.Known.{number, isKnown}
-use Rattle.settled.specs.Learn.{knownAt, mayUse, forgetPointer, forgetSource, forgetUsed, forgotten}
+use Rattle.learning.specs.Learn.{knownAt, mayUse, forgetPointer, forgetSource, forgetUsed, forgotten}
 use Rattle.demands.proofs.AgreesLaws.{Agrees, agrees-of-flag, agrees-of-source, agrees-of-pointer}
 
 -- the channels that a blit uses are among those it may use

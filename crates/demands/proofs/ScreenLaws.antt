@@ -16,10 +16,10 @@ use Rattle.file.specs.Places.{blitterLength, control0, control1, firstMask, las
 use Rattle.area.specs.Setup.{masks, modulos, setup}
 use Rattle.area.specs.Flow.{State, pointerAt, pointers, sources, start}
 use Rattle.blit.specs.WriteBack.{putPointer, putPointers, putSource, putSources, putFlag}
-use Rattle.blit.specs.Refusal.{stepRefusal}
+use Rattle.refusal.specs.Refusal.{stepRefusal}
 use Rattle.blit.specs.Blit.{finished, done, refused, answered, blitStep}
 use Rattle.knowledge.specs.declared.types.Known.{Known}
-use Rattle.settled.specs.Learn.{written}
+use Rattle.learning.specs.Learn.{written}
 use Rattle.folder.specs.Fold.{learned}
 use Rattle.demands.specs.ScreenTouchesNeither.{withWord, ScreenTouchesNeither}
 

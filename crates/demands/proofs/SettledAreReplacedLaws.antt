@@ -16,7 +16,7 @@ use Rattle.area.specs.Flow.{State, state, pointers, start}
 use Rattle.area.specs.Rows.{finishedWord, oneWord, rowStart, oneRow}
 use Rattle.area.proofs.ChannelLaws.{oneWord-moves-d, oneRow-moves-d}
 use Rattle.word.proofs.PointerLaws.{moved-lt, passed-lt}
-use Rattle.blit.proofs.RefusalLaws.{pointerAt-lt}
+use Rattle.refusal.proofs.RefusalLaws.{pointerAt-lt}
 use Rattle.job.specs.declared.types.Step.{Step}
 use Rattle.job.specs.declared.types.Read.{Read}
 use Rattle.job.specs.Step.{operands, found, front}

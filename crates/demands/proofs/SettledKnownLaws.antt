@@ -11,7 +11,7 @@ use Rattle.word.specs.Size.{height, width}
 use Rattle.file.specs.Places.{blitterLength, control0, control1, firstMask, lastMask, pointerD, moduloD, sourceA, sourceB, sourceC}
 use Rattle.area.specs.declared.types.Uses.{Uses}
 use Rattle.area.specs.Setup.{con0, uses, function, setup}
-use Rattle.blit.specs.Refusal.{stepRefusal}
+use Rattle.refusal.specs.Refusal.{stepRefusal}
 use Rattle.depends.specs.Depends.{counts}
 use Rattle.knowledge.specs.declared.types.Known.{Known}
 use Rattle.knowledge.specs.Known.{number}
@@ -20,7 +20,7 @@ use Rattle.knowledge.proofs.KnownLaws.{known-is-number}
 use Rattle.knowledge.proofs.KnowledgeLaws.{numbers-at}
 use Rattle.settled.proofs.OnlyDLaws.{OnlyD}
 use Rattle.settled.proofs.AgreeLaws.{Agree}
-use Rattle.settled.specs.Learn.{knownAt}
+use Rattle.learning.specs.Learn.{knownAt}
 use Rattle.settled.specs.Settled.{has, controlsKnown, onlyDUsed, sourcesKnown, settled}
 use Rattle.demands.proofs.AgreesLaws.{Agrees}
 

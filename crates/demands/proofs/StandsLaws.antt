@@ -13,7 +13,7 @@ use Rattle.runner.specs.Run.{Machine, after}
 use Rattle.runner.proofs.EffectLaws.{storeEffect-either}
 use Rattle.runner.proofs.LengthLaws.{effect-keeps-memory-length, effect-keeps-file-length}
 use Rattle.knowledge.specs.declared.types.Known.{Known}
-use Rattle.settled.specs.Learn.{written, forgotten}
+use Rattle.learning.specs.Learn.{written, forgotten}
 use Rattle.folder.specs.Fold.{learned}
 use Rattle.demands.proofs.AgreesLaws.{Agrees, agrees-of-set, agrees-of-flag}
 use Rattle.demands.proofs.LearnLaws.{forgotten-keeps-length, agrees-of-kept}

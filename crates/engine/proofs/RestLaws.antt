@@ -96,6 +96,22 @@ pub known-kept : (n m width : ℕ) (setup : Setup) (told : Bool) → n ≡ m →
     → Known setup width × (n ≤ 262144)
 known-kept n m width setup told same known is = (known is .0, rw same (known is .1))
 
+-- where what is left gives what the whole gives, so does what is left after some rows of it, and after some more
+pub rest-onward : (setup : Setup) (width height left more : ℕ) (memory begun after : List ℕ) (flow here next : Flow)
+    → rows setup width left (state begun here) ≡ rows setup width height (state memory flow)
+    → rows setup width more (state after next) ≡ rows setup width left (state begun here)
+    → rows setup width more (state after next) ≡ rows setup width height (state memory flow)
+rest-onward setup width height left more memory begun after flow here next begins does = does ∙ begins
+
+pub rest-onward-twice : (setup : Setup) (width height left one more : ℕ) (memory begun between after : List ℕ)
+    (flow here later next : Flow)
+    → rows setup width left (state begun here) ≡ rows setup width height (state memory flow)
+    → rows setup width one (state between later) ≡ rows setup width left (state begun here)
+    → rows setup width more (state after next) ≡ rows setup width one (state between later)
+    → rows setup width more (state after next) ≡ rows setup width height (state memory flow)
+rest-onward-twice setup width height left one more memory begun between after flow here later next begins some others =
+    others ∙ some ∙ begins
+
 -- all rows, the first of them straight
 pub rest-done : (setup : Setup) (width height left : ℕ) (memory begun after : List ℕ) (flow here end : Flow)
     → rows setup width left (state begun here) ≡ rows setup width height (state memory flow)

@@ -10,7 +10,7 @@ use lib.Dec.{eqb, leb}
 use lib.ListN.{length}
 use Rattle.word.specs.Choice.{if_then_else_, given}
 use Rattle.word.proofs.ChoiceLaws.{or-left, or-right}
-use Rattle.blit.specs.Refusal.{memorySize}
+use Rattle.refusal.specs.Refusal.{memorySize}
 use Rattle.job.specs.Step.{readNumber}
 use Rattle.job.specs.Steps.{Placed, steps}
 use Rattle.runner.specs.Run.{jobMost, jobLength}

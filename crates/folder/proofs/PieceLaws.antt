@@ -24,8 +24,8 @@ use Rattle.job.proofs.StepLaws.{stepAt-moves, stepAt-next}
 use Rattle.settled.specs.Words.{blitStores, settledEnd, settledWords}
 use Rattle.knowledge.specs.declared.types.Known.{Known}
 use Rattle.knowledge.specs.Knowledge.{numbers}
-use Rattle.settled.specs.Learn.{written, forgotten, movedD}
-use Rattle.blit.specs.Refusal.{stepRefusal}
+use Rattle.learning.specs.Learn.{written, forgotten, movedD}
+use Rattle.refusal.specs.Refusal.{stepRefusal}
 use Rattle.settled.specs.Settled.{controlsKnown, onlyDUsed, sourcesKnown, settled}
 use Rattle.output.proofs.StoresLaws.{blitStores-length}
 use Rattle.folder.specs.Fold.{folded, learned, rawWords}

@@ -10,7 +10,7 @@ use Rattle.job.specs.Steps.{Placed, steps}
 use Rattle.settled.specs.Words.{settledEnd, settledWords}
 use Rattle.knowledge.specs.declared.types.Known.{Known}
 use Rattle.knowledge.specs.Knowledge.{nothing, numbers}
-use Rattle.settled.specs.Learn.{written, forgotten, movedD}
+use Rattle.learning.specs.Learn.{written, forgotten, movedD}
 use Rattle.settled.specs.Settled.{settled}
 
 -- what a step becomes; raw are its own words

@@ -5,7 +5,7 @@ use mathlib.Core.List.{List, [], _∷_, _++_}
 use lib.Dec.{eqb, leb}
 use lib.ListN.{length, drop}
 use Rattle.word.specs.Choice.{if_then_else_, _when_, given}
-use Rattle.blit.specs.Refusal.{memorySize}
+use Rattle.refusal.specs.Refusal.{memorySize}
 use Rattle.job.specs.Step.{readNumber}
 use Rattle.job.specs.Steps.{Placed, steps}
 use Rattle.runner.specs.Run.{jobMost, jobLength}

@@ -19,7 +19,7 @@ pub fn fold(n: usize, job: &[u16], out: &mut [u16]) -> Answer
         left answer (now (out .exit))
         ≡ folding n (now (job .entry)) (now (out .entry)) ⌝ }
 {
-    if blit::memory::memory_size(n) {
+    if refusal::memory_size(n) {
         return Answer::Refused(Refusal::MemorySize, 0);
     }
     if runner::start::job_length(job) {

@@ -3,7 +3,7 @@ ghost use mathlib.Core.Path.{_≡_};
 ghost use Rattle.job.specs.declared.types.Step as steps;
 ghost use Rattle.settled.specs.Words.{settledEnd};
 ghost use Rattle.knowledge.specs.Knowledge.{listed, numbers};
-ghost use Rattle.settled.specs.Learn.{movedD};
+ghost use Rattle.learning.specs.Learn.{movedD};
 ghost use Rattle.folder.specs.Fold.{learned};
 ghost use Rattle.folder.specs.PieceLength.{settledLength, pieceLength};
 use crate::types::Piece;
@@ -25,10 +25,10 @@ fn settled_known(known: Knowledge, size: u16) -> Knowledge
         ≡ movedD (settledEnd (numbers (listed known)) size .flow .pointers .d) (listed known) ⌝ }
 {
     let file = known.numbers();
-    let end = settled::learn::settled_end(&file, size);
+    let end = settled::words::settled_end(&file, size);
     let pointers = end.pointers;
     let d = pointers.d;
-    settled::learn::moved_d(known, d)
+    learning::moved_d(known, d)
 }
 
 fn size_piece(n: usize, known: Knowledge, size: u16) -> Piece
@@ -42,7 +42,7 @@ fn size_piece(n: usize, known: Knowledge, size: u16) -> Piece
             known: after,
         };
     }
-    let after = settled::learn::forgotten(known);
+    let after = learning::forgotten(known);
     Piece {
         length: 2,
         known: after,
@@ -55,7 +55,7 @@ pub fn step_piece(n: usize, known: Knowledge, step: Step) -> Piece
 {
     match step {
         Step::Register(place, value) => {
-            let after = settled::learn::written(known, place, value);
+            let after = learning::written(known, place, value);
             Piece {
                 length: 2,
                 known: after,

@@ -7,7 +7,7 @@ ghost use Rattle.job.specs.Step.{operands};
 ghost use Rattle.job.specs.Steps.{steps};
 ghost use Rattle.settled.specs.Words.{settledEnd, settledWords};
 ghost use Rattle.knowledge.specs.Knowledge.{listed, numbers};
-ghost use Rattle.settled.specs.Learn.{movedD};
+ghost use Rattle.learning.specs.Learn.{movedD};
 ghost use Rattle.folder.specs.Fold.{folded, learned, rawWords, fold};
 ghost use Rattle.folder.specs.Folding.{byStep};
 ghost use Rattle.word.specs.Laid.{laid};
@@ -27,7 +27,7 @@ fn put_blit(out: &mut [u16], at: u32, known: Knowledge, size: u16) -> Knowledge
     let end = output::stores::put_settled(out, at, &file, size);
     let pointers = end.pointers;
     let d = pointers.d;
-    settled::learn::moved_d(known, d)
+    learning::moved_d(known, d)
 }
 
 fn put_size(
@@ -53,7 +53,7 @@ fn put_size(
         };
     }
     output::put::put_copied(out, at, job, from, 2);
-    let after = settled::learn::forgotten(known);
+    let after = learning::forgotten(known);
     Piece {
         length: 2,
         known: after,
@@ -79,7 +79,7 @@ fn put_step(
     match step {
         Step::Register(place, value) => {
             output::put::put_copied(out, at, job, from, 2);
-            let after = settled::learn::written(known, place, value);
+            let after = learning::written(known, place, value);
             Piece {
                 length: 2,
                 known: after,

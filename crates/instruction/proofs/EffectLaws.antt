@@ -12,12 +12,13 @@ use Rattle.word.proofs.ChoiceLaws.{if-either}
 use Rattle.file.specs.File.{place, kept}
 use Rattle.beam.specs.Satisfied.{satisfied}
 use Rattle.beam.specs.Wait.{waited}
-use Rattle.blit.specs.declared.types.Refusal as blits
+use Rattle.refusal.specs.declared.types.Refusal as blits
 use Rattle.blit.specs.declared.types.Answer as answers
-use Rattle.blit.specs.Refusal as numbers
+use Rattle.refusal.specs.Refusal as numbers
 use Rattle.blit.specs.Blit as blit
 use Rattle.blit.specs.Blit.{Outcome, blitStep}
-use Rattle.blit.proofs.BlitLaws.{refusal-is-some, blitStep-stays}
+use Rattle.refusal.proofs.RefusalLaws.{refusal-is-some}
+use Rattle.blit.proofs.BlitLaws.{blitStep-stays}
 use Rattle.instruction.specs.declared.types.Instruction.{Instruction}
 use Rattle.instruction.specs.declared.types.Instruction.the-variants.{Move, Wait, Skip}
 use Rattle.instruction.specs.declared.types.Refusal.{Refusal}

@@ -1,7 +1,7 @@
 -- Paper 02, W8: the number and values for each case of an instruction's answer.
 use Prim.Native.Nat.{ℕ}
 use mathlib.Core.List.{List}
-use Rattle.blit.specs.Refusal as blits
+use Rattle.refusal.specs.Refusal as blits
 use Rattle.instruction.specs.declared.types.Refusal.{Refusal}
 use Rattle.instruction.specs.declared.types.Taken.{Taken}
 use Rattle.instruction.specs.Effect.{machine, Step, step}

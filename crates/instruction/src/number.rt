@@ -7,7 +7,7 @@ pub fn refusal_number(why: Refusal) -> u32
     ensures { λ number. ⌜ number ≡ refusalNumber why ⌝ }
 {
     match why {
-        Refusal::Blit(reason) => blit::answer::number(blit::types::Answer::Refused(reason)),
+        Refusal::Blit(reason) => refusal::refusal_number(reason),
         Refusal::Forbidden => 21,
         Refusal::NotModelled => 22,
         Refusal::Outside => 23,

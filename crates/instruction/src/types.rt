@@ -10,7 +10,7 @@ pub enum Instruction {
 // Why an instruction is refused: a blit's own reasons; a forbidden offset; a permitted one that isn't modelled; an
 // instruction that doesn't lie in memory.
 pub enum Refusal {
-    Blit(blit::types::Refusal),
+    Blit(refusal::types::Refusal),
     Forbidden,
     NotModelled,
     Outside,

@@ -25,7 +25,7 @@ use Rattle.area.specs.Rows.{finishedWord, oneWord, words, rowStart, oneRow, row
 use Rattle.area.proofs.RowsLaws.{fetchedOn, finish-anywhere, oneRow-counts}
 use Rattle.settled.specs.Words.{storeWords, pointerWords, flagWords, rowStores, blitStores, settledEnd, settledWords}
 use Rattle.word.specs.Laid.{laid}
-use Rattle.settled.proofs.LearnLaws.{none-is-empty}
+use Rattle.settled.proofs.EndLaws.{none-is-empty}
 use Rattle.word.proofs.LaidLaws.{laid-of-append}
 
 -- the words of a settled blit

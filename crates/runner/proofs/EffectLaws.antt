@@ -9,11 +9,11 @@ use lib.ListN.{length, set}
 use Rattle.word.proofs.ChoiceLaws.{if-either}
 use Rattle.file.specs.File.{kept}
 use Rattle.file.specs.Places.{flag}
-use Rattle.blit.specs.Refusal as blits
+use Rattle.refusal.specs.Refusal as blits
 use Rattle.blit.specs.Blit.{Outcome, refused, blitStep}
 use Rattle.blit.specs.Blit as blit
 use Rattle.blit.specs.declared.types.Answer.{Answer}
-use Rattle.blit.specs.declared.types.Refusal.{Refusal}
+use Rattle.refusal.specs.declared.types.Refusal.{Refusal}
 use Rattle.blit.proofs.BlitLaws.{blitStep-counts, blitStep-stays}
 use Rattle.job.specs.declared.types.Step.{Step}
 use Rattle.runner.specs.declared.types.Refusal as reasons

@@ -12,7 +12,7 @@ use lib.Dec.{leb, ltb}
 use lib.ListN.{length, drop}
 use Rattle.word.specs.Choice.{given}
 use Rattle.file.specs.File.{accepted}
-use Rattle.blit.specs.Refusal.{memorySize}
+use Rattle.refusal.specs.Refusal.{memorySize}
 use Rattle.blit.specs.Blit.{Outcome, refused}
 use Rattle.job.specs.declared.types.Step.{Step}
 use Rattle.job.specs.declared.types.Read.{Read}

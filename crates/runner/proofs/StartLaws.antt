@@ -8,7 +8,7 @@ use borrow.Author.Tests.{le-leb, eq-eqb, ne-eqb}
 use lib.ListN.{length}
 use Rattle.word.specs.Choice.{_when_, given}
 use Rattle.file.specs.File.{accepted}
-use Rattle.blit.specs.Refusal.{memorySize}
+use Rattle.refusal.specs.Refusal.{memorySize}
 use Rattle.runner.specs.Run.{machine, ended, runFrom, jobMost, jobLength, startRefusal, run}
 use Rattle.runner.proofs.RunLaws.{jobLength-when-short}
 

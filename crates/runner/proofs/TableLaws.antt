@@ -8,7 +8,7 @@ use lib.Dec.{eqb, leb, ltb}
 use lib.ListN.{length, set}
 use Rattle.word.specs.Choice.{if_then_else_, Rule, given}
 use Rattle.word.proofs.ChoiceLaws.{and-left, and-right}
-use Rattle.blit.specs.Refusal.{stepRefusal}
+use Rattle.refusal.specs.Refusal.{stepRefusal}
 use Rattle.blit.specs.Blit.{finished, done, refused, answered, blitStep}
 use Rattle.job.specs.declared.types.Step.{Step}
 use Rattle.job.specs.declared.types.Read.{Read}

@@ -8,7 +8,7 @@ use mathlib.Core.Logic.{_↔_}
 use lib.ListN.{length, take}
 use Rattle.word.specs.Choice.{given}
 use Rattle.file.specs.File.{accepted}
-use Rattle.blit.specs.Refusal.{memorySize}
+use Rattle.refusal.specs.Refusal.{memorySize}
 use Rattle.job.specs.Step.{stepAt}
 use Rattle.runner.specs.Run.{jobLength, startRefusal, run}
 use Rattle.runner.specs.Table.{stepRules}

@@ -7,7 +7,7 @@ use lib.Dec.{eqb, leb}
 use lib.ListN.{length}
 use Rattle.word.specs.Choice.{if_then_else_, Rule, _when_, given}
 use Rattle.file.specs.File.{accepted}
-use Rattle.blit.specs.Refusal.{memorySize}
+use Rattle.refusal.specs.Refusal.{memorySize}
 use Rattle.blit.specs.Blit.{Outcome}
 use Rattle.job.specs.declared.types.Read.{Read}
 use Rattle.job.specs.Steps.{Placed, stepsFrom}

@@ -5,7 +5,7 @@ use mathlib.Core.List.{List, [], _∷_}
 use lib.Dec.{leb}
 use lib.ListN.{length}
 use Rattle.word.specs.Choice.{Rule, _when_}
-use Rattle.blit.specs.Refusal.{blitRules}
+use Rattle.refusal.specs.Refusal.{blitRules}
 use Rattle.job.specs.declared.types.Step.{Step}
 use Rattle.job.specs.declared.types.Read.{Read}
 use Rattle.runner.specs.Run.{Machine}

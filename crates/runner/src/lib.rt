@@ -18,7 +18,7 @@ pub fn run(ram: &mut [u16], file: &mut [u16], job: &[u16]) -> Answer
         left answer (now (ram .exit)) (now (file .exit))
         ≡ run (now (ram .entry)) (now (file .entry)) (now (job .entry)) ⌝ }
 {
-    if blit::memory::memory_size(ram.len()) {
+    if refusal::memory_size(ram.len()) {
         return Answer::Refused(Refusal::MemorySize, 0, 0);
     }
     if !file::accepted(file) {

@@ -1,6 +1,6 @@
 // One step taken.
 ghost use mathlib.Core.Path.{_≡_};
-ghost use Rattle.blit.specs.Refusal as blits;
+ghost use Rattle.refusal.specs.Refusal as blits;
 ghost use Rattle.blit.specs.Blit.{blitStep};
 ghost use Rattle.runner.specs.Effect.{registerEffect, storeEffect, flagEffect, stepEffect};
 ghost use Rattle.runner.specs.Answer.{refusalNumber, leftByStep};
@@ -9,19 +9,19 @@ use crate::types::Taken;
 use job::types::Step;
 
 // The reason of a refused blit, as the runner gives it.
-fn blit_refusal(why: blit::types::Refusal) -> Refusal
+fn blit_refusal(why: refusal::types::Refusal) -> Refusal
     ensures { λ reason. ⌜ refusalNumber reason ≡ blits.refusalNumber why ⌝ }
 {
     match why {
-        blit::types::Refusal::MemorySize => Refusal::MemorySize,
-        blit::types::Refusal::RegisterFile => Refusal::RegisterFile,
-        blit::types::Refusal::Line => Refusal::Line,
-        blit::types::Refusal::BothFills => Refusal::BothFills,
-        blit::types::Refusal::FillUpward => Refusal::FillUpward,
-        blit::types::Refusal::ALeaves => Refusal::ALeaves,
-        blit::types::Refusal::BLeaves => Refusal::BLeaves,
-        blit::types::Refusal::CLeaves => Refusal::CLeaves,
-        blit::types::Refusal::DLeaves => Refusal::DLeaves,
+        refusal::types::Refusal::MemorySize => Refusal::MemorySize,
+        refusal::types::Refusal::RegisterFile => Refusal::RegisterFile,
+        refusal::types::Refusal::Line => Refusal::Line,
+        refusal::types::Refusal::BothFills => Refusal::BothFills,
+        refusal::types::Refusal::FillUpward => Refusal::FillUpward,
+        refusal::types::Refusal::ALeaves => Refusal::ALeaves,
+        refusal::types::Refusal::BLeaves => Refusal::BLeaves,
+        refusal::types::Refusal::CLeaves => Refusal::CLeaves,
+        refusal::types::Refusal::DLeaves => Refusal::DLeaves,
     }
 }
 

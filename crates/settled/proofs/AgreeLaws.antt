@@ -15,9 +15,9 @@ use Rattle.area.specs.declared.types.Setup.{Setup}
 use Rattle.area.specs.declared.types.Pointers.{Pointers}
 use Rattle.area.specs.Setup.{con0, con1, uses, function, shifts, carryIn, line, direction, fill, masks, modulos, setup}
 use Rattle.area.specs.Flow.{pointerAt, pointers, sources, start}
-use Rattle.blit.specs.Touch.{touches, leaves, channelLeaves}
-use Rattle.blit.specs.Refusal.{bothFills, fillUpward, leaving, stepRefusal}
-use Rattle.blit.proofs.RefusalLaws.{channelNumbered, numbered}
+use Rattle.refusal.specs.Touch.{touches, leaves, channelLeaves}
+use Rattle.refusal.specs.Refusal.{bothFills, fillUpward, leaving, stepRefusal}
+use Rattle.refusal.proofs.RefusalLaws.{channelNumbered, numbered}
 use Rattle.depends.specs.Depends.{counts}
 use Rattle.settled.specs.Words.{pointerWords, flagWords, settledEnd, settledWords}
 use Rattle.settled.proofs.OnlyDLaws.{OnlyD}

@@ -1,4 +1,4 @@
--- The laws of a settled blit: its words, what is known, and when it is settled.
+-- The laws of a settled blit: its words, and when it is settled.
 pub mod StoreLaws
 pub mod OnlyDLaws
 pub mod RunLaws
@@ -6,5 +6,5 @@ pub mod AlikeLaws
 pub mod AlikeRowsLaws
 pub mod AgreeLaws
 pub mod WordsLaws
-pub mod LearnLaws
+pub mod EndLaws
 pub mod SettledLaws

@@ -23,9 +23,9 @@ use Rattle.area.specs.Rows.{finishedWord, oneWord, words, rowStart, oneRow, row
 use Rattle.area.proofs.StoreLaws.{storePending-keeps-length}
 use Rattle.area.proofs.RowsLaws.{oneWord-keeps-length, oneRow-keeps-length}
 use Rattle.area.proofs.ChannelLaws.{oneWord-stores, oneWord-moves-d, oneRow-moves-d}
-use Rattle.blit.specs.Touch.{rowTouches, afterRow, touches, leaves}
+use Rattle.refusal.specs.Touch.{rowTouches, afterRow, touches, leaves}
 use Rattle.word.proofs.PointerLaws.{moved-lt, passed-lt}
-use Rattle.blit.proofs.TouchLaws.{leaves-of-append}
+use Rattle.refusal.proofs.TouchLaws.{leaves-of-append}
 use Rattle.runner.specs.Run.{machine, runFrom}
 use Rattle.settled.specs.Words.{rowStores, blitStores}
 use Rattle.settled.proofs.StoreLaws.{run-of-store}

@@ -11,10 +11,10 @@ use Rattle.word.proofs.ChoiceLaws.{and-none}
 use Rattle.file.specs.Places.{control0, control1, firstMask, lastMask, pointerD, moduloD, sourceA, sourceB, sourceC}
 use Rattle.area.specs.declared.types.Uses.{Uses}
 use Rattle.area.specs.Setup.{con0, uses, function}
-use Rattle.blit.specs.declared.types.Refusal.{Refusal}
-use Rattle.blit.specs.declared.types.Verdict.{Verdict}
-use Rattle.blit.specs.Refusal.{stepRefusal, verdictNumber}
-use Rattle.blit.proofs.BlitLaws.{refusal-is-some}
+use Rattle.refusal.specs.declared.types.Refusal.{Refusal}
+use Rattle.refusal.specs.declared.types.Verdict.{Verdict}
+use Rattle.refusal.specs.Refusal.{stepRefusal, verdictNumber}
+use Rattle.refusal.proofs.RefusalLaws.{refusal-is-some}
 use Rattle.depends.specs.declared.types.Depends.{Depends}
 use Rattle.depends.specs.Depends.{depends}
 use Rattle.knowledge.specs.declared.types.Known.{Known}

@@ -18,10 +18,10 @@ use Rattle.area.specs.Flow.{State, state, pointers, start}
 use Rattle.area.specs.Store.{memoryWith, countWith, storePending}
 use Rattle.area.specs.Rows.{rows, areaBlit}
 use Rattle.area.proofs.CountLaws.{each, each-of-used, rows-count-all}
-use Rattle.blit.specs.Refusal.{stepRefusal}
+use Rattle.refusal.specs.Refusal.{stepRefusal}
 use Rattle.blit.specs.WriteBack.{putPointer, putPointers, putSource, putSources, putFlag}
 use Rattle.blit.specs.Blit.{Outcome, finished, done, answered, blitStep}
-use Rattle.blit.proofs.RefusalLaws.{stepRefusal-of-none, leaving-of-d, pointerAt-lt}
+use Rattle.refusal.proofs.RefusalLaws.{stepRefusal-of-none, leaving-of-d, pointerAt-lt}
 use Rattle.runner.specs.Run.{machine, after, runFrom}
 use Rattle.settled.specs.Words.{pointerWords, flagWords, blitStores, settledEnd, settledWords}
 use Rattle.settled.proofs.StoreLaws.{run-of-end}

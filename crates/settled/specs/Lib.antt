@@ -1,4 +1,3 @@
--- What a reader must believe of a settled blit, in the order of paper 01: what is known, when it is settled, its words.
-pub mod Learn
+-- What a reader must believe of a settled blit, in the order of paper 01: its words, and when it is settled.
 pub mod Words
 pub mod Settled

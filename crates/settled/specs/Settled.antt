@@ -6,12 +6,12 @@ use lib.Dec.{eqb, leb}
 use Rattle.word.specs.Size.{height, width}
 use Rattle.file.specs.Places.{control0, control1, firstMask, lastMask, pointerD, moduloD, sourceA, sourceB, sourceC}
 use Rattle.area.specs.Setup.{con0, uses, function}
-use Rattle.blit.specs.Refusal.{stepRefusal}
+use Rattle.refusal.specs.Refusal.{stepRefusal}
 use Rattle.depends.specs.Depends.{counts}
 use Rattle.knowledge.specs.declared.types.Known.{Known}
 use Rattle.knowledge.specs.Known.{isKnown}
 use Rattle.knowledge.specs.Knowledge.{numbers}
-use Rattle.settled.specs.Learn.{knownAt}
+use Rattle.learning.specs.Learn.{knownAt}
 
 abbrev pub has : (known : List Known) → (place : ℕ) → Bool
 has known place = isKnown (knownAt known place)

@@ -1,3 +1,3 @@
-// Whether a blit is settled, what a step does to the folder's knowledge, and the words that a settled blit becomes.
-pub mod learn;
+// Whether a blit is settled, and the words that a settled blit becomes.
 pub mod settle;
+pub mod words;

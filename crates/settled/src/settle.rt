@@ -3,11 +3,11 @@ ghost use mathlib.Core.Path.{_≡_};
 ghost use Prim.Native.Nat.{_*_};
 ghost use lib.Dec.{eqb, leb};
 ghost use Rattle.word.specs.Size.{height, width};
-ghost use Rattle.blit.specs.Refusal.{stepRefusal};
+ghost use Rattle.refusal.specs.Refusal.{stepRefusal};
 ghost use Rattle.knowledge.specs.Knowledge.{listed, numbers};
 ghost use Rattle.settled.specs.Settled.{controlsKnown, onlyDUsed, sourcesKnown, settled};
-use blit::types::Verdict;
 use knowledge::types::Knowledge;
+use refusal::types::Verdict;
 
 fn controls_known(known: Knowledge) -> bool
     ensures { λ told. ⌜ told ≡ controlsKnown (listed known) ⌝ }
@@ -51,7 +51,7 @@ fn sources_known(function: u16, known: Knowledge) -> bool
 fn lawful(n: usize, file: &[u16], size: u16) -> bool
     ensures { λ done. ⌜ done ≡ eqb (stepRefusal n (now (file .entry)) size) 0 ⌝ }
 {
-    match blit::step_refusal(n, file, size) {
+    match refusal::step_refusal(n, file, size) {
         Verdict::Lawful => true,
         Verdict::Refused(_) => false,
     }

@@ -1,5 +1,5 @@
 -- `card_text::card` meets its contract: a bad first line, a good card, another bad line.
-use Rattle.card_text.proofs.ReadingLaws.{good-fits}
+use Rattle.card_reading.proofs.ReadingLaws.{good-fits}
 use Rattle.card_text.proofs.CardLaws.{start-le, words-le, printed-when-ram-bad, printed-when-bad, printed-when-good}
 use borrow.Author.Needs.{needs}
 use Rattle.card_text.proofs.card.Statement.{statement}

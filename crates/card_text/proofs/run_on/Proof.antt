@@ -1,6 +1,6 @@
 -- `card_text::run_on` meets its contract: what is printed is the run's.
 use Rattle.card_text.proofs.CardLaws.{printedRun-of-answer}
-use Rattle.card_text.specs.Job.{zeros}
+use Rattle.card_text.specs.Run.{zeros}
 use borrow.Author.Needs.{needs}
 use Rattle.card_text.proofs.run_on.Statement.{statement}
 use Rattle.card_text.proofs.run_on.Tie as tie

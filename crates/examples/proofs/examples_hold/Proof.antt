@@ -17,8 +17,8 @@ use Rattle.area.specs.Finish.{maskedA, result, final, finish}
 use Rattle.area.specs.Store.{wait, memoryWith, countWith, storePending}
 use Rattle.area.specs.Move.{stepped, moveOn, turned, rowEnd}
 use Rattle.area.specs.Rows.{finishedWord, storedBefore, oneWord, rowStart, oneRow, areaBlit}
-use Rattle.blit.specs.Touch.{rowTouches, afterRow, touches, leaves, channelLeaves}
-use Rattle.blit.specs.Refusal.{memorySize, bothFills, fillUpward, stepRefusal, refusal}
+use Rattle.refusal.specs.Touch.{rowTouches, afterRow, touches, leaves, channelLeaves}
+use Rattle.refusal.specs.Refusal.{memorySize, bothFills, fillUpward, stepRefusal, refusal}
 use Rattle.blit.specs.Blit.{finished, done, answered, blit}
 use Rattle.job.specs.Kind.{kind}
 use Rattle.job.specs.Step.{operands, found, begun, front}
@@ -27,7 +27,7 @@ use Rattle.depends.specs.Depends.{changes, counts}
 use Rattle.knowledge.specs.Known.{number, isKnown}
 use Rattle.knowledge.specs.Knowledge.{numbers}
 use Rattle.settled.specs.Words.{rowStores, blitStores, settledEnd, settledWords}
-use Rattle.settled.specs.Learn.{written, mayUse, forgetPointer, forgetSource, forgetUsed, forgotten, movedD}
+use Rattle.learning.specs.Learn.{written, mayUse, forgetPointer, forgetSource, forgetUsed, forgotten, movedD}
 use Rattle.settled.specs.Settled.{controlsKnown, onlyDUsed, sourcesKnown, settled}
 use Rattle.folder.specs.Fold.{folded, learned, piece, learnedAfter, foldSteps, foldFrom, fold}
 use Rattle.examples.specs.Examples.{examples}

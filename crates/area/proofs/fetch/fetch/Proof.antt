@@ -1,4 +1,5 @@
 -- `area::fetch::fetch` meets its contract, source by source.
+use mathlib.Core.Path.{refl}
 use Rattle.area.specs.Fetch.{fetch}
 use borrow.Author.Needs.{needs}
 use Rattle.area.proofs.fetch.fetch.Statement.{statement}
@@ -15,7 +16,15 @@ fetched-requires-3 c κs = search needs
 
 returns : tie.Need-returns
 unfolding fetch
-returns c = cc
+returns c =
+    rw (
+      c .before .before .before .before .before .fetched3 .ensures .0,
+      c .before .before .before .before .before .fetched3 .ensures .1,
+      c .before .before .before .before .before .before .fetched2 .ensures .0,
+      c .before .before .before .before .before .before .fetched2 .ensures .1,
+      c .before .before .before .before .before .before .before .fetched .ensures .0,
+      c .before .before .before .before .before .before .before .fetched .ensures .1,
+    ) refl
 
 pub fetch-spec : {M : Type 1} → statement M
 fetch-spec = tie.close (tie.spec fetched-requires fetched-requires-2 fetched-requires-3 returns)

@@ -1,4 +1,5 @@
 -- `area::finish::finish` meets its contract, field by field.
+use mathlib.Core.Path.{refl}
 use Rattle.area.specs.Finish.{final, finish}
 use borrow.Author.Needs.{needs}
 use Rattle.area.proofs.finish.finish.Statement.{statement}
@@ -15,7 +16,12 @@ filled-requires c κs = search needs
 
 returns : tie.Need-returns
 unfolding finish final
-returns c = cc
+returns c =
+    rw (
+      c .before .before .filled .ensures,
+      c .before .before .before .result .ensures,
+      c .before .before .before .before .masked-a .ensures,
+    ) refl
 
 pub finish-spec : {M : Type 1} → statement M
 finish-spec = tie.close (tie.spec masked-a-requires result-requires filled-requires returns)

@@ -1,4 +1,5 @@
 -- `area::finish::result` meets its contract: the shifts' and the logic function's, one in the other.
+use mathlib.Core.Path.{refl}
 use Rattle.area.specs.Finish.{result}
 use borrow.Author.Needs.{needs}
 use Rattle.area.proofs.finish.result.Statement.{statement}
@@ -15,7 +16,7 @@ logic-requires c κs = search needs
 
 returns : tie.Need-returns
 unfolding result
-returns c = cc
+returns c = rw (c .logic .ensures, c .before .shifted2 .ensures, c .before .before .shifted .ensures) refl
 
 pub result-spec : {M : Type 1} → statement M
 result-spec = tie.close (tie.spec shifted-requires shifted-requires-2 logic-requires returns)

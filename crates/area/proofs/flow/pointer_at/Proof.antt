@@ -1,4 +1,5 @@
 -- `area::flow::pointer_at` meets its contract: the two halves, made one.
+use mathlib.Core.Path.{refl}
 use Rattle.area.specs.Flow.{pointerAt}
 use borrow.Author.Needs.{needs}
 use Rattle.area.proofs.flow.pointer_at.Statement.{statement}
@@ -18,7 +19,7 @@ pointer-requires c κs = search needs
 
 returns : tie.Need-returns
 unfolding pointerAt
-returns c = cc
+returns c = rw (c .pointer .ensures, c .before .read2 .ensures, c .before .before .read .ensures) refl
 
 pub pointer-at-spec : {M : Type 1} → statement M
 pointer-at-spec =

@@ -1,4 +1,5 @@
 -- `area::flow::pointers` meets its contract, field by field.
+use mathlib.Core.Path.{refl}
 use Rattle.area.specs.Flow.{pointers}
 use borrow.Author.Needs.{needs}
 use Rattle.area.proofs.flow.pointers.Statement.{statement}
@@ -18,7 +19,13 @@ pointer-at-requires-4 c κs = search needs
 
 returns : tie.Need-returns
 unfolding pointers
-returns c = cc
+returns c =
+    rw (
+      c .pointer-at4 .ensures,
+      c .before .pointer-at3 .ensures,
+      c .before .before .pointer-at2 .ensures,
+      c .before .before .before .pointer-at .ensures,
+    ) refl
 
 pub pointers-spec : {M : Type 1} → statement M
 pointers-spec =

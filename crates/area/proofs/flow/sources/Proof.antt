@@ -1,4 +1,5 @@
 -- `area::flow::sources` meets its contract, field by field.
+use mathlib.Core.Path.{refl}
 use Rattle.area.specs.Flow.{sources}
 use borrow.Author.Needs.{needs}
 use Rattle.area.proofs.flow.sources.Statement.{statement}
@@ -15,7 +16,7 @@ read-requires-3 c κs = search needs
 
 returns : tie.Need-returns
 unfolding sources
-returns c = cc
+returns c = rw (c .read3 .ensures, c .before .read2 .ensures, c .before .before .read .ensures) refl
 
 pub sources-spec : {M : Type 1} → statement M
 sources-spec = tie.close (tie.spec read-requires read-requires-2 read-requires-3 returns)

@@ -1,4 +1,5 @@
 -- `area::flow::start` meets its contract, field by field.
+use mathlib.Core.Path.{refl}
 use Rattle.area.specs.Flow.{start}
 use borrow.Author.Needs.{needs}
 use Rattle.area.proofs.flow.start.Statement.{statement}
@@ -15,7 +16,7 @@ nothing-requires c κs = search needs
 
 returns : tie.Need-returns
 unfolding start
-returns c = cc
+returns c = rw (c .nothing .ensures, c .before .sources .ensures, c .before .before .pointers .ensures) refl
 
 pub start-spec : {M : Type 1} → statement M
 start-spec = tie.close (tie.spec pointers-requires sources-requires nothing-requires returns)

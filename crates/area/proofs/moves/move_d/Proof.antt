@@ -1,4 +1,5 @@
 -- `area::moves::move_d` meets its contract: D's pointer alone has moved.
+use mathlib.Core.Path.{refl}
 use borrow.Author.Needs.{needs}
 use Rattle.area.proofs.moves.move_d.Statement.{statement}
 use Rattle.area.proofs.moves.move_d.Tie as tie
@@ -10,7 +11,7 @@ with-pointers-requires : tie.Need-with-pointers-requires
 with-pointers-requires c κs = search needs
 
 returns : tie.Need-returns
-returns c = cc
+returns c = rw (c .with-pointers .ensures, c .before .stepped .ensures) refl
 
 pub move-d-spec : {M : Type 1} → statement M
 move-d-spec = tie.close (tie.spec stepped-requires with-pointers-requires returns)

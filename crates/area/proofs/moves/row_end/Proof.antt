@@ -1,4 +1,5 @@
 -- `area::moves::row_end` meets its contract, channel by channel.
+use mathlib.Core.Path.{refl}
 use Rattle.area.specs.Move.{rowEnd}
 use borrow.Author.Needs.{needs}
 use Rattle.area.proofs.moves.row_end.Statement.{statement}
@@ -21,7 +22,14 @@ with-pointers-requires c κs = search needs
 
 returns : tie.Need-returns
 unfolding rowEnd
-returns c = cc
+returns c =
+    rw (
+      c .with-pointers .ensures,
+      c .before .turned4 .ensures,
+      c .before .before .turned3 .ensures,
+      c .before .before .before .turned2 .ensures,
+      c .before .before .before .before .turned .ensures,
+    ) refl
 
 pub row-end-spec : {M : Type 1} → statement M
 row-end-spec =

@@ -1,4 +1,5 @@
 -- `area::setup::masks` meets its contract, field by field.
+use mathlib.Core.Path.{refl}
 use Rattle.area.specs.Setup.{masks}
 use borrow.Author.Needs.{needs}
 use Rattle.area.proofs.setup.masks.Statement.{statement}
@@ -12,7 +13,7 @@ read-requires-2 c κs = search needs
 
 returns : tie.Need-returns
 unfolding masks
-returns c = cc
+returns c = rw (c .read2 .ensures, c .before .read .ensures) refl
 
 pub masks-spec : {M : Type 1} → statement M
 masks-spec = tie.close (tie.spec read-requires read-requires-2 returns)

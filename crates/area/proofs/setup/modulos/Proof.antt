@@ -1,4 +1,5 @@
 -- `area::setup::modulos` meets its contract, field by field.
+use mathlib.Core.Path.{refl}
 use Rattle.area.specs.Setup.{modulos}
 use borrow.Author.Needs.{needs}
 use Rattle.area.proofs.setup.modulos.Statement.{statement}
@@ -30,7 +31,17 @@ half-requires-4 c κs = search needs
 
 returns : tie.Need-returns
 unfolding modulos
-returns c = cc
+returns c =
+    rw (
+      c .half4 .ensures,
+      c .before .read4 .ensures,
+      c .before .before .half3 .ensures,
+      c .before .before .before .read3 .ensures,
+      c .before .before .before .before .half2 .ensures,
+      c .before .before .before .before .before .read2 .ensures,
+      c .before .before .before .before .before .before .half .ensures,
+      c .before .before .before .before .before .before .before .read .ensures,
+    ) refl
 
 pub modulos-spec : {M : Type 1} → statement M
 modulos-spec =

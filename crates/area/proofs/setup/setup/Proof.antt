@@ -1,4 +1,5 @@
 -- `area::setup::setup` meets its contract, field by field.
+use mathlib.Core.Path.{refl}
 use Rattle.area.specs.Setup.{setup}
 use borrow.Author.Needs.{needs}
 use Rattle.area.proofs.setup.setup.Statement.{statement}
@@ -30,7 +31,17 @@ fill-requires c κs = search needs
 
 returns : tie.Need-returns
 unfolding setup
-returns c = cc
+returns c =
+    rw (
+      c .fill .ensures,
+      c .before .direction .ensures,
+      c .before .before .shifts .ensures,
+      c .before .before .before .masks .ensures,
+      c .before .before .before .before .modulos .ensures,
+      c .before .before .before .before .before .uses .ensures,
+      c .before .before .before .before .before .before .read2 .ensures,
+      c .before .before .before .before .before .before .before .read .ensures,
+    ) refl
 
 pub setup-spec : {M : Type 1} → statement M
 setup-spec =

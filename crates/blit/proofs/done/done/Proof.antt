@@ -1,5 +1,5 @@
 -- `blit::done::done` meets its contract: its calls are the definition's parts, in their order.
-use Rattle.blit.proofs.RefusalLaws.{width-is-few}
+use Rattle.refusal.proofs.RefusalLaws.{width-is-few}
 use Rattle.blit.proofs.BlitLaws.{setup-shifts-a, setup-shifts-b, start-room, done-of-parts}
 use borrow.Author.Needs.{needs}
 use Rattle.blit.proofs.done.done.Statement.{statement}

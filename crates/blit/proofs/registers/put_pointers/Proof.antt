@@ -1,8 +1,21 @@
 -- `blit::registers::put_pointers` meets its contract: channel after channel.
-use Rattle.blit.specs.WriteBack.{putPointers}
+use Prim.Native.Nat.{ℕ}
+use mathlib.Core.Path.{_≡_, refl}
+use mathlib.Core.List.{List}
+use Rattle.file.specs.Places.{pointerA, pointerB, pointerC, pointerD}
+use Rattle.area.specs.declared.types.Uses.{Uses}
+use Rattle.area.specs.declared.types.Pointers.{Pointers}
+use Rattle.blit.specs.WriteBack.{putPointer, putPointers}
 use borrow.Author.Needs.{needs}
 use Rattle.blit.proofs.registers.put_pointers.Statement.{statement}
 use Rattle.blit.proofs.registers.put_pointers.Tie as tie
+
+one-by-one : (uses : Uses) (pointers : Pointers) (file one two three four : List ℕ)
+    → one ≡ putPointer (uses .a) pointerA (pointers .a) file → two ≡ putPointer (uses .b) pointerB (pointers .b) one
+    → three ≡ putPointer (uses .c) pointerC (pointers .c) two → four ≡ putPointer (uses .d) pointerD (pointers .d) three
+    → four ≡ putPointers uses pointers file
+unfolding putPointers
+one-by-one uses pointers file one two three four a b c d = rw (d, c, b, a) refl
 
 put-pointer-requires : tie.Need-put-pointer-requires
 put-pointer-requires c κs = search needs
@@ -20,8 +33,7 @@ same-length : tie.Need-same-length
 same-length c = search needs
 
 returns : tie.Need-returns
-unfolding putPointers
-returns c = cc
+returns c = search one-by-one
 
 pub put-pointers-spec : {M : Type 1} → statement M
 put-pointers-spec =

@@ -1,8 +1,21 @@
 -- `blit::registers::put_sources` meets its contract: source after source.
-use Rattle.blit.specs.WriteBack.{putSources}
+use Prim.Native.Nat.{ℕ}
+use mathlib.Core.Path.{_≡_, refl}
+use mathlib.Core.List.{List}
+use Rattle.file.specs.Places.{sourceA, sourceB, sourceC}
+use Rattle.area.specs.declared.types.Uses.{Uses}
+use Rattle.area.specs.declared.types.Sources.{Sources}
+use Rattle.blit.specs.WriteBack.{putSource, putSources}
 use borrow.Author.Needs.{needs}
 use Rattle.blit.proofs.registers.put_sources.Statement.{statement}
 use Rattle.blit.proofs.registers.put_sources.Tie as tie
+
+one-by-one : (uses : Uses) (sources : Sources) (file one two three : List ℕ)
+    → one ≡ putSource (uses .a) sourceA (sources .a) file → two ≡ putSource (uses .b) sourceB (sources .b) one
+    → three ≡ putSource (uses .c) sourceC (sources .c) two
+    → three ≡ putSources uses sources file
+unfolding putSources
+one-by-one uses sources file one two three a b c = rw (c, b, a) refl
 
 put-source-requires : tie.Need-put-source-requires
 put-source-requires c κs = search needs
@@ -17,8 +30,7 @@ same-length : tie.Need-same-length
 same-length c = search needs
 
 returns : tie.Need-returns
-unfolding putSources
-returns c = cc
+returns c = search one-by-one
 
 pub put-sources-spec : {M : Type 1} → statement M
 put-sources-spec =

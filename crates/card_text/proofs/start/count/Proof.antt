@@ -3,8 +3,8 @@ use mathlib.Core.Path.{_≡_}
 use Prim.Native.Nat.{_-_, _≤_}
 use lib.ListN.{length}
 use Rattle.word.specs.Laid.{laid}
-use Rattle.card_text.specs.Job.{counted}
-use Rattle.card_text.proofs.JobLaws.{counted-start, counted-turn, counted-done}
+use Rattle.card_text.specs.Run.{counted}
+use Rattle.card_text.proofs.RunLaws.{counted-start, counted-turn, counted-done}
 use borrow.Author.Needs.{needs}
 use Rattle.card_text.proofs.start.count.Statement.{statement}
 use Rattle.card_text.proofs.start.count.Tie as tie

@@ -4,6 +4,7 @@ use mathlib.Core.Path.{_≡_}
 use lib.ListN.{length}
 use Rattle.area.specs.Flow.{state}
 use Rattle.area.specs.Rows.{rows}
+use Rattle.engine.proofs.RestLaws.{rest-onward}
 use borrow.Author.Needs.{needs}
 use Rattle.engine.proofs.rows.plain_rows.Statement.{statement}
 use Rattle.engine.proofs.rows.plain_rows.Tie as tie
@@ -28,19 +29,19 @@ same-length : tie.Need-same-length Inv-loop μ-loop
 same-length c = search needs
 
 returns : tie.Need-returns Inv-loop μ-loop
-returns c = (search needs, (search needs, cc))
+returns c = (search needs, (search needs, search rest-onward))
 
 loop-less : tie.Need-loop-less Inv-loop μ-loop
 loop-less c = search needs
 
 loop-again : tie.Need-loop-again Inv-loop μ-loop
-loop-again c = (cc, search needs, search needs, search needs)
+loop-again c = (search rest-onward, search needs, search needs, search needs)
 
 loop-less-2 : tie.Need-loop-less-2 Inv-loop μ-loop
 loop-less-2 c = search needs
 
 loop-again-2 : tie.Need-loop-again-2 Inv-loop μ-loop
-loop-again-2 c = (cc, search needs, search needs, search needs)
+loop-again-2 c = (search rest-onward, search needs, search needs, search needs)
 
 same-length-2 : tie.Need-same-length-2 Inv-loop μ-loop
 same-length-2 c = search needs

@@ -5,7 +5,7 @@ use lib.ListN.{length}
 use Rattle.area.specs.Flow.{state}
 use Rattle.area.specs.Rows.{rows}
 use Rattle.word.proofs.RepeatLaws.{repeated-done}
-use Rattle.engine.proofs.RestLaws.{known-kept}
+use Rattle.engine.proofs.RestLaws.{known-kept, rest-onward-twice}
 use borrow.Author.Needs.{needs}
 use Rattle.engine.proofs.rows.rows.Statement.{statement}
 use Rattle.engine.proofs.rows.rows.Tie as tie
@@ -33,7 +33,7 @@ loop-less : tie.Need-loop-less Inv-loop μ-loop
 loop-less c = search needs
 
 loop-again : tie.Need-loop-again Inv-loop μ-loop
-loop-again c = (cc, search needs, search needs)
+loop-again c = (search rest-onward-twice, search needs, search needs)
 
 same-length : tie.Need-same-length Inv-loop μ-loop
 same-length c = search needs

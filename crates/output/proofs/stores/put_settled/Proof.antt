@@ -1,6 +1,6 @@
 -- `output::stores::put_settled` meets its contract: the stores, then what follows them.
 use Rattle.word.proofs.SizeLaws.{words-fit}
-use Rattle.blit.proofs.RefusalLaws.{width-is-few}
+use Rattle.refusal.proofs.RefusalLaws.{width-is-few}
 use Rattle.blit.proofs.BlitLaws.{setup-shifts-a, setup-shifts-b, start-room}
 use Rattle.output.proofs.StoresLaws.{settledLength-fits, settledEnd-of-rows, settledWords-of-parts, stores-room, end-room, end-fits}
 use borrow.Author.Needs.{needs}

@@ -1,0 +1,61 @@
+-- Laws of digits: which bytes they are, and what they are worth.
+use mathlib.Core.Path.{_≡_, sym, _∙_}
+use Prim.Native.Nat.{ℕ, _+_, _*_, _-_, _<_, _≤_}
+use native.Mathlib.Omega.{arith}
+use mathlib.Core.Bool.{Bool, true, false, _||_}
+use mathlib.Core.List.{List}
+use borrow.Author.Tests.{leb-true}
+use lib.Dec.{leb}
+use lib.ListN.{getD}
+use Rattle.word.proofs.ChoiceLaws.{and-left, and-right}
+use Rattle.card_reading.specs.Text.{decimalDigit, capital, hexDigit, hexValue, hexWord}
+
+module _ (byte : ℕ) (digit : Bool) (is : digit ≡ decimalDigit byte) (holds : digit ≡ true) where
+  pub decimalDigit-ge : 48 ≤ byte
+  unfolding decimalDigit
+  decimalDigit-ge = leb-true 48 byte (and-left (leb 48 byte) (leb byte 57) (sym is ∙ holds))
+
+  pub decimalDigit-le : byte ≤ 57
+  unfolding decimalDigit
+  decimalDigit-le = leb-true byte 57 (and-right (leb 48 byte) (leb byte 57) (sym is ∙ holds))
+
+  pub hexValue-when-decimal : byte - 48 ≡ hexValue byte
+  unfolding hexValue
+  hexValue-when-decimal = rw (← is, holds)
+
+  pub decimal-lt : byte - 48 < 16
+  decimal-lt = omega (arith, decimalDigit-ge, decimalDigit-le)
+
+module _ (byte : ℕ) (digit letter : Bool) (is : digit ≡ decimalDigit byte) (fails : digit ≡ false) (is-letter : letter ≡ capital byte) where
+  pub capital-ge : letter ≡ true → 65 ≤ byte
+  unfolding capital
+  capital-ge holds = leb-true 65 byte (and-left (leb 65 byte) (leb byte 70) (sym is-letter ∙ holds))
+
+  pub capital-le : letter ≡ true → byte ≤ 70
+  unfolding capital
+  capital-le holds = leb-true byte 70 (and-right (leb 65 byte) (leb byte 70) (sym is-letter ∙ holds))
+
+  pub capital-far : letter ≡ true → 55 ≤ byte
+  capital-far holds = omega (arith, capital-ge holds)
+
+  pub hexValue-when-capital : letter ≡ true → byte - 55 ≡ hexValue byte
+  unfolding hexValue
+  hexValue-when-capital holds = rw (← is, fails, ← is-letter, holds)
+
+  pub capital-lt : letter ≡ true → byte - 55 < 16
+  capital-lt holds = omega (arith, capital-ge holds, capital-le holds)
+
+  pub hexValue-when-none : letter ≡ false → 0 ≡ hexValue byte
+  unfolding hexValue
+  hexValue-when-none none = rw (← is, fails, ← is-letter, none)
+
+pub hexDigit-of-parts : (byte : ℕ) (digit letter : Bool) → digit ≡ decimalDigit byte → letter ≡ capital byte → (digit || letter) ≡ hexDigit byte
+unfolding hexDigit
+hexDigit-of-parts byte digit letter is is-letter = rw (is, is-letter)
+
+pub hexWord-of-parts : (text : List ℕ) (at one two three four : ℕ)
+    → one ≡ hexValue (getD text at 0) → two ≡ hexValue (getD text (at + 1) 0)
+    → three ≡ hexValue (getD text (at + 2) 0) → four ≡ hexValue (getD text (at + 3) 0)
+    → one * 4096 + two * 256 + three * 16 + four ≡ hexWord text at
+unfolding hexWord
+hexWord-of-parts text at one two three four first second third fourth = rw (first, second, third, fourth)

@@ -1,0 +1,92 @@
+-- `card_reading::lines::ram_line` meets its contract: the digits from here on give what all give; a number that is too large stays so.
+use mathlib.Core.Path.{_≡_}
+use Prim.Native.Nat.{_+_, _-_, _≤_}
+use lib.ListN.{length, drop}
+use Rattle.card_reading.specs.RamLine.{digits, spelled, ramWords, ramEnd}
+use Rattle.card_reading.proofs.RamLaws.{digits-when-other, spelled-turn, digits-turn, digits-at-end, ramRead-when-keyless, ramRead-when-zero, ramRead-when-large, ramRead-when-ended}
+use Rattle.card_reading.proofs.TextLaws.{decimalDigit-ge, decimalDigit-le}
+use borrow.Author.Tests.{not-true, not-false}
+use borrow.Author.Needs.{needs}
+use Rattle.card_reading.proofs.lines.ram_line.Statement.{statement}
+use Rattle.card_reading.proofs.lines.ram_line.Tie as tie
+
+abbrev Inv-loop : tie.InvT-loop
+Inv-loop text at₀ words₀ at words =
+    (spelled words (digits (drop at text)) ≡ ramWords text)
+    × (at + length (digits (drop at text)) ≡ ramEnd text)
+    × (words ≤ 32768)
+    × (4 ≤ at)
+
+abbrev μ-loop : tie.MeasureT-loop
+μ-loop text at₀ words₀ at words = length text - at
+
+ram-key-requires : tie.Need-ram-key-requires Inv-loop μ-loop
+ram-key-requires c κs = search needs
+
+returns : tie.Need-returns Inv-loop μ-loop
+returns c = search (ramRead-when-keyless, not-true)
+
+byte-requires : tie.Need-byte-requires Inv-loop μ-loop
+byte-requires c κs = search needs
+
+returns-2 : tie.Need-returns-2 Inv-loop μ-loop
+returns-2 c = search (ramRead-when-zero, not-false)
+
+loop-holds : tie.Need-loop-holds Inv-loop μ-loop
+loop-holds c = search needs
+
+shared-slice-read-here : tie.Need-shared-slice-read-here Inv-loop μ-loop
+shared-slice-read-here c = search needs
+
+decimal-digit-requires : tie.Need-decimal-digit-requires Inv-loop μ-loop
+decimal-digit-requires c κs = search needs
+
+ram-ended-requires : tie.Need-ram-ended-requires Inv-loop μ-loop
+ram-ended-requires c κs = search needs
+
+returns-3 : tie.Need-returns-3 Inv-loop μ-loop
+returns-3 c = search (ramRead-when-ended, digits-when-other, not-true, not-false)
+
+with-digit-requires : tie.Need-with-digit-requires Inv-loop μ-loop
+with-digit-requires c κs = (search needs, search (decimalDigit-ge, not-false), search (decimalDigit-le, not-false))
+
+returns-4 : tie.Need-returns-4 Inv-loop μ-loop
+returns-4 c = search (ramRead-when-large, not-false)
+
+add-at : tie.Need-add-at Inv-loop μ-loop
+add-at c = search needs
+
+loop-less : tie.Need-loop-less Inv-loop μ-loop
+loop-less c = search needs
+
+loop-again : tie.Need-loop-again Inv-loop μ-loop
+loop-again c = (search (spelled-turn, not-false), search (digits-turn, not-false), search needs, search needs)
+
+ram-ended-requires-2 : tie.Need-ram-ended-requires-2 Inv-loop μ-loop
+ram-ended-requires-2 c κs = search needs
+
+returns-5 : tie.Need-returns-5 Inv-loop μ-loop
+returns-5 c = search (ramRead-when-ended, digits-at-end, not-false)
+
+pub ram-line-spec : {M : Type 1} → statement M
+ram-line-spec =
+    tie.close
+    (tie.spec
+    Inv-loop
+    μ-loop
+    ram-key-requires
+    returns
+    byte-requires
+    returns-2
+    loop-holds
+    shared-slice-read-here
+    decimal-digit-requires
+    ram-ended-requires
+    returns-3
+    with-digit-requires
+    returns-4
+    add-at
+    loop-less
+    loop-again
+    ram-ended-requires-2
+    returns-5)

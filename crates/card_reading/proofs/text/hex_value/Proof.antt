@@ -1,0 +1,46 @@
+-- `card_reading::text::hex_value` meets its contract, for a digit, a capital and any other byte.
+use Rattle.card_reading.proofs.TextLaws.{decimalDigit-ge, hexValue-when-decimal, decimal-lt, capital-far, hexValue-when-capital, capital-lt, hexValue-when-none}
+use borrow.Author.Needs.{needs}
+use Rattle.card_reading.proofs.text.hex_value.Statement.{statement}
+use Rattle.card_reading.proofs.text.hex_value.Tie as tie
+
+decimal-digit-requires : tie.Need-decimal-digit-requires
+decimal-digit-requires c κs = search needs
+
+sub-result : tie.Need-sub-result
+sub-result c = search (needs, decimalDigit-ge)
+
+cast-result : tie.Need-cast-result
+cast-result c = search needs
+
+returns : tie.Need-returns
+returns c = (search hexValue-when-decimal, search decimal-lt)
+
+capital-requires : tie.Need-capital-requires
+capital-requires c κs = search needs
+
+sub-result-2 : tie.Need-sub-result-2
+sub-result-2 c = search (needs, capital-far)
+
+cast-result-2 : tie.Need-cast-result-2
+cast-result-2 c = search needs
+
+returns-2 : tie.Need-returns-2
+returns-2 c = (search hexValue-when-capital, search capital-lt)
+
+returns-3 : tie.Need-returns-3
+returns-3 c = (search hexValue-when-none, search needs)
+
+pub hex-value-spec : {M : Type 1} → statement M
+hex-value-spec =
+    tie.close
+    (tie.spec
+    decimal-digit-requires
+    sub-result
+    cast-result
+    returns
+    capital-requires
+    sub-result-2
+    cast-result-2
+    returns-2
+    returns-3)

@@ -1,0 +1,92 @@
+// What a step does to the folder's knowledge.
+ghost use mathlib.Core.Path.{_≡_};
+ghost use Prim.Native.Nat.{_<_};
+ghost use Rattle.file.specs.Places.{fileLength};
+ghost use Rattle.knowledge.specs.Knowledge.{listed};
+ghost use Rattle.learning.specs.Learn.{written, mayUse, forgetPointer, forgetSource, forgetUsed};
+ghost use Rattle.learning.specs.Learn.{forgotten, movedD};
+use area::types::Uses;
+use knowledge::types::Knowledge;
+use knowledge::types::Known;
+use word::types::Pointer;
+
+// A register write makes it known.
+pub fn written(known: Knowledge, place: u32, value: u16) -> Knowledge
+    ensures { λ after. ⌜ listed after ≡ written place value (listed known) ⌝ }
+{
+    known.with(place, Known::Is(file::kept(place, value)))
+}
+
+fn may_use(known: Knowledge) -> Uses
+    ensures { λ uses. ⌜ uses ≡ mayUse (listed known) ⌝ }
+{
+    let controls = known.controls;
+    let con0 = controls.con0;
+    match con0 {
+        Known::Is(number) => area::setup::uses(number),
+        Known::Unknown => Uses {
+            a: true,
+            b: true,
+            c: true,
+            d: true,
+        },
+    }
+}
+
+fn forget_pointer(known: Knowledge, used: bool, place: u32) -> Knowledge
+    requires { ⌜ place < fileLength ⌝ }
+    ensures { λ after. ⌜ listed after ≡ forgetPointer used place (listed known) ⌝ }
+{
+    if used {
+        let first = known.with(place, Known::Unknown);
+        return first.with(place + 1, Known::Unknown);
+    }
+    known
+}
+
+fn forget_source(known: Knowledge, used: bool, place: u32) -> Knowledge
+    ensures { λ after. ⌜ listed after ≡ forgetSource used place (listed known) ⌝ }
+{
+    if used {
+        return known.with(place, Known::Unknown);
+    }
+    known
+}
+
+fn forget_pointers(known: Knowledge, uses: Uses) -> Knowledge
+    ensures { λ after. ⌜
+        listed after
+        ≡ forgetPointer (uses .d) 10
+        (forgetPointer (uses .c) 4
+        (forgetPointer (uses .b) 6
+        (forgetPointer (uses .a) 8 (listed known)))) ⌝ }
+{
+    let no_a = forget_pointer(known, uses.a, 8);
+    let no_b = forget_pointer(no_a, uses.b, 6);
+    let no_c = forget_pointer(no_b, uses.c, 4);
+    forget_pointer(no_c, uses.d, 10)
+}
+
+fn forget_used(known: Knowledge, uses: Uses) -> Knowledge
+    ensures { λ after. ⌜ listed after ≡ forgetUsed uses (listed known) ⌝ }
+{
+    let pointed = forget_pointers(known, uses);
+    let no_a = forget_source(pointed, uses.a, 18);
+    let no_b = forget_source(no_a, uses.b, 17);
+    forget_source(no_b, uses.c, 16)
+}
+
+// After a kept 058.
+pub fn forgotten(known: Knowledge) -> Knowledge
+    ensures { λ after. ⌜ listed after ≡ forgotten (listed known) ⌝ }
+{
+    forget_used(known, may_use(known))
+}
+
+// After a settled 058, with the final D pointer.
+pub fn moved_d(known: Knowledge, pointer: Pointer) -> Knowledge
+    ensures { λ after. ⌜ listed after ≡ movedD pointer (listed known) ⌝ }
+{
+    let half = known.with(10, Known::Is(pointer.high()));
+    half.with(11, Known::Is(pointer.low()))
+}

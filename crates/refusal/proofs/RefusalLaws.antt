@@ -1,0 +1,199 @@
+-- Laws of the refusals.
+use mathlib.Core.Path.{_≡_, refl, sym, ap, _∙_}
+use Prim.Native.Nat.{ℕ, _/_, _%_, _<_, _≤_}
+use mathlib.Core.Bool.{Bool, true, false, not, _&&_, _||_}
+use mathlib.Core.List.{List}
+use native.Mathlib.Omega.{arith}
+use native.Mathlib.Decide.{decLt}
+use borrow.Author.Tests.{lt-ltb, le-ltb, le-leb, lt-leb, eq-eqb, ne-eqb}
+use lib.Dec.{eqb, leb, ltb}
+use Rattle.word.specs.Choice.{if_then_else_, given}
+use Rattle.word.specs.Pointer.{pointerEnd, pointer}
+use Rattle.word.specs.Size.{height, width}
+use Rattle.word.proofs.SizeLaws.{width-le, width-positive}
+use Rattle.file.specs.File.{accepted}
+use Rattle.file.specs.Places.{pointerA, pointerB, pointerC, pointerD}
+use Rattle.area.specs.declared.types.Setup.{Setup}
+use Rattle.area.specs.declared.types.Pointers.{Pointers}
+use Rattle.area.specs.Setup.{con1, line, setup}
+use Rattle.area.specs.Flow.{pointerAt, pointers}
+use Rattle.refusal.specs.declared.types.Refusal.{Refusal}
+use Rattle.refusal.specs.declared.types.Refusal.the-variants.{MemorySize, RegisterFile, Line, BothFills, FillUpward, ALeaves, BLeaves, CLeaves, DLeaves}
+use Rattle.refusal.specs.Touch.{touches, leaves, channelLeaves}
+use Rattle.refusal.specs.Refusal.{memorySize, bothFills, fillUpward, leaving, stepRefusal, refusal, refusalNumber}
+
+-- the far end tested the other way round
+pub memorySize-is-beyond : (n : ℕ) → (eqb n 0 || ltb pointerEnd n) ≡ memorySize n
+unfolding memorySize
+memorySize-is-beyond n = ap (λ (far : Bool). eqb n 0 || far) (by-order (decLt pointerEnd n))
+  where
+    by-order : Dec (pointerEnd < n) → ltb pointerEnd n ≡ not (leb n pointerEnd)
+    by-order (yes far) = rw (lt-ltb pointerEnd n far, lt-leb n pointerEnd far)
+    by-order (no near) = let inside : n ≤ pointerEnd = omega arith in rw (le-ltb pointerEnd n inside, le-leb n pointerEnd inside)
+
+pub pointerAt-lt : (file : List ℕ) (place : ℕ) → pointerAt file place .word < pointerEnd
+unfolding pointerAt pointer
+pointerAt-lt file place = omega arith
+
+pub width-is-some : (size words : ℕ) → words ≡ width size → 1 ≤ words
+width-is-some size words wide = rw wide (width-positive size)
+
+pub width-is-few : (size words : ℕ) → words ≡ width size → words ≤ 64
+width-is-few size words wide = rw wide (width-le size)
+
+module _ (file : List ℕ) (at : Pointers) (same : at ≡ pointers file) where
+  pub pointers-lt-a : at .a .word < pointerEnd
+  unfolding pointers
+  pointers-lt-a = rw same (pointerAt-lt file pointerA)
+
+  pub pointers-lt-b : at .b .word < pointerEnd
+  unfolding pointers
+  pointers-lt-b = rw same (pointerAt-lt file pointerB)
+
+  pub pointers-lt-c : at .c .word < pointerEnd
+  unfolding pointers
+  pointers-lt-c = rw same (pointerAt-lt file pointerC)
+
+  pub pointers-lt-d : at .d .word < pointerEnd
+  unfolding pointers
+  pointers-lt-d = rw same (pointerAt-lt file pointerD)
+
+-- the channels one after the other: the first that leaves decides
+module _ (n : ℕ) (set : Setup) (at : Pointers) (size wide tall : ℕ) (width-is : wide ≡ width size) (height-is : tall ≡ height size) (a : Bool)
+    (of-a : a ≡ channelLeaves n (set .direction) (set .uses .a) wide (set .modulos .a) tall (at .a)) where
+  pub leaving-by-a : a ≡ true → 14 ≡ leaving n set at size
+  unfolding leaving given
+  leaving-by-a outside = rw (← width-is, ← height-is, ← of-a, outside)
+
+  module _ (a-stays : a ≡ false) (b : Bool) (of-b : b ≡ channelLeaves n (set .direction) (set .uses .b) wide (set .modulos .b) tall (at .b)) where
+    pub leaving-by-b : b ≡ true → 15 ≡ leaving n set at size
+    unfolding leaving given
+    leaving-by-b outside = rw (← width-is, ← height-is, ← of-a, ← of-b, a-stays, outside)
+
+    module _ (b-stays : b ≡ false) (c : Bool) (of-c : c ≡ channelLeaves n (set .direction) (set .uses .c) wide (set .modulos .c) tall (at .c)) where
+      pub leaving-by-c : c ≡ true → 16 ≡ leaving n set at size
+      unfolding leaving given
+      leaving-by-c outside = rw (← width-is, ← height-is, ← of-a, ← of-b, ← of-c, a-stays, b-stays, outside)
+
+      module _ (c-stays : c ≡ false) (d : Bool) (of-d : d ≡ channelLeaves n (set .direction) (set .uses .d) wide (set .modulos .d) tall (at .d)) where
+        pub leaving-by-d : d ≡ true → 17 ≡ leaving n set at size
+        unfolding leaving given
+        leaving-by-d outside = rw (← width-is, ← height-is, ← of-a, ← of-b, ← of-c, ← of-d, a-stays, b-stays, c-stays, outside)
+
+        pub leaving-by-none : d ≡ false → 0 ≡ leaving n set at size
+        unfolding leaving given
+        leaving-by-none stays = rw (← width-is, ← height-is, ← of-a, ← of-b, ← of-c, ← of-d, a-stays, b-stays, c-stays, stays)
+
+-- the rules of a blit, one after the other
+module _ (n size : ℕ) (file : List ℕ) (control : ℕ) (reads : control ≡ con1 file) where
+  pub refused-by-line : control / 1 % 2 ≡ 1 → 7 ≡ stepRefusal n file size
+  unfolding stepRefusal given
+  refused-by-line holds = rw (← reads, eq-eqb (control / 1 % 2) 1 holds)
+
+  module _ (area : control / 1 % 2 ≡ 1 → ⊥) (both : Bool) (of-both : both ≡ bothFills control) where
+    pub refused-by-both-fills : both ≡ true → 8 ≡ stepRefusal n file size
+    unfolding stepRefusal given
+    refused-by-both-fills holds = rw (← reads, ne-eqb (control / 1 % 2) 1 area, ← of-both, holds)
+
+    module _ (one : both ≡ false) (upward : Bool) (of-upward : upward ≡ fillUpward control) where
+      pub refused-by-fill-upward : upward ≡ true → 9 ≡ stepRefusal n file size
+      unfolding stepRefusal given
+      refused-by-fill-upward holds = rw (← reads, ne-eqb (control / 1 % 2) 1 area, ← of-both, one, ← of-upward, holds)
+
+      pub refused-by-leaving : upward ≡ false → (set : Setup) (at : Pointers) (number : ℕ)
+          → set ≡ setup file → at ≡ pointers file → number ≡ leaving n set at size → number ≡ stepRefusal n file size
+      unfolding stepRefusal given leaving
+      refused-by-leaving downward set at number of-set of-at gives =
+          rw (← reads, ne-eqb (control / 1 % 2) 1 area, ← of-both, one, ← of-upward, downward, ← of-set, ← of-at) gives
+
+-- memory and file, then the rules of the blit
+module _ (n size : ℕ) (file : List ℕ) (bad : Bool) (of-bad : bad ≡ memorySize n) where
+  pub refused-by-memory : bad ≡ true → 1 ≡ refusal n file size
+  unfolding refusal given
+  refused-by-memory holds = rw (← of-bad, holds)
+
+  module _ (taken : bad ≡ false) (fine : Bool) (of-fine : fine ≡ accepted file) where
+    pub refused-by-file : not fine ≡ true → 2 ≡ refusal n file size
+    unfolding refusal given
+    refused-by-file holds = rw (← of-bad, taken, ← of-fine, holds)
+
+    pub refused-by-blit : (number : ℕ) → not fine ≡ false → number ≡ stepRefusal n file size → number ≡ refusal n file size
+    unfolding refusal stepRefusal given
+    refused-by-blit number holds rest = rw (← of-bad, taken, ← of-fine, holds) rest
+
+-- no refusal has the number 0, which is done
+pub refusal-is-some : (why : Refusal) → eqb (refusalNumber why) 0 ≡ false
+refusal-is-some MemorySize = refl
+refusal-is-some RegisterFile = refl
+refusal-is-some Line = refl
+refusal-is-some BothFills = refl
+refusal-is-some FillUpward = refl
+refusal-is-some ALeaves = refl
+refusal-is-some BLeaves = refl
+refusal-is-some CLeaves = refl
+refusal-is-some DLeaves = refl
+
+-- the numbers by their tests alone: of the channels, and of all
+abbrev pub channelNumbered : (a b c d : Bool) → ℕ
+channelNumbered a b c d =
+    if a then 14 else
+    if b then 15 else
+    if c then 16 else
+    if d then 17 else
+    0
+
+abbrev pub numbered : (memory file line both upward : Bool) → (channel : ℕ) → ℕ
+numbered memory file line both upward channel =
+    if memory then 1 else
+    if file then 2 else
+    if line then 7 else
+    if both then 8 else
+    if upward then 9 else
+    channel
+
+pub refusal-is-numbered : (n : ℕ) (file : List ℕ) (size : ℕ)
+    → refusal n file size
+    ≡ numbered (memorySize n) (not (accepted file)) (line (con1 file)) (bothFills (con1 file)) (fillUpward (con1 file))
+    (leaving n (setup file) (pointers file) size)
+unfolding refusal given leaving
+refusal-is-numbered n file size = refl
+
+numbered-of-none : (memory file line both upward : Bool) (channel : ℕ) → numbered memory file line both upward channel ≡ 0 → channel ≡ 0
+numbered-of-none true file line both upward channel lawful = absurd (omega arith)
+numbered-of-none false true line both upward channel lawful = absurd (omega arith)
+numbered-of-none false false true both upward channel lawful = absurd (omega arith)
+numbered-of-none false false false true upward channel lawful = absurd (omega arith)
+numbered-of-none false false false false true channel lawful = absurd (omega arith)
+numbered-of-none false false false false false channel lawful = lawful
+
+-- a blit that nothing refuses doesn't leave memory
+pub refusal-of-none : (n : ℕ) (file : List ℕ) (size : ℕ) → refusal n file size ≡ 0 → leaving n (setup file) (pointers file) size ≡ 0
+refusal-of-none n file size lawful =
+    numbered-of-none (memorySize n) (not (accepted file)) (line (con1 file)) (bothFills (con1 file)) (fillUpward (con1 file))
+    (leaving n (setup file) (pointers file) size) (sym (refusal-is-numbered n file size) ∙ lawful)
+
+-- the same of a job's blit
+pub stepRefusal-of-none : (n : ℕ) (file : List ℕ) (size : ℕ) → stepRefusal n file size ≡ 0 → leaving n (setup file) (pointers file) size ≡ 0
+unfolding stepRefusal given leaving
+stepRefusal-of-none n file size lawful =
+    numbered-of-none false false (line (con1 file)) (bothFills (con1 file)) (fillUpward (con1 file))
+    (leaving n (setup file) (pointers file) size) lawful
+
+-- then D, if it is used, stays inside
+last-of-none : (a b c used outside : Bool) → used ≡ true → channelNumbered a b c (used && outside) ≡ 0 → outside ≡ false
+last-of-none true b c used outside uses none = absurd (omega arith)
+last-of-none false true c used outside uses none = absurd (omega arith)
+last-of-none false false true used outside uses none = absurd (omega arith)
+last-of-none false false false true true uses none = absurd (omega arith)
+last-of-none false false false false true uses none = sym uses
+last-of-none false false false used false uses none = refl
+
+pub leaving-of-d : (n size : ℕ) (set : Setup) (at : Pointers) → set .uses .d ≡ true → leaving n set at size ≡ 0
+    → leaves n (touches (set .direction) (width size) (set .modulos .d) (height size) (at .d)) ≡ false
+unfolding leaving given channelLeaves
+leaving-of-d n size set at uses none =
+    last-of-none
+    (channelLeaves n (set .direction) (set .uses .a) (width size) (set .modulos .a) (height size) (at .a))
+    (channelLeaves n (set .direction) (set .uses .b) (width size) (set .modulos .b) (height size) (at .b))
+    (channelLeaves n (set .direction) (set .uses .c) (width size) (set .modulos .c) (height size) (at .c))
+    (set .uses .d) (leaves n (touches (set .direction) (width size) (set .modulos .d) (height size) (at .d))) uses none

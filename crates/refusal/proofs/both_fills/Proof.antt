@@ -1,0 +1,12 @@
+-- `refusal::both_fills` meets its contract: the two bits.
+use mathlib.Core.Path.{refl}
+use Rattle.refusal.specs.Refusal.{bothFills}
+use Rattle.refusal.proofs.both_fills.Statement.{statement}
+use Rattle.refusal.proofs.both_fills.Tie as tie
+
+returns : tie.Need-returns
+unfolding bothFills
+returns c = refl
+
+pub both-fills-spec : {M : Type 1} → statement M
+both-fills-spec = tie.close (tie.spec returns)

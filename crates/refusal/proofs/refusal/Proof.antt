@@ -1,0 +1,34 @@
+-- `refusal::refusal` meets its contract: memory and file are tried first, then the rules of the blit.
+use Rattle.refusal.proofs.RefusalLaws.{refused-by-memory, refused-by-file, refused-by-blit}
+use borrow.Author.Needs.{needs}
+use Rattle.refusal.proofs.refusal.Statement.{statement}
+use Rattle.refusal.proofs.refusal.Tie as tie
+
+memory-size-requires : tie.Need-memory-size-requires
+memory-size-requires c κs = search needs
+
+returns : tie.Need-returns
+returns c = search refused-by-memory
+
+accepted-requires : tie.Need-accepted-requires
+accepted-requires c κs = search needs
+
+returns-2 : tie.Need-returns-2
+returns-2 c = search refused-by-file
+
+step-refusal-requires : tie.Need-step-refusal-requires
+step-refusal-requires c κs = search needs
+
+returns-3 : tie.Need-returns-3
+returns-3 c = search refused-by-blit
+
+pub refusal-spec : {M : Type 1} → statement M
+refusal-spec =
+    tie.close
+    (tie.spec
+    memory-size-requires
+    returns
+    accepted-requires
+    returns-2
+    step-refusal-requires
+    returns-3)

@@ -1,0 +1,39 @@
+-- `refusal::touch::channel_leaves` meets its contract: unused, or in memory that no pointer leaves, or with rows that all
+-- lie inside, it stays inside.
+use Rattle.refusal.proofs.TouchLaws.{channelLeaves-when-used, channelLeaves-at-end, channelLeaves-when-inside, channelLeaves-when-unused}
+use borrow.Author.Needs.{needs}
+use Rattle.refusal.proofs.touch.channel_leaves.Statement.{statement}
+use Rattle.refusal.proofs.touch.channel_leaves.Tie as tie
+
+evenly-inside-requires : tie.Need-evenly-inside-requires
+evenly-inside-requires c κs = search needs
+
+returns : tie.Need-returns
+returns c = search (channelLeaves-when-inside, c .before .evenly-inside .ensures)
+
+cast-rows-leave : tie.Need-cast-rows-leave
+cast-rows-leave c = search needs
+
+rows-leave-requires : tie.Need-rows-leave-requires
+rows-leave-requires c κs = search needs
+
+returns-2 : tie.Need-returns-2
+returns-2 c = search channelLeaves-when-used
+
+returns-3 : tie.Need-returns-3
+returns-3 c = search channelLeaves-at-end
+
+returns-4 : tie.Need-returns-4
+returns-4 c = search channelLeaves-when-unused
+
+pub channel-leaves-spec : {M : Type 1} → statement M
+channel-leaves-spec =
+    tie.close
+    (tie.spec
+    evenly-inside-requires
+    returns
+    cast-rows-leave
+    rows-leave-requires
+    returns-2
+    returns-3
+    returns-4)

@@ -1,0 +1,53 @@
+-- `refusal::touch::rows_leave` meets its contract: the rows passed stay inside, and the first that leaves decides.
+use Prim.Native.Nat.{_<_}
+use mathlib.Core.Path.{_≡_}
+use Rattle.refusal.specs.Touch.{touches, leaves}
+use Rattle.refusal.proofs.TouchLaws.{touches-when-row-leaves, touches-turn, touches-done}
+use borrow.Author.Needs.{needs}
+use Rattle.refusal.proofs.touch.rows_leave.Statement.{statement}
+use Rattle.refusal.proofs.touch.rows_leave.Tie as tie
+
+abbrev Inv-loop : tie.InvT-loop
+Inv-loop n direction width modulo rows here₀ left₀ here left = (leaves n (touches direction width modulo left here) ≡ leaves n (touches direction width modulo left₀ here₀)) × (here .word < 262144)
+
+abbrev μ-loop : tie.MeasureT-loop
+μ-loop n direction width modulo rows here₀ left₀ here left = left
+
+loop-holds : tie.Need-loop-holds Inv-loop μ-loop
+loop-holds c = search needs
+
+row-leaves-requires : tie.Need-row-leaves-requires Inv-loop μ-loop
+row-leaves-requires c κs = search needs
+
+returns : tie.Need-returns Inv-loop μ-loop
+returns c = search touches-when-row-leaves
+
+after-row-requires : tie.Need-after-row-requires Inv-loop μ-loop
+after-row-requires c κs = search needs
+
+sub-left : tie.Need-sub-left Inv-loop μ-loop
+sub-left c = search needs
+
+loop-less : tie.Need-loop-less Inv-loop μ-loop
+loop-less c = search needs
+
+loop-again : tie.Need-loop-again Inv-loop μ-loop
+loop-again c = (search touches-turn, search needs)
+
+returns-2 : tie.Need-returns-2 Inv-loop μ-loop
+returns-2 c = search touches-done
+
+pub rows-leave-spec : {M : Type 1} → statement M
+rows-leave-spec =
+    tie.close
+    (tie.spec
+    Inv-loop
+    μ-loop
+    loop-holds
+    row-leaves-requires
+    returns
+    after-row-requires
+    sub-left
+    loop-less
+    loop-again
+    returns-2)

@@ -80,7 +80,7 @@ module _ (n number : ℕ) (memory file : List ℕ) (size : ℕ) (ready : Ready n
   end-bounded : Bounded (finished memory file size)
   unfolding finished
   end-bounded =
-      areaBlit-bounded (setup file) (width size) (height size) (state memory (start file)) (start-bounded memory file (ready .words) (ready .file))
+      areaBlit-bounded (setup file) (width size) (height size) (state memory (start file)) (start-bounded memory file (ready .words) (ready .fine))
 
   answered-ready : Ready n (answered number memory file size .memory) (answered number memory file size .file)
   unfolding done refused
@@ -88,9 +88,9 @@ module _ (n number : ℕ) (memory file : List ℕ) (size : ℕ) (ready : Ready n
       record {
         long = answered-keeps-memory-length number memory file size ∙ ready .long;
         words = answered-either (λ (end : Outcome). SixteenBits (end .memory)) number memory file size (end-bounded .memory) (ready .words);
-        file =
+        fine =
             answered-either (λ (end : Outcome). accepted (end .file) ≡ true) number memory file size
-            (done-accepted file (finished memory file size) end-bounded (ready .file)) (ready .file);
+            (done-accepted file (finished memory file size) end-bounded (ready .fine)) (ready .fine);
       }
 
 pub accepted-again : AcceptedAgain

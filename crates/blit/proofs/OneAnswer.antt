@@ -1,56 +1,31 @@
 -- Two answers that meet the promise are equal: the numbers tell the refusals apart, and no refusal has the number 0.
-use mathlib.Core.Path.{_≡_, refl, sym, ap, _∙_}
+use mathlib.Core.Path.{_≡_, sym, ap, _∙_}
 use Prim.Native.Nat.{ℕ}
-use borrow.Author.Tests.{eqb-false}
-use lib.Dec.{eqb}
-use Rattle.word.specs.Choice.{if_then_else_}
-use Rattle.refusal.specs.declared.types.Refusal.{Refusal}
-use Rattle.refusal.specs.declared.types.Refusal.the-variants.{MemorySize, RegisterFile, Line, BothFills, FillUpward, ALeaves, BLeaves, CLeaves, DLeaves}
+use Rattle.refusal.proofs.OneAnswerLaws.{refusalNumber-is-unique, refusalNumber-positive}
 use Rattle.blit.specs.declared.types.Answer.{Answer}
 use Rattle.blit.specs.declared.types.Answer.the-variants.{Done, Refused}
-use Rattle.refusal.specs.Refusal.{refusalNumber}
 use Rattle.blit.specs.Blit.{Outcome, answerNumber, answerStored, left}
-use Rattle.refusal.proofs.RefusalLaws.{refusal-is-some}
-use Rattle.blit.specs.OneAnswer.{OneAnswer}
+use Rattle.blit.specs.OneAnswer.{Result, OneAnswer, OneStepAnswer}
 
--- the refusal with a number
-unfoldable pub refusalOf : ℕ → Refusal
-refusalOf number =
-    if eqb number 1 then MemorySize else
-    if eqb number 2 then RegisterFile else
-    if eqb number 7 then Line else
-    if eqb number 8 then BothFills else
-    if eqb number 9 then FillUpward else
-    if eqb number 14 then ALeaves else
-    if eqb number 15 then BLeaves else
-    if eqb number 16 then CLeaves else
-    DLeaves
+answer-is-unique : (one other : Answer) → answerNumber one ≡ answerNumber other → answerStored one ≡ answerStored other → one ≡ other
+answer-is-unique (Done stored) (Done count) number counts = ap Done counts
+answer-is-unique (Done stored) (Refused why) number counts = absurd (refusalNumber-positive why (sym number))
+answer-is-unique (Refused why) (Done stored) number counts = absurd (refusalNumber-positive why number)
+answer-is-unique (Refused why) (Refused reason) number counts = ap Refused (refusalNumber-is-unique why reason number)
 
-refusalNumber-tells : (why : Refusal) → refusalOf (refusalNumber why) ≡ why
-unfolding refusalOf
-refusalNumber-tells MemorySize = refl
-refusalNumber-tells RegisterFile = refl
-refusalNumber-tells Line = refl
-refusalNumber-tells BothFills = refl
-refusalNumber-tells FillUpward = refl
-refusalNumber-tells ALeaves = refl
-refusalNumber-tells BLeaves = refl
-refusalNumber-tells CLeaves = refl
-refusalNumber-tells DLeaves = refl
-
-answers-are-equal : (answer other : Answer) → answerNumber answer ≡ answerNumber other → answerStored answer ≡ answerStored other → answer ≡ other
-answers-are-equal (Done stored) (Done stored′) number count = ap Done count
-answers-are-equal (Refused why) (Refused why′) number count =
-    ap Refused (sym (refusalNumber-tells why) ∙ ap refusalOf number ∙ refusalNumber-tells why′)
-answers-are-equal (Done stored) (Refused why) number count = absurd (eqb-false (refusalNumber why) 0 (refusal-is-some why) (sym number))
-answers-are-equal (Refused why) (Done stored) number count = absurd (eqb-false (refusalNumber why) 0 (refusal-is-some why) number)
+result-is-unique : (first second : Result)
+    → left (first .answer) (first .memory) (first .file) ≡ left (second .answer) (second .memory) (second .file) → first ≡ second
+result-is-unique first second same =
+    let answers =
+    answer-is-unique (first .answer) (second .answer) (ap (λ (end : Outcome). end .number) same) (ap (λ (end : Outcome). end .stored) same) in
+    λ i. record {
+      answer = answers i;
+      memory = same i .memory;
+      file = same i .file;
+    }
 
 pub one-answer : OneAnswer
-one-answer before held size answer other memory memory′ file file′ this that =
-    let same : left answer memory file ≡ left other memory′ file′ = this ∙ sym that in
-    record {
-      answers =
-          answers-are-equal answer other (ap (λ (end : Outcome). end .number) same) (ap (λ (end : Outcome). end .stored) same);
-      memories = ap (λ (end : Outcome). end .memory) same;
-      files = ap (λ (end : Outcome). end .file) same;
-    }
+one-answer memory file size first second promise again = result-is-unique first second (promise ∙ sym again)
+
+pub one-step-answer : OneStepAnswer
+one-step-answer memory file size first second promise again = result-is-unique first second (promise ∙ sym again)

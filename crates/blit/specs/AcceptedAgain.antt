@@ -13,7 +13,7 @@ use Rattle.blit.specs.Blit.{blitStep, blit}
 pub record Ready (n : ℕ) (memory file : List ℕ) : Type 0 where
   pub long : length memory ≡ n
   pub words : SixteenBits memory
-  pub file : accepted file ≡ true
+  pub fine : accepted file ≡ true
 
 -- by the blit called alone, and by that of a job's step
 pub record AcceptedAgain : Type 0 where

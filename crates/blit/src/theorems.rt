@@ -3,7 +3,7 @@ ghost use Rattle.blit.specs.OnlyDChanges.{OnlyDChanges, WithoutDNothingC
 ghost use Rattle.blit.specs.UnusedStay.{UnusedStay};
 ghost use Rattle.blit.specs.CopyOfOneRow.{CopyOfOneRow};
 ghost use Rattle.blit.specs.AcceptedAgain.{AcceptedAgain};
-ghost use Rattle.blit.specs.OneAnswer.{OneAnswer};
+ghost use Rattle.blit.specs.OneAnswer.{OneAnswer, OneStepAnswer};
 
 pub fn only_d_changes()
     ensures { λ _. ⌜ OnlyDChanges ⌝ }
@@ -27,4 +27,8 @@ pub fn accepted_again()
 
 pub fn one_answer()
     ensures { λ _. ⌜ OneAnswer ⌝ }
+{}
+
+pub fn one_step_answer()
+    ensures { λ _. ⌜ OneStepAnswer ⌝ }
 {}

@@ -25,7 +25,7 @@ effect-ready n here ready =
     (λ place value. record {
       long = ready .long;
       words = ready .words;
-      file = accepted-of-set (here .file) (ready .file) place (kept place value) (kept-again place value);
+      fine = accepted-of-set (here .file) (ready .fine) place (kept place value) (kept-again place value);
     })
     (λ first second. ready)
     (λ first second. ready)

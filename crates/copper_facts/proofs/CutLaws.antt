@@ -37,7 +37,7 @@ starts-with memory file starts = by-tests (memorySize (length memory)) (accepted
 
 starts-again : (n : ℕ) (here : Machine) → memorySize n ≡ false → ReadyAt n here → startRefusal (here .memory) (here .file) ≡ 0
 unfolding startRefusal given
-starts-again n here room ready = rw (ready .long, room, ready .file)
+starts-again n here room ready = rw (ready .long, room, ready .fine)
 
 -- a frame that starts
 pub frameFrom-when-started : (memory file : List ℕ) (beam start lent : ℕ) → startRefusal memory file ≡ 0
@@ -103,7 +103,7 @@ cut-and-go-on memory file beam start lent more all = by-start (eqb (startRefusal
     by-start true is =
         let fine = starts-with memory file (eqb-true (startRefusal memory file) 0 is) in
         onward-cut (length memory) lent more (machine memory file beam start) (fine .0)
-        (record { long = refl; words = all; file = fine .1 })
+        (record { long = refl; words = all; fine = fine .1 })
     by-start false is = refl
 
 onward-refused : (lent : ℕ) (here : Machine) → onward lent 0 here .why ≡ refusal

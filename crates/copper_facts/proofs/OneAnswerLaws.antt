@@ -4,7 +4,7 @@ use Prim.Native.Nat.{ℕ}
 use lib.Dec.{eqb}
 use Rattle.word.specs.Choice.{if_then_else_}
 use Rattle.refusal.specs.declared.types.Refusal.the-variants.{MemorySize, RegisterFile, Line, BothFills, FillUpward, ALeaves, BLeaves, CLeaves, DLeaves}
-use Rattle.blit.proofs.OneAnswer.{refusalOf}
+use Rattle.refusal.proofs.OneAnswerLaws.{refusalOf}
 use Rattle.instruction.specs.declared.types.Refusal.{Refusal}
 use Rattle.copper.specs.declared.types.Why.{Why}
 use Rattle.copper.specs.declared.types.Answer.{Answer}

@@ -2,3 +2,4 @@
 pub mod RowTouchLaws
 pub mod TouchLaws
 pub mod RefusalLaws
+pub mod OneAnswerLaws

@@ -1,4 +1,5 @@
 // The refusals of a blit, in the order of the paper.
+pub mod theorems;
 mod touch;
 pub mod types;
 

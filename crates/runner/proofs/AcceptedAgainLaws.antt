@@ -5,8 +5,7 @@ use Prim.Native.Nat.{ℕ, zero, suc, _+_, _<_}
 use mathlib.Core.Bool.{Bool, true, false, _&&_}
 use mathlib.Core.List.{List, [], _∷_}
 use lib.Dec.{eqb, leb, lit<}
-use lib.ListN.{length, getD, set, drop, length-set}
-use lib.Seq.{getD-drop}
+use lib.ListN.{drop, length-set}
 use Rattle.word.specs.Choice.{if_then_else_}
 use Rattle.word.specs.Pointer.{pointer}
 use Rattle.word.specs.Word.{SixteenBits}
@@ -17,7 +16,7 @@ use Rattle.file.specs.Places.{flag}
 use Rattle.file.proofs.FileLaws.{kept-again, kept-of-bits, accepted-of-set}
 use Rattle.blit.specs.AcceptedAgain.{Ready}
 use Rattle.blit.specs.Blit.{Outcome, refused}
-use Rattle.blit.proofs.AcceptedAgain.{accepted-again}
+use Rattle.blit.proofs.AcceptedAgain as blits
 use Rattle.job.specs.declared.types.Kind.{Kind}
 use Rattle.job.specs.declared.types.Step.{Step}
 use Rattle.job.specs.declared.types.Read.{Read}
@@ -84,21 +83,21 @@ module _ (n : ℕ) (memory file : List ℕ) (ready : Ready n memory file) where
       record {
         long = ready .long;
         words = ready .words;
-        file = accepted-of-set file (ready .file) to (kept to value) (kept-again to value);
+        fine = accepted-of-set file (ready .fine) to (kept to value) (kept-again to value);
       }
-  effect-ready (Read.Step (Step.Size size) next) fine = accepted-again .step n memory file size ready
+  effect-ready (Read.Step (Step.Size size) next) fine = blits.accepted-again .step n memory file size ready
   effect-ready (Read.Step (Step.Store to value) next) fine =
       storeEffect-either (ReadyAfter n) to value memory file ready
       (record {
         long = length-set memory to value ∙ ready .long;
         words = SixteenBits-of-set memory to value (ready .words) fine;
-        file = ready .file;
+        fine = ready .fine;
       })
   effect-ready (Read.Step (Step.Flag value) next) fine =
       record {
         long = ready .long;
         words = ready .words;
-        file = accepted-of-set file (ready .file) flag value (kept-of-bits flag value 1 refl fine);
+        fine = accepted-of-set file (ready .fine) flag value (kept-of-bits flag value 1 refl fine);
       }
   effect-ready Read.End fine = ready
   effect-ready Read.NoStep fine = ready

@@ -5,7 +5,7 @@ use lib.Dec.{eqb}
 use Rattle.word.specs.Choice.{if_then_else_}
 use Rattle.widen.specs.declared.types.Answer.{Answer}
 use Rattle.widen.specs.declared.types.Answer.the-variants.{Done, OldFile, TargetLength}
-use Rattle.widen.specs.Widen.{Widening, answerNumber, left}
+use Rattle.widen.specs.Widen.{Widening, answerNumber}
 use Rattle.widen.specs.OneAnswer.{OneAnswer}
 
 -- the answer with a number
@@ -22,9 +22,11 @@ answerNumber-tells OldFile = refl
 answerNumber-tells TargetLength = refl
 
 pub one-answer : OneAnswer
-one-answer old before answer other target target′ this that =
-    let same : left answer target ≡ left other target′ = this ∙ sym that in
-    record {
-      answers = sym (answerNumber-tells answer) ∙ ap (λ (end : Widening). answerOf (end .number)) same ∙ answerNumber-tells other;
-      targets = ap (λ (end : Widening). end .target) same;
+one-answer old target first second promise again =
+    let same = promise ∙ sym again in
+    let answers : first .answer ≡ second .answer =
+    sym (answerNumber-tells (first .answer)) ∙ ap (λ (end : Widening). answerOf (end .number)) same ∙ answerNumber-tells (second .answer) in
+    λ i. record {
+      answer = answers i;
+      target = same i .target;
     }

@@ -225,11 +225,9 @@ static bool read_line(struct reader *reader)
 
 static bool read_lines(struct reader *reader)
 {
-    do {
-        reader->line++;
+    while (next_line(reader))
         if (!read_line(reader))
             return false;
-    } while (getc(reader->stream) == '\n');
     return true;
 }
 
@@ -247,7 +245,7 @@ static bool lay_list(const char *name, struct jobfile *list)
 
 static bool read_stream(FILE *stream, const char *name, struct jobfile *into)
 {
-    struct reader reader = {stream, name, 0, "", false, into};
+    struct reader reader = {stream, name, 0, '\n', "", false, into};
 
     if (!read_lines(&reader))
         return false;

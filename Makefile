@@ -7,7 +7,7 @@
 .PHONY: run test desk bench figure archive
 
 # the desk tool's files
-tool = c/desk.c c/check.c c/copper.c c/instruction.c c/jobfile.c c/listing.c c/outcome.c c/reader.c c/step.c
+tool = c/desk.c c/check.c c/copper.c c/fold.c c/instruction.c c/jobfile.c c/jobwrite.c c/listing.c c/machine.c c/outcome.c c/reader.c c/step.c
 
 run:
 	@scripts/proved card

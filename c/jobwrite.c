@@ -122,7 +122,7 @@ static bool fill(FILE *stream, const struct jobfile *jobfile, const char *origin
     bool written;
 
     write_lines(stream, jobfile, original);
-    written = fflush(stream) == 0 && !ferror(stream);
+    written = !ferror(stream);
     return fclose(stream) == 0 && written;
 }
 

@@ -8,6 +8,7 @@
 #include "copper.h"
 #include "desk.h"
 #include "jobfile.h"
+#include "machine.h"
 
 /* The comparison of one file; its name is printed before the first difference. */
 struct check {
@@ -107,20 +108,16 @@ static bool check_folding(struct check *check, const struct jobfile *jobfile)
 
 static void check_run(struct check *check, const struct jobfile *jobfile)
 {
-    static uint16_t ram[RAM_ROOM];
+    static struct machine machine;
     const struct leaves *leaves = &jobfile->leaves;
-    uint16_t file[FILE_WORDS];
-    uint32_t number, place, count;
+    struct run run = run_of(jobfile, &machine);
 
-    memcpy(ram, jobfile->ram, sizeof ram);
-    memcpy(file, jobfile->file, sizeof file);
-    desk_run(ram, jobfile->ram_words, file, FILE_WORDS, jobfile->job, jobfile->job_words, &number, &place, &count);
-    compare_number(check, "number", number, leaves->number);
-    compare_number(check, "place", place, leaves->place);
+    compare_number(check, "number", run.number, leaves->number);
+    compare_number(check, "place", run.place, leaves->place);
     if (leaves->count_said)
-        compare_number(check, "count", count, leaves->count);
-    compare_ram(check, jobfile, ram);
-    compare_file(check, leaves, file);
+        compare_number(check, "count", run.count, leaves->count);
+    compare_ram(check, jobfile, machine.ram);
+    compare_file(check, leaves, machine.file);
 }
 
 static void compare_why(struct check *check, uint32_t left, uint32_t said)

@@ -2,7 +2,6 @@
 
 #include <stdio.h>
 #include <stdlib.h>
-#include <string.h>
 
 #include "beam.h"
 #include "desk.h"
@@ -16,12 +15,6 @@ const char *why_meaning(uint32_t why)
     static const char *const meanings[] = {"end of frame", "number used up", "refused"};
 
     return why <= REFUSED_NEXT ? meanings[why] : "no reason of the papers";
-}
-
-static void begin(const struct jobfile *list, struct machine *machine)
-{
-    memcpy(machine->ram, list->ram, sizeof machine->ram);
-    memcpy(machine->file, list->file, sizeof machine->file);
 }
 
 /* desk_frame doesn't tell where the beam stands; the same frame from place 0 does. */
@@ -98,8 +91,7 @@ static bool alike(struct frame parts, struct frame whole, const struct machine *
 {
     return parts.why == whole.why && parts.number == whole.number && parts.done == whole.done
         && parts.word == whole.word && parts.place == whole.place
-        && memcmp(machines[0].ram, machines[1].ram, sizeof machines[0].ram) == 0
-        && memcmp(machines[0].file, machines[1].file, sizeof machines[0].file) == 0;
+        && same_machine(&machines[0], &machines[1]);
 }
 
 static int print_frames(const struct jobfile *list, uint32_t lent)

@@ -5,16 +5,11 @@
 #include <stdint.h>
 
 #include "jobfile.h"
+#include "machine.h"
 
 /* How a frame ended. */
 struct frame {
     uint32_t why, number, done, word, place;
-};
-
-/* Memory and registers on which a frame is done. */
-struct machine {
-    uint16_t ram[RAM_ROOM];
-    uint16_t file[FILE_WORDS];
 };
 
 /* Does a list's frame in one call, with so many instructions lent, on a machine that begins as the file says. */

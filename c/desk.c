@@ -1,14 +1,14 @@
 /* The desk tool: lists, runs, folds and checks job files, and runs and checks Copper lists. */
-#include "desk.h"
-
 #include <stdio.h>
 #include <stdlib.h>
 #include <string.h>
 
 #include "check.h"
 #include "copper.h"
+#include "fold.h"
 #include "jobfile.h"
 #include "listing.h"
+#include "machine.h"
 #include "outcome.h"
 
 static const char usage[] =
@@ -16,8 +16,10 @@ static const char usage[] =
     "                    no step, a step cut off and a store to an odd address are shown with their number and end\n"
     "                    the listing\n"
     "desk run FILE       runs the job: number, place, count, zero flag, and what it changed\n"
-    "desk fold N FILE    folds the job for memory of N words (decimal): number, place, both lengths, and the job\n"
-    "                    and its folding side by side\n"
+    FOLD_USAGE "\n"
+    "                    folds the job for memory of N words (decimal; the file's own if not given): number, place,\n"
+    "                    both lengths, and the job and its folding side by side. OUT becomes a job file of the folded\n"
+    "                    job, unless it is refused\n"
     "desk copper N FILE  runs a Copper list for one frame, with N instructions lent (decimal): the list, one instruction\n"
     "                    a line; the trace, for each instruction done the beam's line and position where it started;\n"
     "                    why it stopped, number, done, the next word, the beam, and what it changed\n"
@@ -47,12 +49,6 @@ static const char usage[] =
     "  leaves word N            the word number of the next or the refused instruction\n"
     "  leaves beam LINE POSITION, or leaves beam over: where the beam stands then\n";
 
-static void print_answer(uint32_t number, uint32_t place)
-{
-    printf("number %lu: %s\n", (unsigned long)number, number_meaning(number));
-    printf("place %lu\n", (unsigned long)place);
-}
-
 static int list_command(const char *name)
 {
     struct jobfile *jobfile = jobfile_read(name);
@@ -68,47 +64,20 @@ static int list_command(const char *name)
 
 static int run_command(const char *name)
 {
-    static uint16_t ram[RAM_ROOM];
+    static struct machine machine;
     struct jobfile *jobfile = jobfile_read(name);
-    uint16_t file[FILE_WORDS];
-    uint32_t number, place, count;
+    struct run run;
 
     if (jobfile == NULL)
         return ERROR;
-    memcpy(ram, jobfile->ram, sizeof ram);
-    memcpy(file, jobfile->file, sizeof file);
-    desk_run(ram, jobfile->ram_words, file, FILE_WORDS, jobfile->job, jobfile->job_words, &number, &place, &count);
-    print_answer(number, place);
-    printf("count %lu\n", (unsigned long)count);
-    printf("zero flag %u\n", (unsigned)file[ZERO_FLAG]);
-    print_changed_words(jobfile->ram, ram, jobfile->ram_words);
-    print_changed_registers(jobfile->file, file);
+    run = run_of(jobfile, &machine);
+    print_answer(run.number, run.place);
+    printf("count %lu\n", (unsigned long)run.count);
+    printf("zero flag %u\n", (unsigned)machine.file[ZERO_FLAG]);
+    print_changed_words(jobfile->ram, machine.ram, jobfile->ram_words);
+    print_changed_registers(jobfile->file, machine.file);
     free(jobfile);
-    return number == 0 ? DONE : REFUSED;
-}
-
-static int fold_command(const char *ram_words, const char *name)
-{
-    static uint16_t folded[JOB_LIMIT];
-    struct jobfile *jobfile;
-    uint32_t number, place, length;
-    size_t words;
-
-    if (!decimal(ram_words, SIZE_MAX, &words)) {
-        fprintf(stderr, "desk fold: N is '%s', which isn't a decimal number from 0 to %llu\n", ram_words,
-                (unsigned long long)SIZE_MAX);
-        return ERROR;
-    }
-    jobfile = jobfile_read(name);
-    if (jobfile == NULL)
-        return ERROR;
-    desk_fold(words, jobfile->job, jobfile->job_words, folded, JOB_LIMIT, &number, &place, &length);
-    print_answer(number, place);
-    printf("length %lu, folded %lu\n", (unsigned long)jobfile->job_words, (unsigned long)length);
-    if (number == 0)
-        print_beside(jobfile->job, jobfile->job_words, folded, length);
-    free(jobfile);
-    return number == 0 ? DONE : REFUSED;
+    return run.number == 0 ? DONE : REFUSED;
 }
 
 static int check_command(char **names)
@@ -127,8 +96,8 @@ static int command(int count, char **words)
         return list_command(words[2]);
     if (count == 3 && strcmp(words[1], "run") == 0)
         return run_command(words[2]);
-    if (count == 4 && strcmp(words[1], "fold") == 0)
-        return fold_command(words[2], words[3]);
+    if (count >= 2 && strcmp(words[1], "fold") == 0)
+        return fold_command(words + 2);
     if (count == 4 && strcmp(words[1], "copper") == 0)
         return copper_command(words[2], words[3]);
     if (count >= 3 && strcmp(words[1], "check") == 0)

@@ -42,8 +42,7 @@ static bool read_at(struct reader *reader, uint16_t *ram, bool *said)
             return complain(reader, "at: memory ends before byte %05lX", (unsigned long)at * 2);
         if (!word_token(reader, &ram[at]))
             return false;
-        if (said != NULL)
-            said[at] = true;
+        said[at] = true;
     }
     return at > address / 2 || complain(reader, "at: words are missing");
 }
@@ -64,8 +63,7 @@ static bool read_register(struct reader *reader, uint16_t *file, bool *said)
     } else if (!word_token(reader, &file[reg])) {
         return false;
     }
-    if (said != NULL)
-        said[reg] = true;
+    said[reg] = true;
     return line_ends(reader);
 }
 
@@ -208,9 +206,9 @@ static bool read_line(struct reader *reader)
     if (strcmp(reader->token, "ram") == 0)
         return read_ram(reader);
     if (strcmp(reader->token, "at") == 0)
-        return read_at(reader, reader->into->ram, NULL);
+        return read_at(reader, reader->into->ram, reader->into->ram_said);
     if (strcmp(reader->token, "register") == 0)
-        return next_token(reader) ? read_register(reader, reader->into->file, NULL)
+        return next_token(reader) ? read_register(reader, reader->into->file, reader->into->file_said)
                                   : complain(reader, "register: a name is missing");
     if (strcmp(reader->token, "leaves") == 0)
         return read_leaves(reader);
@@ -225,11 +223,9 @@ static bool read_line(struct reader *reader)
 
 static bool read_lines(struct reader *reader)
 {
-    do {
-        reader->line++;
+    while (next_line(reader))
         if (!read_line(reader))
             return false;
-    } while (getc(reader->stream) == '\n');
     return true;
 }
 
@@ -247,7 +243,7 @@ static bool lay_list(const char *name, struct jobfile *list)
 
 static bool read_stream(FILE *stream, const char *name, struct jobfile *into)
 {
-    struct reader reader = {stream, name, 0, "", false, into};
+    struct reader reader = {stream, name, 0, '\n', "", false, into};
 
     if (!read_lines(&reader))
         return false;

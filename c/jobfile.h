@@ -38,7 +38,9 @@ struct jobfile {
     uint32_t lent;                   /* the instructions lent where the list is checked */
     size_t job_words, ram_words;
     uint16_t job[JOB_ROOM];          /* or the list's words */
+    bool ram_said[RAM_ROOM];         /* by at lines */
     uint16_t ram[RAM_ROOM];
+    bool file_said[FILE_WORDS];
     uint16_t file[FILE_WORDS];
     struct leaves leaves;
 };

@@ -114,37 +114,75 @@ void add_blit(char line[LINE_ROOM], uint16_t size)
     add(line, "blit: %u row%s of %u word%s", height, plural(height), width, plural(width));
 }
 
-static void add_refused(char line[LINE_ROOM], const uint16_t *at, const struct step *step)
+/* The words from one to another, blanks between them. */
+static void add_words(char line[LINE_ROOM], const uint16_t *from, const uint16_t *to)
 {
-    for (size_t i = 1; i < step->words; i++)
-        add(line, "%s%04X", i == 1 ? "" : " ", (unsigned)at[i]);
-    add(line, "%s%s (%lu)", step->words > 1 ? "  " : "", number_meaning(step->number), (unsigned long)step->number);
+    for (const uint16_t *at = from; at < to; at++)
+        add(line, "%s%04X", at == from ? "" : " ", (unsigned)*at);
 }
 
-static void add_step(char line[LINE_ROOM], const struct listing *listing, const struct step *step)
+static const char *step_name(const struct step *step)
 {
-    const uint16_t *at = listing->job + listing->place;
-
-    add(line, "%5lu  %04X  ", (unsigned long)listing->place, (unsigned)at[0]);
     switch (step->kind) {
     case STEP_REGISTER:
-        add(line, "%-7s %04X  ", register_name(step->reg), (unsigned)step->value);
+        return register_name(step->reg);
+    case STEP_SIZE:
+        return "BLTSIZE";
+    case STEP_STORE:
+        return "store";
+    case STEP_FLAG:
+        return "flag";
+    case STEP_REFUSED:
+        break;
+    }
+    return NULL;
+}
+
+static void add_sense(char line[LINE_ROOM], const struct listing *listing, const struct step *step)
+{
+    switch (step->kind) {
+    case STEP_REGISTER:
         add_register(line, listing, step->reg, step->value);
         break;
     case STEP_SIZE:
-        add(line, "BLTSIZE %04X  ", (unsigned)step->value);
         add_blit(line, step->value);
         break;
     case STEP_STORE:
-        add(line, "store   %04X %04X  byte %05lX, word %lu becomes %04X", (unsigned)at[1], (unsigned)at[2],
-            (unsigned long)step->address, (unsigned long)step->address / 2, (unsigned)step->value);
+        add(line, "byte %05lX, word %lu becomes %04X", (unsigned long)step->address,
+            (unsigned long)step->address / 2, (unsigned)step->value);
         break;
     case STEP_FLAG:
-        add(line, "flag    zero flag becomes %u", (unsigned)step->value);
+        add(line, "zero flag becomes %u", (unsigned)step->value);
         break;
     case STEP_REFUSED:
-        add_refused(line, at, step);
+        add(line, "%s (%lu)", number_meaning(step->number), (unsigned long)step->number);
     }
+}
+
+/* A line of the listing: place, first word, name, further words, sense. A step that is refused has no name. */
+static void add_listed(char line[LINE_ROOM], const struct listing *listing, const struct step *step)
+{
+    const uint16_t *at = listing->job + listing->place;
+    const char *name = step_name(step);
+
+    add(line, "%5lu  %04X  ", (unsigned long)listing->place, (unsigned)at[0]);
+    if (name != NULL)
+        add(line, "%-7s ", name);
+    add_words(line, at + 1, at + step->words);
+    if (step->words > 1)
+        add(line, "  ");
+    add_sense(line, listing, step);
+}
+
+/* A line of a job file: the words, and the sense as a comment, which stands in the same column behind one word and three. */
+static void add_written(char line[LINE_ROOM], const struct listing *listing, const struct step *step)
+{
+    const uint16_t *at = listing->job + listing->place;
+    char words[LINE_ROOM] = "";
+
+    add_words(words, at, at + step->words);
+    add(line, "%-14s  ; ", words);
+    add_sense(line, listing, step);
 }
 
 void remember_write(struct listing *listing, size_t reg, uint16_t value)
@@ -162,7 +200,9 @@ struct listing listing_of(const uint16_t *job, size_t words)
     return listing;
 }
 
-int listing_next(struct listing *listing, char line[LINE_ROOM])
+/* The next step's line in one of the two forms. */
+static int next_line(struct listing *listing, char line[LINE_ROOM],
+                     void (*add_form)(char line[LINE_ROOM], const struct listing *listing, const struct step *step))
 {
     struct step step;
 
@@ -170,12 +210,22 @@ int listing_next(struct listing *listing, char line[LINE_ROOM])
     if (listing->place == listing->words)
         return 0;
     step = step_at(listing->job, listing->words, listing->place);
-    add_step(line, listing, &step);
+    add_form(line, listing, &step);
     listing->place = step.kind == STEP_REFUSED ? listing->words : listing->place + step.words;
     listing->high = FILE_WORDS;
     if (step.kind == STEP_REGISTER)
         remember_write(listing, step.reg, step.value);
     return 1;
+}
+
+int listing_next(struct listing *listing, char line[LINE_ROOM])
+{
+    return next_line(listing, line, add_listed);
+}
+
+int written_next(struct listing *listing, char line[LINE_ROOM])
+{
+    return next_line(listing, line, add_written);
 }
 
 void print_listing(const uint16_t *job, size_t words)

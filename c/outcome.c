@@ -2,6 +2,12 @@
 
 #include <stdio.h>
 
+void print_answer(uint32_t number, uint32_t place)
+{
+    printf("number %lu: %s\n", (unsigned long)number, number_meaning(number));
+    printf("place %lu\n", (unsigned long)place);
+}
+
 void print_changed_words(const uint16_t *before, const uint16_t *after, size_t words)
 {
     unsigned long changed = 0;

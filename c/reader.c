@@ -18,38 +18,61 @@ bool complain(const struct reader *reader, const char *format, ...)
 
 static bool is_blank(int sign)
 {
-    return sign == ' ' || sign == '\t' || sign == '\r';
+    return sign == ' ' || sign == '\t';
+}
+
+static bool ends_line(int sign)
+{
+    return sign == EOF || sign == '\n';
 }
 
 static bool ends_token(int sign)
 {
-    return sign == EOF || sign == '\n' || sign == ';' || is_blank(sign);
+    return ends_line(sign) || sign == ';' || is_blank(sign);
 }
 
-/* The next sign that is neither blank nor comment. */
-static int next_sign(FILE *stream)
+/* Takes the next sign. A line ends by LF, CR LF or a lone CR, and each of them is taken as one LF. */
+static void take_sign(struct reader *reader)
 {
-    int sign = getc(stream);
+    int next;
 
-    while (is_blank(sign))
-        sign = getc(stream);
-    if (sign == ';')
-        while (sign != '\n' && sign != EOF)
-            sign = getc(stream);
-    return sign;
+    reader->sign = getc(reader->stream);
+    if (reader->sign != '\r')
+        return;
+    next = getc(reader->stream);
+    if (next != '\n')
+        ungetc(next, reader->stream);
+    reader->sign = '\n';
+}
+
+static void pass_blanks_and_comment(struct reader *reader)
+{
+    while (is_blank(reader->sign))
+        take_sign(reader);
+    if (reader->sign == ';')
+        while (!ends_line(reader->sign))
+            take_sign(reader);
+}
+
+bool next_line(struct reader *reader)
+{
+    if (reader->sign == EOF)
+        return false;
+    take_sign(reader);
+    reader->line++;
+    return true;
 }
 
 bool next_token(struct reader *reader)
 {
     size_t used = 0;
-    int sign = next_sign(reader->stream);
 
-    while (!ends_token(sign) && used < NAME_ROOM - 1) {
-        reader->token[used++] = sign > ' ' && sign <= '~' ? (char)sign : '?';
-        sign = getc(reader->stream);
+    pass_blanks_and_comment(reader);
+    while (!ends_token(reader->sign) && used < NAME_ROOM - 1) {
+        reader->token[used++] = reader->sign > ' ' && reader->sign <= '~' ? (char)reader->sign : '?';
+        take_sign(reader);
     }
     reader->token[used] = '\0';
-    ungetc(sign, reader->stream);
     return used > 0;
 }
 

@@ -12,7 +12,8 @@ enum { NAME_ROOM = 256 };
 struct reader {
     FILE *stream;
     const char *name;
-    unsigned long line;
+    unsigned long line;      /* the line's number, 0 before the first */
+    int sign;                /* the next sign; LF at a line's end and before the first line, EOF at the file's end */
     char token[NAME_ROOM];   /* the last token; one that is too long is cut, and then is no good anywhere */
     bool ram_fixed;          /* a ram line, or a line that depends on it, has been read */
     struct jobfile *into;
@@ -21,8 +22,11 @@ struct reader {
 /* Says what is wrong with the line; false, so that it can be returned. */
 bool complain(const struct reader *reader, const char *format, ...);
 
-/* Reads the line's next token; false at the line's end, where the newline is left to be read. Signs that can't be
- * printed become question marks, which no token has. */
+/* Goes on from a line's end to the next line; false at the file's end. */
+bool next_line(struct reader *reader);
+
+/* Reads the line's next token; false at the line's end. Signs that can't be printed become question marks, which no
+ * token has. */
 bool next_token(struct reader *reader);
 
 /* Reads a number: decimal of at most limit, or hexadecimal of least to most digits; false if text isn't one. */

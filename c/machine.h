@@ -1,0 +1,29 @@
+/* Memory and registers on which a job or a list is done, and a job's run on them. */
+#ifndef MACHINE_H
+#define MACHINE_H
+
+#include <stdbool.h>
+#include <stdint.h>
+
+#include "jobfile.h"
+
+struct machine {
+    uint16_t ram[RAM_ROOM];
+    uint16_t file[FILE_WORDS];
+};
+
+/* How a run ended. */
+struct run {
+    uint32_t number, place, count;
+};
+
+/* A machine that begins as the file says. */
+void begin(const struct jobfile *jobfile, struct machine *machine);
+
+/* Whether two machines hold the same. */
+bool same_machine(const struct machine *one, const struct machine *other);
+
+/* Runs the file's job on a machine that begins as the file says. */
+struct run run_of(const struct jobfile *jobfile, struct machine *machine);
+
+#endif

@@ -30,7 +30,7 @@ starts-with : (memory file : List ℕ) → startRefusal memory file ≡ 0 → St
 unfolding startRefusal given StartsWith
 starts-with memory file starts = by-tests (memorySize (length memory)) (accepted file) starts
   where
-    by-tests : (bad fine : Bool) → (if bad then 1 else if not fine then 2 else 0) ≡ 0 → (bad ≡ false) × (fine ≡ true)
+    by-tests : (bad fine : Bool) → _≡_ {A = ℕ} (if bad then 1 else if not fine then 2 else 0) 0 → (bad ≡ false) × (fine ≡ true)
     by-tests true fine wrong = absurd (omega (arith, wrong))
     by-tests false true starts = (refl, refl)
     by-tests false false wrong = absurd (omega (arith, wrong))

@@ -88,7 +88,8 @@ says-nothing = record { whole = refl; are = refl }
 pub says-step : (raw : List ℕ) (step : Step) → length raw ≡ 1 + operands step → front 0 raw ≡ found 0 step → Says raw (step ∷ [])
 unfolding wellCut faultless isStep bareSteps bareStep found stepsFrom
 says-step raw step long reads =
-    let rest : drop (suc (operands step)) raw ≡ [] = drop-of-length-le raw (omega (arith, long)) in
+    let past : length raw ≤ suc (operands step) = omega (arith, long) in
+    let rest : drop (suc (operands step)) raw ≡ [] = drop-of-length-le raw past in
     let one : steps raw ≡ placed 0 (found 0 step) ∷ [] =
     stepsFrom-of-step 0 raw step (0 + (1 + operands step)) reads
     ∙ ap (λ (more : List ℕ). placed 0 (found 0 step) ∷ stepsFrom 0 (0 + (1 + operands step)) more) rest in

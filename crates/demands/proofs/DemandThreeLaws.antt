@@ -166,10 +166,6 @@ demand-three n job out memory file accepts sized fine =
     simulate n job (steps job) good 0 nothing (machine memory file 0) stands in
     let this : run memory file (fold n job) ≡ runFrom 0 (fold n job) (machine memory file 0) = start-of-none memory file (fold n job) room fine (short-job (fold n job) (is .fits)) in
     let that : run memory file job ≡ runFrom 0 job (machine memory file 0) = start-of-none memory file job room fine (is .short) in
-    rw (foldedJob-is-fold n job out is, this, that)
-    (record {
-      memory = ap (λ (m : Machine). m .memory) (alike .machines);
-      file = ap (λ (m : Machine). m .file) (alike .machines);
-      stored = ap (λ (m : Machine). m .stored) (alike .machines);
-      number = alike .numbers;
-    })
+    let machines = alike .machines in
+    let numbers = alike .numbers in
+    rw (foldedJob-is-fold n job out is, this, that) (record { memory = cc; file = cc; stored = cc; number = cc })

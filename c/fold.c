@@ -54,7 +54,8 @@ static bool read_request(struct request *request, char **words)
     if (words[0] == NULL)
         return misuse("FILE is missing");
     if (words[1] != NULL)
-        return misuse("'%s', '%s': only FILE stands without an option; N is given by -n, before FILE", words[0], words[1]);
+        return misuse("'%s', '%s': only FILE stands without an option; N is given by -n, before FILE", words[0],
+                      words[1]);
     request->name = words[0];
     return true;
 }
@@ -96,9 +97,9 @@ static bool carry_leaves(const struct jobfile *jobfile, struct jobfile *folded, 
     folded->leaves.place = run.place;
     if (own.number == run.number && own.count == run.count && same_machine(&machines[0], &machines[1]))
         return true;
-    fprintf(stderr, "%s: on memory of %lu words it ends otherwise than on its own %lu, for which it says what it leaves; "
-            "%s isn't written\n", request->name, (unsigned long)folded->ram_words, (unsigned long)jobfile->ram_words,
-            request->out);
+    fprintf(stderr, "%s: on memory of %lu words it ends otherwise than on its own %lu, for which it says what it "
+            "leaves; %s isn't written\n", request->name, (unsigned long)folded->ram_words,
+            (unsigned long)jobfile->ram_words, request->out);
     return false;
 }
 

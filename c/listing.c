@@ -174,7 +174,7 @@ static void add_listed(char line[LINE_ROOM], const struct listing *listing, cons
     add_sense(line, listing, step);
 }
 
-/* A line of a job file: the words, and the sense as a comment, which stands in the same column behind one word and three. */
+/* A line of a job file: the words, and the sense as a comment, in the same column behind one word and behind three. */
 static void add_written(char line[LINE_ROOM], const struct listing *listing, const struct step *step)
 {
     const uint16_t *at = listing->job + listing->place;

@@ -28,8 +28,8 @@ void add_blit(char line[LINE_ROOM], uint16_t size);
 
 struct listing listing_of(const uint16_t *job, size_t words);
 
-/* Puts the next step's line into line and answers 1; at the end answers 0 and leaves line empty. The second gives it as a
- * job file has it: the step's words, and its sense as a comment. */
+/* Puts the next step's line into line and answers 1; at the end answers 0 and leaves line empty. The second gives it as
+ * a job file has it: the step's words, and its sense as a comment. */
 int listing_next(struct listing *listing, char line[LINE_ROOM]);
 int written_next(struct listing *listing, char line[LINE_ROOM]);
 

@@ -1,5 +1,10 @@
 -- `area::finish::result` meets its contract: the shifts' and the logic function's, one in the other.
-use mathlib.Core.Path.{refl}
+use Prim.Native.Nat.{ℕ}
+use mathlib.Core.Path.{_≡_, refl}
+use Rattle.word.specs.Shift.{shifted}
+use Rattle.word.specs.Logic.{logic}
+use Rattle.area.specs.declared.types.Flow.{Flow}
+use Rattle.area.specs.declared.types.Setup.{Setup}
 use Rattle.area.specs.Finish.{result}
 use borrow.Author.Needs.{needs}
 use Rattle.area.proofs.finish.result.Statement.{statement}
@@ -14,9 +19,17 @@ shifted-requires-2 c κs = search needs
 logic-requires : tie.Need-logic-requires
 logic-requires c κs = search needs
 
-returns : tie.Need-returns
+-- the two words as shifted, and C's
+result-of-words : (setup : Setup) (flow : Flow) (masked a b made : ℕ)
+    → a ≡ shifted (setup .direction) (setup .shifts .a) (flow .earlier .a) masked
+    → b ≡ shifted (setup .direction) (setup .shifts .b) (flow .earlier .b) (flow .sources .b)
+    → made ≡ logic (setup .function) a b (flow .sources .c)
+    → made ≡ result setup masked flow
 unfolding result
-returns c = rw (c .logic .ensures, c .before .shifted2 .ensures, c .before .before .shifted .ensures) refl
+result-of-words setup flow masked a b made of-a of-b joins = rw (joins, of-a, of-b) refl
+
+returns : tie.Need-returns
+returns c = search result-of-words
 
 pub result-spec : {M : Type 1} → statement M
 result-spec = tie.close (tie.spec shifted-requires shifted-requires-2 logic-requires returns)

@@ -8,6 +8,7 @@ use borrow.Author.Tests.{eqb-true, not-true}
 use lib.Dec.{eqb, leb, lit<}
 use lib.ListN.{length, getD}
 use Rattle.word.specs.Size.{height, width}
+use Rattle.word.proofs.ChoiceLaws.{and-left, and-right}
 use Rattle.file.specs.Places.{blitterLength, control0, control1, firstMask, lastMask, pointerD, moduloD, sourceA, sourceB, sourceC}
 use Rattle.area.specs.declared.types.Uses.{Uses}
 use Rattle.area.specs.Setup.{con0, uses, function, setup}
@@ -23,14 +24,6 @@ use Rattle.settled.proofs.AgreeLaws.{Agree}
 use Rattle.learning.specs.Learn.{knownAt}
 use Rattle.settled.specs.Settled.{has, controlsKnown, onlyDUsed, sourcesKnown, settled}
 use Rattle.demands.proofs.AgreesLaws.{Agrees}
-
-pub both-first : (a b : Bool) → (a && b) ≡ true → a ≡ true
-both-first true b both = refl
-both-first false b both = both
-
-both-second : (a b : Bool) → (a && b) ≡ true → b ≡ true
-both-second true b both = both
-both-second false b both = let n : _≡_ {A = ℕ} 0 1 = cc in absurd (omega arith)
 
 -- a condition that is asked for holds
 asked : (when holds : Bool) → (not when || holds) ≡ true → when ≡ true → holds ≡ true
@@ -49,60 +42,60 @@ module _ (n : ℕ) (known : List Known) (size : ℕ) (holds : settled n known si
   -- the conditions, one by one
   four : (controlsKnown known && onlyDUsed (con0 (numbers known)) && eqb (stepRefusal n (numbers known) size) 0 && leb (height size * width size) 64) ≡ true
   unfolding settled
-  four = both-first _ (sourcesKnown (function (con0 (numbers known))) known) holds
+  four = and-left _ (sourcesKnown (function (con0 (numbers known))) known) holds
 
   sources : sourcesKnown (function (con0 (numbers known))) known ≡ true
   unfolding settled
-  sources = both-second (controlsKnown known && onlyDUsed (con0 (numbers known)) && eqb (stepRefusal n (numbers known) size) 0 && leb (height size * width size) 64) _ holds
+  sources = and-right (controlsKnown known && onlyDUsed (con0 (numbers known)) && eqb (stepRefusal n (numbers known) size) 0 && leb (height size * width size) 64) _ holds
 
   three : (controlsKnown known && onlyDUsed (con0 (numbers known)) && eqb (stepRefusal n (numbers known) size) 0) ≡ true
-  three = both-first (controlsKnown known && onlyDUsed (con0 (numbers known)) && eqb (stepRefusal n (numbers known) size) 0) (leb (height size * width size) 64) four
+  three = and-left (controlsKnown known && onlyDUsed (con0 (numbers known)) && eqb (stepRefusal n (numbers known) size) 0) (leb (height size * width size) 64) four
 
   pub settled-is-lawful : stepRefusal n (numbers known) size ≡ 0
   settled-is-lawful =
       eqb-true (stepRefusal n (numbers known) size) 0
-      (both-second (controlsKnown known && onlyDUsed (con0 (numbers known))) (eqb (stepRefusal n (numbers known) size) 0) three)
+      (and-right (controlsKnown known && onlyDUsed (con0 (numbers known))) (eqb (stepRefusal n (numbers known) size) 0) three)
 
   two : (controlsKnown known && onlyDUsed (con0 (numbers known))) ≡ true
-  two = both-first (controlsKnown known && onlyDUsed (con0 (numbers known))) (eqb (stepRefusal n (numbers known) size) 0) three
+  two = and-left (controlsKnown known && onlyDUsed (con0 (numbers known))) (eqb (stepRefusal n (numbers known) size) 0) three
 
   pub settled-uses-d : OnlyD (setup (numbers known) .uses)
   unfolding setup onlyDUsed
   settled-uses-d =
       let used : Uses = uses (con0 (numbers known)) in
-      let all : onlyDUsed (con0 (numbers known)) ≡ true = both-second (controlsKnown known) (onlyDUsed (con0 (numbers known))) two in
-      let abc : (not (used .a) && not (used .b) && not (used .c)) ≡ true = both-first (not (used .a) && not (used .b) && not (used .c)) (used .d) all in
-      let ab : (not (used .a) && not (used .b)) ≡ true = both-first (not (used .a) && not (used .b)) (not (used .c)) abc in
+      let all : onlyDUsed (con0 (numbers known)) ≡ true = and-right (controlsKnown known) (onlyDUsed (con0 (numbers known))) two in
+      let abc : (not (used .a) && not (used .b) && not (used .c)) ≡ true = and-left (not (used .a) && not (used .b) && not (used .c)) (used .d) all in
+      let ab : (not (used .a) && not (used .b)) ≡ true = and-left (not (used .a) && not (used .b)) (not (used .c)) abc in
       record {
-        a = not-true (used .a) (both-first (not (used .a)) (not (used .b)) ab);
-        b = not-true (used .b) (both-second (not (used .a)) (not (used .b)) ab);
-        c = not-true (used .c) (both-second (not (used .a) && not (used .b)) (not (used .c)) abc);
-        d = both-second (not (used .a) && not (used .b) && not (used .c)) (used .d) all;
+        a = not-true (used .a) (and-left (not (used .a)) (not (used .b)) ab);
+        b = not-true (used .b) (and-right (not (used .a)) (not (used .b)) ab);
+        c = not-true (used .c) (and-right (not (used .a) && not (used .b)) (not (used .c)) abc);
+        d = and-right (not (used .a) && not (used .b) && not (used .c)) (used .d) all;
       }
 
   pub settled-agrees : (file : List ℕ) → length known ≡ blitterLength → Agrees known file → Agree (numbers known) file
   unfolding controlsKnown sourcesKnown
   settled-agrees file long agrees =
-      let controls : controlsKnown known ≡ true = both-first (controlsKnown known) (onlyDUsed (con0 (numbers known))) two in
-      let c4 = both-first (has known control0 && has known control1 && has known pointerD && has known (pointerD + 1)) (has known moduloD) controls in
-      let c3 = both-first (has known control0 && has known control1 && has known pointerD) (has known (pointerD + 1)) c4 in
-      let c2 = both-first (has known control0 && has known control1) (has known pointerD) c3 in
+      let controls : controlsKnown known ≡ true = and-left (controlsKnown known) (onlyDUsed (con0 (numbers known))) two in
+      let c4 = and-left (has known control0 && has known control1 && has known pointerD && has known (pointerD + 1)) (has known moduloD) controls in
+      let c3 = and-left (has known control0 && has known control1 && has known pointerD) (has known (pointerD + 1)) c4 in
+      let c2 = and-left (has known control0 && has known control1) (has known pointerD) c3 in
       let f : ℕ = function (con0 (numbers known)) in
       let ask-a : Bool = not (counts f 4) || has known sourceA && has known firstMask && has known lastMask in
       let ask-b : Bool = not (counts f 2) || has known sourceB in
       let ask-c : Bool = not (counts f 1) || has known sourceC in
-      let ab : (ask-a && ask-b) ≡ true = both-first (ask-a && ask-b) ask-c sources in
+      let ab : (ask-a && ask-b) ≡ true = and-left (ask-a && ask-b) ask-c sources in
       let for-a : counts f 4 ≡ true → (has known sourceA && has known firstMask && has known lastMask) ≡ true =
-      λ counted. asked (counts f 4) (has known sourceA && has known firstMask && has known lastMask) (both-first ask-a ask-b ab) counted in
+      λ counted. asked (counts f 4) (has known sourceA && has known firstMask && has known lastMask) (and-left ask-a ask-b ab) counted in
       record {
-        control0 = known-agrees known file control0 long (lit< tt) agrees (both-first (has known control0) (has known control1) c2);
-        control1 = known-agrees known file control1 long (lit< tt) agrees (both-second (has known control0) (has known control1) c2);
-        high = known-agrees known file pointerD long (lit< tt) agrees (both-second (has known control0 && has known control1) (has known pointerD) c3);
-        low = known-agrees known file (pointerD + 1) long (lit< tt) agrees (both-second (has known control0 && has known control1 && has known pointerD) (has known (pointerD + 1)) c4);
-        modulo = known-agrees known file moduloD long (lit< tt) agrees (both-second (has known control0 && has known control1 && has known pointerD && has known (pointerD + 1)) (has known moduloD) controls);
-        first = λ counted. known-agrees known file firstMask long (lit< tt) agrees (both-second (has known sourceA) (has known firstMask) (both-first (has known sourceA && has known firstMask) (has known lastMask) (for-a counted)));
-        last = λ counted. known-agrees known file lastMask long (lit< tt) agrees (both-second (has known sourceA && has known firstMask) (has known lastMask) (for-a counted));
-        a = λ counted. known-agrees known file sourceA long (lit< tt) agrees (both-first (has known sourceA) (has known firstMask) (both-first (has known sourceA && has known firstMask) (has known lastMask) (for-a counted)));
-        b = λ counted. known-agrees known file sourceB long (lit< tt) agrees (asked (counts f 2) (has known sourceB) (both-second ask-a ask-b ab) counted);
-        c = λ counted. known-agrees known file sourceC long (lit< tt) agrees (asked (counts f 1) (has known sourceC) (both-second (ask-a && ask-b) ask-c sources) counted);
+        control0 = known-agrees known file control0 long (lit< tt) agrees (and-left (has known control0) (has known control1) c2);
+        control1 = known-agrees known file control1 long (lit< tt) agrees (and-right (has known control0) (has known control1) c2);
+        high = known-agrees known file pointerD long (lit< tt) agrees (and-right (has known control0 && has known control1) (has known pointerD) c3);
+        low = known-agrees known file (pointerD + 1) long (lit< tt) agrees (and-right (has known control0 && has known control1 && has known pointerD) (has known (pointerD + 1)) c4);
+        modulo = known-agrees known file moduloD long (lit< tt) agrees (and-right (has known control0 && has known control1 && has known pointerD && has known (pointerD + 1)) (has known moduloD) controls);
+        first = λ counted. known-agrees known file firstMask long (lit< tt) agrees (and-right (has known sourceA) (has known firstMask) (and-left (has known sourceA && has known firstMask) (has known lastMask) (for-a counted)));
+        last = λ counted. known-agrees known file lastMask long (lit< tt) agrees (and-right (has known sourceA && has known firstMask) (has known lastMask) (for-a counted));
+        a = λ counted. known-agrees known file sourceA long (lit< tt) agrees (and-left (has known sourceA) (has known firstMask) (and-left (has known sourceA && has known firstMask) (has known lastMask) (for-a counted)));
+        b = λ counted. known-agrees known file sourceB long (lit< tt) agrees (asked (counts f 2) (has known sourceB) (and-right ask-a ask-b ab) counted);
+        c = λ counted. known-agrees known file sourceC long (lit< tt) agrees (asked (counts f 1) (has known sourceC) (and-right (ask-a && ask-b) ask-c sources) counted);
       }

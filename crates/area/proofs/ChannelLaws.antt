@@ -27,42 +27,42 @@ unfolding turned
 turned-of-used direction used modulo pointer uses = rw uses
 
 -- memory with the pending word, after a word
-pub oneWord-stores : (setup : Setup) (width left : ℕ) (now : State) → setup .uses .d ≡ true
-    → storePending (oneWord setup width left now) .memory
-    ≡ set (storePending now .memory) (now .flow .pointers .d .word) (finishedWord setup width left now .word)
+pub oneWord-stores : (setup : Setup) (width remaining : ℕ) (now : State) → setup .uses .d ≡ true
+    → storePending (oneWord setup width remaining now) .memory
+    ≡ set (storePending now .memory) (now .flow .pointers .d .word) (finishedWord setup width remaining now .word)
 unfolding oneWord storedBefore storePending wait moveOn finishedWord finish fetch
-oneWord-stores setup width left now uses =
-    memoryWith-of-used (setup .uses .d) (now .flow .pointers .d .word) (finishedWord setup width left now .word) (storePending now .memory) uses
+oneWord-stores setup width remaining now uses =
+    memoryWith-of-used (setup .uses .d) (now .flow .pointers .d .word) (finishedWord setup width remaining now .word) (storePending now .memory) uses
 
-oneWord-without-d : (setup : Setup) (width left : ℕ) (now : State) → setup .uses .d ≡ false
-    → storePending (oneWord setup width left now) .memory ≡ storePending now .memory
+oneWord-without-d : (setup : Setup) (width remaining : ℕ) (now : State) → setup .uses .d ≡ false
+    → storePending (oneWord setup width remaining now) .memory ≡ storePending now .memory
 unfolding oneWord storedBefore storePending wait moveOn finishedWord finish fetch
-oneWord-without-d setup width left now idle =
-    memoryWith-of-unused (setup .uses .d) (now .flow .pointers .d .word) (finishedWord setup width left now .word) (storePending now .memory) idle
+oneWord-without-d setup width remaining now idle =
+    memoryWith-of-unused (setup .uses .d) (now .flow .pointers .d .word) (finishedWord setup width remaining now .word) (storePending now .memory) idle
 
 -- the word before it is stored
-pub oneWord-memory : (setup : Setup) (width left : ℕ) (now : State) → oneWord setup width left now .memory ≡ storePending now .memory
+pub oneWord-memory : (setup : Setup) (width remaining : ℕ) (now : State) → oneWord setup width remaining now .memory ≡ storePending now .memory
 unfolding oneWord storedBefore storePending finishedWord finish fetch
-oneWord-memory setup width left now = refl
+oneWord-memory setup width remaining now = refl
 
-pub oneWord-moves-a : (setup : Setup) (width left : ℕ) (now : State) → setup .uses .a ≡ true
-    → oneWord setup width left now .flow .pointers .a ≡ moved (setup .direction) (now .flow .pointers .a)
+pub oneWord-moves-a : (setup : Setup) (width remaining : ℕ) (now : State) → setup .uses .a ≡ true
+    → oneWord setup width remaining now .flow .pointers .a ≡ moved (setup .direction) (now .flow .pointers .a)
 unfolding oneWord storedBefore storePending wait moveOn finishedWord finish fetch
-oneWord-moves-a setup width left now uses = stepped-of-used (setup .direction) (setup .uses .a) (now .flow .pointers .a) uses
+oneWord-moves-a setup width remaining now uses = stepped-of-used (setup .direction) (setup .uses .a) (now .flow .pointers .a) uses
 
-pub oneWord-moves-d : (setup : Setup) (width left : ℕ) (now : State) → setup .uses .d ≡ true
-    → oneWord setup width left now .flow .pointers .d ≡ moved (setup .direction) (now .flow .pointers .d)
+pub oneWord-moves-d : (setup : Setup) (width remaining : ℕ) (now : State) → setup .uses .d ≡ true
+    → oneWord setup width remaining now .flow .pointers .d ≡ moved (setup .direction) (now .flow .pointers .d)
 unfolding oneWord storedBefore storePending wait moveOn finishedWord finish fetch
-oneWord-moves-d setup width left now uses = stepped-of-used (setup .direction) (setup .uses .d) (now .flow .pointers .d) uses
+oneWord-moves-d setup width remaining now uses = stepped-of-used (setup .direction) (setup .uses .d) (now .flow .pointers .d) uses
 
 -- D's pointer through a row's words, and to the next row
-pub words-move-d : (setup : Setup) (width left : ℕ) (now : State) → setup .uses .d ≡ true
-    → words setup width left now .flow .pointers .d ≡ repeated (λ _. moved (setup .direction)) left (now .flow .pointers .d)
+pub words-move-d : (setup : Setup) (width remaining : ℕ) (now : State) → setup .uses .d ≡ true
+    → words setup width remaining now .flow .pointers .d ≡ repeated (λ _. moved (setup .direction)) remaining (now .flow .pointers .d)
 unfolding repeated
 words-move-d setup width zero now uses = refl
-words-move-d setup width (suc left) now uses =
-    words-move-d setup width left (oneWord setup width left now) uses
-    ∙ ap (repeated (λ _. moved (setup .direction)) left) (oneWord-moves-d setup width left now uses)
+words-move-d setup width (suc remaining) now uses =
+    words-move-d setup width remaining (oneWord setup width remaining now) uses
+    ∙ ap (repeated (λ _. moved (setup .direction)) remaining) (oneWord-moves-d setup width remaining now uses)
 
 pub oneRow-moves-d : (setup : Setup) (width : ℕ) (now : State) → setup .uses .d ≡ true
     → oneRow setup width now .flow .pointers .d
@@ -73,11 +73,11 @@ oneRow-moves-d setup width now uses =
     ∙ ap (passed (setup .direction) (setup .modulos .d)) (words-move-d setup width width (rowStart setup now) uses)
 
 -- without D no memory changes
-pub rows-without-d : (setup : Setup) (width left : ℕ) (now : State) → setup .uses .d ≡ false
-    → storePending (rows setup width left now) .memory ≡ storePending now .memory
+pub rows-without-d : (setup : Setup) (width remaining : ℕ) (now : State) → setup .uses .d ≡ false
+    → storePending (rows setup width remaining now) .memory ≡ storePending now .memory
 unfolding oneRow rowStart rowEnd storePending
-rows-without-d setup width left now idle =
+rows-without-d setup width remaining now idle =
     repeated-keeps (λ _. oneRow setup width) (λ (end : State). storePending end .memory)
     (λ _ here.
     repeated-keeps (oneWord setup width) (λ (end : State). storePending end .memory) (λ k before. oneWord-without-d setup width k before idle) width (rowStart setup here))
-    left now
+    remaining now

@@ -39,9 +39,9 @@ fetched-of-used : (used : Bool) (memory : List ℕ) (pointer : Pointer) (source 
 unfolding fetched
 fetched-of-used used memory pointer source uses = rw uses
 
-masked-copies : (first last : Bool) (afwm alwm given word : ℕ) → afwm ≡ 0xFFFF → alwm ≡ 0xFFFF → given ≡ word → word < 65536
-    → masked first last afwm alwm given ≡ word
-masked-copies first last afwm alwm given word ones all same small = rw (ones, all, same) (masked-by-ones first last word small)
+masked-copies : (first last : Bool) (afwm alwm source word : ℕ) → afwm ≡ 0xFFFF → alwm ≡ 0xFFFF → source ≡ word → word < 65536
+    → masked first last afwm alwm source ≡ word
+masked-copies first last afwm alwm source word ones all same small = rw (ones, all, same) (masked-by-ones first last word small)
 
 filled-copies : (fill : Fill) (direction : Direction) (carry function n earlier this b c word : ℕ)
     → fill ≡ Off → function ≡ 0xF0 → n ≡ 0 → this ≡ word → word < 65536 → earlier < 65536
@@ -50,23 +50,23 @@ unfolding filled
 filled-copies fill direction carry function n earlier this b c word off f0 nought same small before =
     rw (off, f0, nought, same, shifted-by-zero direction earlier word before small) (logic-of-f0 word b c small)
 
-module _ (setup : Setup) (copying : Copying setup) (width left : ℕ) (now : State)
+module _ (setup : Setup) (copying : Copying setup) (width remaining : ℕ) (now : State)
     (word : getD (now .memory) (now .flow .pointers .a .word) 0 < 65536) (earlier : now .flow .earlier .a < 65536) where
   -- A as masked, and the final word, are the word at A's pointer
-  maskedA-copies : maskedA setup (eqb (left + 1) width) (eqb left 0) (fetch (setup .uses) (now .memory) (now .flow))
+  maskedA-copies : maskedA setup (eqb (remaining + 1) width) (eqb remaining 0) (fetch (setup .uses) (now .memory) (now .flow))
       ≡ getD (now .memory) (now .flow .pointers .a .word) 0
   unfolding maskedA fetch
   maskedA-copies =
-      masked-copies (eqb (left + 1) width) (eqb left 0) (setup .masks .first) (setup .masks .last) _ _ (copying .first) (copying .last)
+      masked-copies (eqb (remaining + 1) width) (eqb remaining 0) (setup .masks .first) (setup .masks .last) _ _ (copying .first) (copying .last)
       (fetched-of-used (setup .uses .a) (now .memory) (now .flow .pointers .a) (now .flow .sources .a) (copying .a)) word
 
-  pub finishedWord-copies : finishedWord setup width left now .word ≡ getD (now .memory) (now .flow .pointers .a .word) 0
+  pub finishedWord-copies : finishedWord setup width remaining now .word ≡ getD (now .memory) (now .flow .pointers .a .word) 0
   unfolding finishedWord finish final result fetch
   finishedWord-copies =
       filled-copies (setup .fill) (setup .direction) (now .flow .carry) (setup .function) (setup .shifts .a) (now .flow .earlier .a) _ _ _ _
       (copying .fill) (copying .function) (copying .shift) maskedA-copies word earlier
 
   -- the copied word is the next one's earlier word
-  pub oneWord-hands-on : oneWord setup width left now .flow .earlier .a ≡ getD (now .memory) (now .flow .pointers .a .word) 0
+  pub oneWord-hands-on : oneWord setup width remaining now .flow .earlier .a ≡ getD (now .memory) (now .flow .pointers .a .word) 0
   unfolding oneWord storedBefore storePending wait moveOn finishedWord finish
   oneWord-hands-on = maskedA-copies

@@ -31,35 +31,35 @@ sums : (a b c : ℕ) → a + b + c ≡ a + (c + b)
 sums a b c = omega arith
 
 -- so many turns, each adding the same
-more : (before turn left step after : ℕ) → turn ≡ before + step → after ≡ turn + left * step → after ≡ before + suc left * step
-more before turn left step after one rest =
+more : (before turn remaining step after : ℕ) → turn ≡ before + step → after ≡ turn + remaining * step → after ≡ before + suc remaining * step
+more before turn remaining step after one rest =
     rest
-    ∙ ap (λ (here : ℕ). here + left * step) one
-    ∙ sums before step (left * step)
-    ∙ ap (λ (all : ℕ). before + all) (sym (suc-mul left step))
+    ∙ ap (λ (here : ℕ). here + remaining * step) one
+    ∙ sums before step (remaining * step)
+    ∙ ap (λ (all : ℕ). before + all) (sym (suc-mul remaining step))
 
 none : (before step : ℕ) → before ≡ before + zero * step
 none before step = omega arith
 
 module _ (setup : Setup) (width : ℕ) where
-  word-counts : (left : ℕ) (now : State) → storePending (oneWord setup width left now) .flow .stored ≡ storePending now .flow .stored + each (setup .uses .d)
+  word-counts : (remaining : ℕ) (now : State) → storePending (oneWord setup width remaining now) .flow .stored ≡ storePending now .flow .stored + each (setup .uses .d)
   unfolding oneWord storedBefore storePending wait moveOn finishedWord finish fetch
-  word-counts left now =
-      countWith-is (setup .uses .d) (now .flow .pointers .d .word) (finishedWord setup width left now .word) (countWith (now .flow .pending) (now .flow .stored))
+  word-counts remaining now =
+      countWith-is (setup .uses .d) (now .flow .pointers .d .word) (finishedWord setup width remaining now .word) (countWith (now .flow .pending) (now .flow .stored))
 
-  words-count-all : (left : ℕ) (now : State) → storePending (words setup width left now) .flow .stored ≡ storePending now .flow .stored + left * each (setup .uses .d)
+  words-count-all : (remaining : ℕ) (now : State) → storePending (words setup width remaining now) .flow .stored ≡ storePending now .flow .stored + remaining * each (setup .uses .d)
   unfolding repeated
   words-count-all zero now = none (storePending now .flow .stored) (each (setup .uses .d))
-  words-count-all (suc left) now =
-      more _ _ left (each (setup .uses .d)) _ (word-counts left now) (words-count-all left (oneWord setup width left now))
+  words-count-all (suc remaining) now =
+      more _ _ remaining (each (setup .uses .d)) _ (word-counts remaining now) (words-count-all remaining (oneWord setup width remaining now))
 
   row-counts : (now : State) → storePending (oneRow setup width now) .flow .stored ≡ storePending now .flow .stored + width * each (setup .uses .d)
   unfolding oneRow rowStart rowEnd storePending
   row-counts now = words-count-all width (rowStart setup now)
 
-  pub rows-count-all : (left : ℕ) (now : State)
-      → storePending (rows setup width left now) .flow .stored ≡ storePending now .flow .stored + left * (width * each (setup .uses .d))
+  pub rows-count-all : (remaining : ℕ) (now : State)
+      → storePending (rows setup width remaining now) .flow .stored ≡ storePending now .flow .stored + remaining * (width * each (setup .uses .d))
   unfolding repeated
   rows-count-all zero now = none (storePending now .flow .stored) (width * each (setup .uses .d))
-  rows-count-all (suc left) now =
-      more _ _ left (width * each (setup .uses .d)) _ (row-counts now) (rows-count-all left (oneRow setup width now))
+  rows-count-all (suc remaining) now =
+      more _ _ remaining (width * each (setup .uses .d)) _ (row-counts now) (rows-count-all remaining (oneRow setup width now))

@@ -9,7 +9,7 @@ use lib.ListN.{length}
 use Rattle.word.specs.Repeat.{repeated}
 use Rattle.word.proofs.RepeatLaws.{repeated-turn, repeated-keeps}
 use Rattle.word.specs.declared.types.Direction.{Direction}
-use Rattle.area.specs.declared.types.Uses.{Uses}
+use Rattle.word.specs.declared.types.Uses.{Uses}
 use Rattle.area.specs.declared.types.Pointers.{Pointers}
 use Rattle.area.specs.declared.types.Setup.{Setup}
 use Rattle.area.specs.declared.types.Flow.{Flow}
@@ -49,9 +49,9 @@ pub finished-room : (setup : Setup) (direction : Direction) (uses : Uses) (first
 unfolding fetch finish
 finished-room setup direction uses first last memory flow fetched made fetches finishes room = rw (finishes, fetches) room
 
-pub oneWord-of-parts : (setup : Setup) (width left : ℕ) (memory after : List ℕ) (flow fetched stored waiting end : Flow) (made : Finished)
+pub oneWord-of-parts : (setup : Setup) (width remaining : ℕ) (memory after : List ℕ) (flow fetched stored waiting end : Flow) (made : Finished)
     → fetched ≡ fetchedOn (setup .direction) (setup .uses) memory flow
-    → made ≡ finish setup (eqb (left + 1) width) (eqb left 0) fetched
+    → made ≡ finish setup (eqb (remaining + 1) width) (eqb remaining 0) fetched
     → state after stored ≡ storePending (state memory (made .flow))
     → waiting ≡ wait (setup .uses .d) (made .word) stored
     → end
@@ -63,31 +63,31 @@ pub oneWord-of-parts : (setup : Setup) (width left : ℕ) (memory after : List �
       d = stepped (setup .direction) (setup .uses .d) (waiting .pointers .d);
     })
     waiting
-    → state after end ≡ oneWord setup width left (state memory flow)
+    → state after end ≡ oneWord setup width remaining (state memory flow)
 unfolding oneWord storedBefore storePending finishedWord wait moveOn finish final result maskedA fetch
-oneWord-of-parts setup width left memory after flow fetched stored waiting end made fetches finishes stores waits moves =
+oneWord-of-parts setup width remaining memory after flow fetched stored waiting end made fetches finishes stores waits moves =
     let memory-is : after ≡ storePending (state memory (made .flow)) .memory = ap (λ (now : State). now .memory) stores in
     let flow-is : stored ≡ storePending (state memory (made .flow)) .flow = ap (λ (now : State). now .flow) stores in
     rw (moves, waits, memory-is, flow-is, finishes, fetches)
 
-pub oneWord-counts : (setup : Setup) (width left : ℕ) (now : State) → oneWord setup width left now .flow .stored ≤ now .flow .stored + 1
+pub oneWord-counts : (setup : Setup) (width remaining : ℕ) (now : State) → oneWord setup width remaining now .flow .stored ≤ now .flow .stored + 1
 unfolding oneWord storedBefore storePending wait moveOn finishedWord finish fetch
-oneWord-counts setup width left now =
+oneWord-counts setup width remaining now =
     countWith-le (now .flow .pending .waits) (now .flow .pending .place) (now .flow .pending .word) (now .flow .stored)
 
-pub words-count : (setup : Setup) (width left : ℕ) (now : State) → words setup width left now .flow .stored ≤ now .flow .stored + left
+pub words-count : (setup : Setup) (width remaining : ℕ) (now : State) → words setup width remaining now .flow .stored ≤ now .flow .stored + remaining
 unfolding repeated
 words-count setup width zero now = omega arith
-words-count setup width (suc left) now =
-    omega (arith, words-count setup width left (oneWord setup width left now), oneWord-counts setup width left now)
+words-count setup width (suc remaining) now =
+    omega (arith, words-count setup width remaining (oneWord setup width remaining now), oneWord-counts setup width remaining now)
 
 -- room for the count after a word, and after a row
-pub words-room : (setup : Setup) (width left : ℕ) (memory after : List ℕ) (flow next : Flow)
-    → 0 < left → state after next ≡ oneWord setup width (left - 1) (state memory flow)
-    → flow .stored + left < 4294967296 → next .stored + (left - 1) < 4294967296
-words-room setup width left memory after flow next more word room =
+pub words-room : (setup : Setup) (width remaining : ℕ) (memory after : List ℕ) (flow next : Flow)
+    → 0 < remaining → state after next ≡ oneWord setup width (remaining - 1) (state memory flow)
+    → flow .stored + remaining < 4294967296 → next .stored + (remaining - 1) < 4294967296
+words-room setup width remaining memory after flow next more word room =
     let count : next .stored ≤ flow .stored + 1 =
-    rw (ap (λ (end : State). end .flow .stored) word) (oneWord-counts setup width (left - 1) (state memory flow)) in
+    rw (ap (λ (end : State). end .flow .stored) word) (oneWord-counts setup width (remaining - 1) (state memory flow)) in
     omega arith
 
 pub rowStart-room : (setup : Setup) (width : ℕ) (flow started : Flow)
@@ -113,15 +113,15 @@ unfolding oneRow rowStart rowEnd
 oneRow-counts setup width now = words-count setup width width (rowStart setup now)
 
 -- one row done, by its parts: the rest of the rows, and room for the count
-module _ (setup : Setup) (width left : ℕ) (memory after : List ℕ) (flow end turned : Flow)
+module _ (setup : Setup) (width remaining : ℕ) (memory after : List ℕ) (flow end turned : Flow)
     (does : state after end ≡ words setup width width (rowStart setup (state memory flow)))
-    (turns : turned ≡ rowEnd (setup .direction) (setup .uses) (setup .modulos) end) (more : 0 < left) where
-  pub rows-turn : rows setup width (left - 1) (state after turned) ≡ rows setup width left (state memory flow)
+    (turns : turned ≡ rowEnd (setup .direction) (setup .uses) (setup .modulos) end) (more : 0 < remaining) where
+  pub rows-turn : rows setup width (remaining - 1) (state after turned) ≡ rows setup width remaining (state memory flow)
   rows-turn =
-      repeated-turn (λ _. oneRow setup width) left (state memory flow) (state after turned) _ more
+      repeated-turn (λ _. oneRow setup width) remaining (state memory flow) (state after turned) _ more
       (oneRow-of-parts setup width memory after flow end turned does turns) refl
 
-  pub rows-room : width ≤ 64 → flow .stored + left * 64 < 4294967296 → turned .stored + (left - 1) * 64 < 4294967296
+  pub rows-room : width ≤ 64 → flow .stored + remaining * 64 < 4294967296 → turned .stored + (remaining - 1) * 64 < 4294967296
   rows-room narrow room =
       let count : turned .stored ≤ flow .stored + width =
       rw (ap (λ (end : State). end .flow .stored) (oneRow-of-parts setup width memory after flow end turned does turns))
@@ -129,32 +129,32 @@ module _ (setup : Setup) (width left : ℕ) (memory after : List ℕ) (flow end 
       omega arith
 
 -- all rows store at most 64 words each, so that there is room for the last
-rows-count : (setup : Setup) (width left : ℕ) (now : State) → width ≤ 64
-    → rows setup width left now .flow .stored ≤ now .flow .stored + left * 64
+rows-count : (setup : Setup) (width remaining : ℕ) (now : State) → width ≤ 64
+    → rows setup width remaining now .flow .stored ≤ now .flow .stored + remaining * 64
 unfolding repeated
 rows-count setup width zero now narrow = omega arith
-rows-count setup width (suc left) now narrow =
-    omega (arith, rows-count setup width left (oneRow setup width now) narrow, oneRow-counts setup width now)
+rows-count setup width (suc remaining) now narrow =
+    omega (arith, rows-count setup width remaining (oneRow setup width now) narrow, oneRow-counts setup width now)
 
-pub rows-leave-room : (setup : Setup) (width left : ℕ) (memory after : List ℕ) (flow end : Flow) → width ≤ 64
-    → state after end ≡ rows setup width left (state memory flow) → flow .stored + left * 64 < 4294967295 → end .stored < 4294967295
-rows-leave-room setup width left memory after flow end narrow does room =
-    let count : end .stored ≤ flow .stored + left * 64 =
-    rw (ap (λ (end : State). end .flow .stored) does) (rows-count setup width left (state memory flow) narrow) in
+pub rows-leave-room : (setup : Setup) (width remaining : ℕ) (memory after : List ℕ) (flow end : Flow) → width ≤ 64
+    → state after end ≡ rows setup width remaining (state memory flow) → flow .stored + remaining * 64 < 4294967295 → end .stored < 4294967295
+rows-leave-room setup width remaining memory after flow end narrow does room =
+    let count : end .stored ≤ flow .stored + remaining * 64 =
+    rw (ap (λ (end : State). end .flow .stored) does) (rows-count setup width remaining (state memory flow) narrow) in
     omega arith
 
-pub areaBlit-of-parts : (setup : Setup) (width left : ℕ) (memory after last : List ℕ) (flow end stored : Flow)
-    → state after end ≡ rows setup width left (state memory flow)
+pub areaBlit-of-parts : (setup : Setup) (width remaining : ℕ) (memory after last : List ℕ) (flow end stored : Flow)
+    → state after end ≡ rows setup width remaining (state memory flow)
     → state last stored ≡ storePending (state after end)
-    → state last stored ≡ areaBlit setup width left (state memory flow)
+    → state last stored ≡ areaBlit setup width remaining (state memory flow)
 unfolding areaBlit
-areaBlit-of-parts setup width left memory after last flow end stored does stores = rw (← does) stores
+areaBlit-of-parts setup width remaining memory after last flow end stored does stores = rw (← does) stores
 
 -- memory keeps its length
-pub oneWord-keeps-length : (setup : Setup) (width left : ℕ) (now : State)
-    → length (oneWord setup width left now .memory) ≡ length (now .memory)
+pub oneWord-keeps-length : (setup : Setup) (width remaining : ℕ) (now : State)
+    → length (oneWord setup width remaining now .memory) ≡ length (now .memory)
 unfolding oneWord storedBefore storePending finishedWord finish fetch
-oneWord-keeps-length setup width left now =
+oneWord-keeps-length setup width remaining now =
     memoryWith-keeps-length (now .flow .pending .waits) (now .flow .pending .place) (now .flow .pending .word) (now .memory)
 
 pub oneRow-keeps-length : (setup : Setup) (width : ℕ) (now : State)
@@ -163,12 +163,12 @@ unfolding oneRow rowStart
 oneRow-keeps-length setup width now =
     repeated-keeps (oneWord setup width) (λ (end : State). length (end .memory)) (oneWord-keeps-length setup width) width (rowStart setup now)
 
-rows-keep-length : (setup : Setup) (width left : ℕ) (now : State)
-    → length (rows setup width left now .memory) ≡ length (now .memory)
-rows-keep-length setup width left now =
-    repeated-keeps (λ _. oneRow setup width) (λ (end : State). length (end .memory)) (λ _. oneRow-keeps-length setup width) left now
+rows-keep-length : (setup : Setup) (width remaining : ℕ) (now : State)
+    → length (rows setup width remaining now .memory) ≡ length (now .memory)
+rows-keep-length setup width remaining now =
+    repeated-keeps (λ _. oneRow setup width) (λ (end : State). length (end .memory)) (λ _. oneRow-keeps-length setup width) remaining now
 
-pub areaBlit-keeps-length : (setup : Setup) (width left : ℕ) (now : State)
-    → length (areaBlit setup width left now .memory) ≡ length (now .memory)
+pub areaBlit-keeps-length : (setup : Setup) (width remaining : ℕ) (now : State)
+    → length (areaBlit setup width remaining now .memory) ≡ length (now .memory)
 unfolding areaBlit
-areaBlit-keeps-length setup width left now = storePending-keeps-length (rows setup width left now) ∙ rows-keep-length setup width left now
+areaBlit-keeps-length setup width remaining now = storePending-keeps-length (rows setup width remaining now) ∙ rows-keep-length setup width remaining now

@@ -50,15 +50,15 @@ storePending-memory-bounded now bounded =
     memoryWith-bounded (now .flow .pending .waits) (now .flow .pending .place) (now .flow .pending .word) (now .memory) (bounded .memory) (bounded .pending)
 
 module _ (setup : Setup) (width : ℕ) where
-  oneWord-bounded : (left : ℕ) (now : State) → Bounded now → Bounded (oneWord setup width left now)
+  oneWord-bounded : (remaining : ℕ) (now : State) → Bounded now → Bounded (oneWord setup width remaining now)
   unfolding oneWord storedBefore storePending wait moveOn finishedWord finish fetch
-  oneWord-bounded left now bounded =
+  oneWord-bounded remaining now bounded =
       record {
         memory = storePending-memory-bounded now bounded;
         a = fetched-lt (setup .uses .a) (now .memory) (now .flow .pointers .a) (now .flow .sources .a) (bounded .memory) (bounded .a);
         b = fetched-lt (setup .uses .b) (now .memory) (now .flow .pointers .b) (now .flow .sources .b) (bounded .memory) (bounded .b);
         c = fetched-lt (setup .uses .c) (now .memory) (now .flow .pointers .c) (now .flow .sources .c) (bounded .memory) (bounded .c);
-        pending = final-lt setup (eqb (left + 1) width) (eqb left 0) (fetch (setup .uses) (now .memory) (now .flow));
+        pending = final-lt setup (eqb (remaining + 1) width) (eqb remaining 0) (fetch (setup .uses) (now .memory) (now .flow));
       }
 
   rowStart-bounded : (now : State) → Bounded now → Bounded (rowStart setup now)
@@ -73,8 +73,8 @@ module _ (setup : Setup) (width : ℕ) where
       repeated-holds (oneWord setup width) Bounded oneWord-bounded width (rowStart setup now) (rowStart-bounded now bounded) in
       record { memory = end .memory; a = end .a; b = end .b; c = end .c; pending = end .pending }
 
-  rows-bounded : (left : ℕ) (now : State) → Bounded now → Bounded (rows setup width left now)
-  rows-bounded left now bounded = repeated-holds (λ _. oneRow setup width) Bounded (λ _ here holds. oneRow-bounded here holds) left now bounded
+  rows-bounded : (remaining : ℕ) (now : State) → Bounded now → Bounded (rows setup width remaining now)
+  rows-bounded remaining now bounded = repeated-holds (λ _. oneRow setup width) Bounded (λ _ here holds. oneRow-bounded here holds) remaining now bounded
 
   -- and the last word stored: nothing waits
   pub areaBlit-bounded : (height : ℕ) (now : State) → Bounded now → Bounded (areaBlit setup width height now)

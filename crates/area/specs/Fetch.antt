@@ -7,7 +7,7 @@ use mathlib.Core.List.{List}
 use lib.ListN.{getD}
 use Rattle.word.specs.declared.types.Pointer.{Pointer}
 use Rattle.word.specs.Choice.{if_then_else_}
-use Rattle.area.specs.declared.types.Uses.{Uses}
+use Rattle.word.specs.declared.types.Uses.{Uses}
 use Rattle.area.specs.declared.types.Flow.{Flow}
 use Rattle.area.specs.With.{withSources}
 

@@ -33,17 +33,20 @@ abbrev pub nothing : Pending
 nothing = record { waits = false; place = 0; word = 0 }
 
 -- "The earlier word is zero at the blit's start"
-unfoldable pub start : (file : List ℕ) → Flow
-start file =
+abbrev pub startFrom : Pointers → Sources → Flow
+startFrom pointers sources =
     record {
-      pointers = pointers file;
-      sources = sources file;
+      pointers = pointers;
+      sources = sources;
       earlier = record { a = 0; b = 0 };
       carry = 0;
       allzero = true;
       stored = 0;
       pending = nothing;
     }
+
+unfoldable pub start : (file : List ℕ) → Flow
+start file = startFrom (pointers file) (sources file)
 
 -- memory and the flow
 pub record State : Type 0 where

@@ -5,7 +5,7 @@ use Rattle.word.specs.declared.types.Direction.{Direction}
 use Rattle.word.specs.declared.types.Pointer.{Pointer}
 use Rattle.word.specs.Choice.{if_then_else_}
 use Rattle.word.specs.Pointer.{moved, passed}
-use Rattle.area.specs.declared.types.Uses.{Uses}
+use Rattle.word.specs.declared.types.Uses.{Uses}
 use Rattle.area.specs.declared.types.Modulos.{Modulos}
 use Rattle.area.specs.declared.types.Flow.{Flow}
 use Rattle.area.specs.With.{withPointers}

@@ -7,29 +7,29 @@ use crate::types::Earlier;
 use crate::types::Flow;
 use crate::types::Pointers;
 use crate::types::Sources;
-use crate::types::Uses;
 use word::types::Direction;
 use word::types::Pointer;
+use word::types::Uses;
 
 // What a source gives, and its pointer moved on.
-pub struct Given {
+pub struct Source {
     pub word: u16,
     pub pointer: Pointer,
 }
 
-fn fetched(used: bool, ram: &[u16], direction: Direction, pointer: Pointer, source: u16) -> Given
+fn fetched(used: bool, ram: &[u16], direction: Direction, pointer: Pointer, source: u16) -> Source
     ensures { λ got. ⌜ (got .word ≡ fetched used (now (ram .entry)) pointer source)
         × (got .pointer ≡ stepped direction used pointer) ⌝ }
 {
     if used {
         let word = word::memory::read(ram, pointer.word);
         let next = pointer.moved(direction);
-        return Given {
+        return Source {
             word,
             pointer: next,
         };
     }
-    Given {
+    Source {
         word: source,
         pointer,
     }

@@ -2,7 +2,7 @@
 ghost use mathlib.Core.Path.{_≡_};
 ghost use Prim.Native.Nat.{_<_};
 ghost use Rattle.file.specs.Places.{fileLength};
-ghost use Rattle.area.specs.Flow.{pointerAt, pointers, sources, nothing, start};
+ghost use Rattle.area.specs.Flow.{pointerAt, pointers, sources, nothing, startFrom, start};
 use crate::types::Earlier;
 use crate::types::Flow;
 use crate::types::Pending;
@@ -22,19 +22,19 @@ fn pointer_at(file: &[u16], place: u32) -> Pointer
 pub fn pointers(file: &[u16]) -> Pointers
     ensures { λ held. ⌜ held ≡ pointers (now (file .entry)) ⌝ }
 {
-    let a = pointer_at(file, 8);
-    let b = pointer_at(file, 6);
-    let c = pointer_at(file, 4);
-    let d = pointer_at(file, 10);
+    let a = pointer_at(file, file::POINTER_A);
+    let b = pointer_at(file, file::POINTER_B);
+    let c = pointer_at(file, file::POINTER_C);
+    let d = pointer_at(file, file::POINTER_D);
     Pointers { a, b, c, d }
 }
 
 fn sources(file: &[u16]) -> Sources
     ensures { λ held. ⌜ held ≡ sources (now (file .entry)) ⌝ }
 {
-    let a = word::memory::read(file, 18);
-    let b = word::memory::read(file, 17);
-    let c = word::memory::read(file, 16);
+    let a = word::memory::read(file, file::SOURCE_A);
+    let b = word::memory::read(file, file::SOURCE_B);
+    let c = word::memory::read(file, file::SOURCE_C);
     Sources { a, b, c }
 }
 
@@ -49,10 +49,10 @@ pub fn nothing() -> Pending
     }
 }
 
-pub fn start(file: &[u16]) -> Flow
-    ensures { λ flow. ⌜ flow ≡ start (now (file .entry)) ⌝ }
+// The flow from pointers that have been decoded.
+pub fn start_from(pointers: Pointers, file: &[u16]) -> Flow
+    ensures { λ flow. ⌜ flow ≡ startFrom pointers (sources (now (file .entry))) ⌝ }
 {
-    let pointers = pointers(file);
     let sources = sources(file);
     let earlier = Earlier { a: 0, b: 0 };
     let pending = nothing();
@@ -65,4 +65,10 @@ pub fn start(file: &[u16]) -> Flow
         stored: 0,
         pending,
     }
+}
+
+pub fn start(file: &[u16]) -> Flow
+    ensures { λ flow. ⌜ flow ≡ start (now (file .entry)) ⌝ }
+{
+    start_from(pointers(file), file)
 }

@@ -6,9 +6,9 @@ use crate::types::Earlier;
 use crate::types::Flow;
 use crate::types::Modulos;
 use crate::types::Pointers;
-use crate::types::Uses;
 use word::types::Direction;
 use word::types::Pointer;
+use word::types::Uses;
 
 // The flow with other pointers.
 fn with_pointers(pointers: Pointers, flow: Flow) -> Flow

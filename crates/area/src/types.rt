@@ -2,14 +2,7 @@
 use word::types::Direction;
 use word::types::Fill;
 use word::types::Pointer;
-
-// The channels in use.
-pub struct Uses {
-    pub a: bool,
-    pub b: bool,
-    pub c: bool,
-    pub d: bool,
-}
+use word::types::Uses;
 
 // Half of each channel's modulo, in words modulo 262,144.
 pub struct Modulos {
@@ -91,6 +84,6 @@ pub struct Finished {
 
 // The flow after some rows, and how many rows are left.
 pub struct Rest {
-    pub left: u32,
+    pub remaining: u32,
     pub flow: Flow,
 }

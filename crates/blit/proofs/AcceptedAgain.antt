@@ -12,10 +12,10 @@ use Rattle.word.specs.Choice.{if_then_else_}
 use Rattle.word.specs.Pointer.{high, low}
 use Rattle.word.specs.Size.{height, width}
 use Rattle.word.specs.Word.{SixteenBits}
-use Rattle.file.specs.File.{registers, keptBits, kept, accepted}
-use Rattle.file.specs.Places.{fileLength, pointerA, pointerB, pointerC, pointerD, sourceA, sourceB, sourceC, flag}
+use Rattle.file.specs.File.{registers, keptBits, accepted}
+use Rattle.file.specs.Places.{pointerA, pointerB, pointerC, pointerD, sourceA, sourceB, sourceC, flag}
 use Rattle.file.proofs.FileLaws.{kept-of-bits, kept-of-high, kept-of-low, accepted-word-lt, accepted-of-set}
-use Rattle.area.specs.declared.types.Uses.{Uses}
+use Rattle.word.specs.declared.types.Uses.{Uses}
 use Rattle.area.specs.declared.types.Pointers.{Pointers}
 use Rattle.area.specs.Setup.{setup}
 use Rattle.area.specs.Flow.{State, state, sources, start}

@@ -8,27 +8,28 @@ use native.Mathlib.Omega.{arith}
 use lib.Dec.{eqb}
 use lib.ListN.{length, set, length-set}
 use Rattle.word.specs.declared.types.Pointer.{Pointer}
+use Rattle.word.specs.declared.types.Uses.{Uses}
 use Rattle.word.specs.Pointer.{high, low}
 use Rattle.word.specs.Size.{height, width}
 use Rattle.word.proofs.ChoiceLaws.{if-either}
-use Rattle.word.proofs.SizeLaws.{height-le, words-le}
+use Rattle.word.proofs.SizeLaws.{height-le, width-le, words-le}
 use Rattle.file.specs.Places.{flag}
-use Rattle.area.specs.declared.types.Setup.{Setup}
 use Rattle.area.specs.declared.types.Flow.{Flow}
 use Rattle.refusal.specs.declared.types.Refusal.{Refusal}
+use Rattle.refusal.specs.declared.types.Plan.{Plan}
 use Rattle.refusal.specs.declared.types.Verdict.{Verdict}
 use Rattle.refusal.specs.declared.types.Verdict.the-variants as verdicts
 use Rattle.blit.specs.declared.types.Answer.{Answer}
 use Rattle.blit.specs.declared.types.Answer.the-variants.{Done, Refused}
 use Rattle.area.specs.Setup.{shifts, setup}
-use Rattle.area.specs.Flow.{State, state, start}
+use Rattle.area.specs.Flow.{State, state, sources, startFrom, start}
 use Rattle.area.specs.Store.{storePending, countWith}
 use Rattle.area.specs.Rows.{areaBlit}
 use Rattle.area.proofs.RowsLaws.{areaBlit-keeps-length}
 use Rattle.area.proofs.CountLaws.{each, rows-count-all}
-use Rattle.refusal.specs.Refusal.{stepRefusal, refusal, verdictNumber}
+use Rattle.refusal.specs.Refusal.{plan, stepRefusal, refusal, verdictNumber, handed}
 use Rattle.refusal.proofs.RefusalLaws.{refusal-is-some}
-use Rattle.blit.specs.WriteBack.{putPointer, putPointers, putSource, putSources, putFlag}
+use Rattle.blit.specs.WriteBack.{putPointer, putPointers, putSource, putSources, putFlag, writeBack}
 use Rattle.blit.specs.Blit.{Outcome, finished, done, refused, answered, blitStep, blit, left}
 
 pub putPointer-when-used : (used : Bool) (place up down : ℕ) (pointer : Pointer) (file one two : List ℕ)
@@ -46,40 +47,50 @@ pub putFlag-when-some : (allzero : Bool) (file after : List ℕ) → allzero ≡
 unfolding putFlag
 putFlag-when-some allzero file after some same = rw some same
 
--- a blit's set-up shifts by less than 16
-pub setup-shifts-a : (file : List ℕ) (set : Setup) → set ≡ setup file → set .shifts .a < 16
-unfolding setup shifts
-setup-shifts-a file set same = rw same (omega arith)
-
-pub setup-shifts-b : (file : List ℕ) (set : Setup) → set ≡ setup file → set .shifts .b < 16
-unfolding setup shifts
-setup-shifts-b file set same = rw same (omega arith)
-
--- a blit starts with none stored and has at most 1,024 rows
-pub start-room : (file : List ℕ) (size rows most : ℕ) (flow : Flow) → flow ≡ start file → rows ≡ height size → 65536 < most
-    → flow .stored + rows * 64 < most
-unfolding start
-start-room file size rows most flow starts tall room = rw (starts, tall) (omega (arith, height-le size))
-
-pub done-of-parts : (size wide tall : ℕ) (memory after file one two three : List ℕ) (set : Setup) (flow end : Flow)
-    → set ≡ setup file → flow ≡ start file → wide ≡ width size → tall ≡ height size
-    → state after end ≡ areaBlit set wide tall (state memory flow)
-    → one ≡ putPointers (set .uses) (end .pointers) file
-    → two ≡ putSources (set .uses) (end .sources) one
+pub writeBack-of-parts : (uses : Uses) (end : Flow) (file one two three : List ℕ)
+    → one ≡ putPointers uses (end .pointers) file
+    → two ≡ putSources uses (end .sources) one
     → three ≡ putFlag (end .allzero) two
-    → left (Done (end .stored)) after three ≡ done file (finished memory file size)
-unfolding done finished
-done-of-parts size wide tall memory after file one two three set flow end sets starts widths heights does points sources flags =
-    let does-all = rw (sets, starts, widths, heights) at does in
-    let points-all = rw sets at points in
-    let sources-all = rw sets at sources in
-    rw (← does-all, flags, sources-all, points-all)
+    → three ≡ writeBack uses end file
+writeBack-of-parts uses end file one two three points sources flags = rw (flags, sources, points)
 
-pub answered-when-done : (memory file after changed : List ℕ) (size stored : ℕ) (verdict : Verdict)
-    → verdict ≡ verdicts.Lawful → left (Done stored) after changed ≡ done file (finished memory file size)
+-- what a blit goes by
+module _ (file : List ℕ) (size : ℕ) (by : Plan) (same : by ≡ plan file size) where
+  pub plan-shifts-a : by .setup .shifts .a < 16
+  unfolding setup shifts
+  plan-shifts-a = rw same (omega arith)
+
+  pub plan-shifts-b : by .setup .shifts .b < 16
+  unfolding setup shifts
+  plan-shifts-b = rw same (omega arith)
+
+  pub plan-is-narrow : by .width ≤ 64
+  plan-is-narrow = rw same (width-le size)
+
+  -- a blit starts with none stored and has at most 1,024 rows
+  pub plan-room : (flow : Flow) → flow ≡ startFrom (by .pointers) (sources file) → flow .stored + by .height * 64 < 4294967295
+  plan-room flow starts = rw (starts, same) (omega (arith, height-le size))
+
+  pub done-of-parts : (memory after changed : List ℕ) (flow end : Flow)
+      → flow ≡ startFrom (by .pointers) (sources file)
+      → state after end ≡ areaBlit (by .setup) (by .width) (by .height) (state memory flow)
+      → changed ≡ writeBack (by .setup .uses) end file
+      → left (Done (end .stored)) after changed ≡ done file (finished memory file size)
+  unfolding done finished start
+  done-of-parts memory after changed flow end starts does writes =
+      let does-all = rw (starts, same) at does in
+      let writes-all = rw same at writes in
+      rw (← does-all, writes-all)
+
+pub answered-when-done : (memory file after changed : List ℕ) (size stored : ℕ) (verdict : Verdict) (by : Plan)
+    → verdict ≡ verdicts.Lawful by → left (Done stored) after changed ≡ done file (finished memory file size)
     → left (Done stored) after changed ≡ answered (verdictNumber verdict) memory file size
 unfolding answered
-answered-when-done memory file after changed size stored verdict lawful does = rw lawful does
+answered-when-done memory file after changed size stored verdict by lawful does = rw lawful does
+
+pub plan-of-verdict : (file : List ℕ) (size : ℕ) (verdict : Verdict) (by : Plan) → verdict ≡ verdicts.Lawful by
+    → handed verdict (plan file size) ≡ plan file size → by ≡ plan file size
+plan-of-verdict file size verdict by lawful hands = rw lawful at hands
 
 pub answered-when-refused : (memory file : List ℕ) (size : ℕ) (why : Refusal) (verdict : Verdict)
     → verdict ≡ verdicts.Refused why → left (Refused why) memory file ≡ answered (verdictNumber verdict) memory file size

@@ -23,7 +23,9 @@ use Rattle.word.proofs.WordLaws.{SixteenBits-of-set}
 use Rattle.word.proofs.SizeLaws.{width-le}
 use Rattle.file.specs.Places.{pointerD}
 use Rattle.area.specs.declared.types.Setup.{Setup}
-use Rattle.area.specs.Setup.{con1, uses, shifts, direction, fill, masks, setup}
+use Rattle.area.specs.Setup.{shifts, direction, fill, masks, setup}
+use Rattle.file.specs.File.{con1}
+use Rattle.word.specs.Control.{uses}
 use Rattle.area.specs.Flow.{State, state, pointers, start}
 use Rattle.area.specs.Store.{memoryWith, storePending}
 use Rattle.area.specs.Move.{rowEnd}
@@ -31,9 +33,9 @@ use Rattle.area.specs.Rows.{oneWord, words, rowStart, oneRow, rows, areaBlit}
 use Rattle.area.proofs.StoreLaws.{storePending-keeps-length}
 use Rattle.area.proofs.ChannelLaws.{oneWord-stores, oneWord-memory, oneWord-moves-a, oneWord-moves-d}
 use Rattle.area.proofs.CopyLaws.{Copying, finishedWord-copies, oneWord-hands-on}
-use Rattle.area.specs.declared.types.Pointers.{Pointers}
 use Rattle.refusal.specs.Touch.{rowTouches, touches, among, leaves}
-use Rattle.refusal.specs.Refusal.{refusal, leaving}
+use Rattle.refusal.specs.declared.types.Plan.{Plan}
+use Rattle.refusal.specs.Refusal.{refusal, plan, leaving}
 use Rattle.blit.specs.Blit.{finished, done, answered, blit}
 use Rattle.blit.specs.CopyOfOneRow.{plain, Copies, spot, CopyOfOneRow}
 use Rattle.word.proofs.PointerLaws.{moves-are-one, moved-lt}
@@ -42,13 +44,13 @@ use Rattle.refusal.proofs.RefusalLaws.{refusal-of-none, leaving-of-d, pointerAt
 use Rattle.blit.proofs.OnlyDChanges.{words-change-no-other}
 
 -- a word that is no spot of a row isn't touched by it
-among-of-none : (direction : Direction) (word left : ℕ) (pointer : Pointer) → ((j : ℕ) → j < left → spot direction j pointer ≡ word → ⊥)
-    → among word (rowTouches direction left pointer) ≡ false
+among-of-none : (direction : Direction) (word remaining : ℕ) (pointer : Pointer) → ((j : ℕ) → j < remaining → spot direction j pointer ≡ word → ⊥)
+    → among word (rowTouches direction remaining pointer) ≡ false
 unfolding among rowTouches repeated
 among-of-none direction word zero pointer none = refl
-among-of-none direction word (suc left) pointer none =
-    rw (ne-eqb (pointer .word) word (none 0 (zero-lt-suc left)))
-    (among-of-none direction word left (moved direction pointer) (λ j inside. none (suc j) (omega arith)))
+among-of-none direction word (suc remaining) pointer none =
+    rw (ne-eqb (pointer .word) word (none 0 (zero-lt-suc remaining)))
+    (among-of-none direction word remaining (moved direction pointer) (λ j inside. none (suc j) (omega arith)))
 
 -- a row doesn't come back to its first word
 spot-moves-on : (direction : Direction) (j : ℕ) (pointer : Pointer) → pointer .word < pointerEnd → j < 64
@@ -62,52 +64,52 @@ spot-moves-on Descending j pointer small few back =
     omega arith
 
 -- what holds of the first word and of those after it
-first-or-later : (left : ℕ) (Holds : ℕ → Type 0) → Holds 0 → ((i : ℕ) → i < left → Holds (suc i)) → (i : ℕ) → i < suc left → Holds i
-first-or-later left Holds first later zero within = first
-first-or-later left Holds first later (suc i) within = later i (omega arith)
+first-or-later : (remaining : ℕ) (Holds : ℕ → Type 0) → Holds 0 → ((i : ℕ) → i < remaining → Holds (suc i)) → (i : ℕ) → i < suc remaining → Holds i
+first-or-later remaining Holds first later zero within = first
+first-or-later remaining Holds first later (suc i) within = later i (omega arith)
 
 module _ (setup : Setup) (copying : Copying setup) (width : ℕ) where
   -- a row's words, of which so many are left, are copied: the pending word is for no word that A still comes to, but the first
-  row-copies : (left : ℕ) (now : State) → left ≤ 64
+  row-copies : (remaining : ℕ) (now : State) → remaining ≤ 64
       → SixteenBits (now .memory)
       → SixteenBits (storePending now .memory)
       → now .flow .earlier .a < 65536
       → now .flow .pointers .d .word < pointerEnd
-      → ((j : ℕ) → j < left → spot (setup .direction) j (now .flow .pointers .d) < length (now .memory))
-      → ((i : ℕ) → 0 < i → i < left
+      → ((j : ℕ) → j < remaining → spot (setup .direction) j (now .flow .pointers .d) < length (now .memory))
+      → ((i : ℕ) → 0 < i → i < remaining
       → getD (storePending now .memory) (spot (setup .direction) i (now .flow .pointers .a)) 0 ≡ getD (now .memory) (spot (setup .direction) i (now .flow .pointers .a)) 0)
-      → ((i j : ℕ) → i < left → j + 1 < i → spot (setup .direction) i (now .flow .pointers .a) ≡ spot (setup .direction) j (now .flow .pointers .d) → ⊥)
-      → (i : ℕ) → i < left
-      → getD (storePending (words setup width left now) .memory) (spot (setup .direction) i (now .flow .pointers .d)) 0
+      → ((i j : ℕ) → i < remaining → j + 1 < i → spot (setup .direction) i (now .flow .pointers .a) ≡ spot (setup .direction) j (now .flow .pointers .d) → ⊥)
+      → (i : ℕ) → i < remaining
+      → getD (storePending (words setup width remaining now) .memory) (spot (setup .direction) i (now .flow .pointers .d)) 0
       ≡ getD (now .memory) (spot (setup .direction) i (now .flow .pointers .a)) 0
   unfolding repeated
   row-copies zero now few all all-next before small inside unmoved apart i within = absurd (not-suc-le-zero within)
-  row-copies (suc left) now few all all-next before small inside unmoved apart i within =
-      let next : State = oneWord setup width left now in
+  row-copies (suc remaining) now few all all-next before small inside unmoved apart i within =
+      let next : State = oneWord setup width remaining now in
       let stored : List ℕ = storePending now .memory in
       let a : Pointer = now .flow .pointers .a in
       let d : Pointer = now .flow .pointers .d in
       let word : ℕ = getD (now .memory) (a .word) 0 in
       let stores : storePending next .memory ≡ set stored (d .word) word =
-      oneWord-stores setup width left now (copying .d)
-      ∙ ap (set stored (d .word)) (finishedWord-copies setup copying width left now (all (a .word)) before) in
-      let memory : next .memory ≡ stored = oneWord-memory setup width left now in
-      let to-a : next .flow .pointers .a ≡ moved (setup .direction) a = oneWord-moves-a setup width left now (copying .a) in
-      let to-d : next .flow .pointers .d ≡ moved (setup .direction) d = oneWord-moves-d setup width left now (copying .d) in
-      let elsewhere : getD (storePending (words setup width left next) .memory) (d .word) 0 ≡ getD (storePending next .memory) (d .word) 0 =
-      words-change-no-other setup (copying .d) width (d .word) left next
-      (among-of-none (setup .direction) (d .word) left (next .flow .pointers .d)
+      oneWord-stores setup width remaining now (copying .d)
+      ∙ ap (set stored (d .word)) (finishedWord-copies setup copying width remaining now (all (a .word)) before) in
+      let memory : next .memory ≡ stored = oneWord-memory setup width remaining now in
+      let to-a : next .flow .pointers .a ≡ moved (setup .direction) a = oneWord-moves-a setup width remaining now (copying .a) in
+      let to-d : next .flow .pointers .d ≡ moved (setup .direction) d = oneWord-moves-d setup width remaining now (copying .d) in
+      let elsewhere : getD (storePending (words setup width remaining next) .memory) (d .word) 0 ≡ getD (storePending next .memory) (d .word) 0 =
+      words-change-no-other setup (copying .d) width (d .word) remaining next
+      (among-of-none (setup .direction) (d .word) remaining (next .flow .pointers .d)
       (λ j short. rw to-d (spot-moves-on (setup .direction) j d small (omega arith)))) in
-      first-or-later left (λ i. getD (storePending (words setup width left next) .memory) (spot (setup .direction) i d) 0 ≡ getD (now .memory) (spot (setup .direction) i a) 0)
+      first-or-later remaining (λ i. getD (storePending (words setup width remaining next) .memory) (spot (setup .direction) i d) 0 ≡ getD (now .memory) (spot (setup .direction) i a) 0)
       (elsewhere
       ∙ ap (λ (memory : List ℕ). getD memory (d .word) 0) stores
-      ∙ getD-set-same stored (d .word) word 0 (rw (storePending-keeps-length now) (inside 0 (zero-lt-suc left))))
+      ∙ getD-set-same stored (d .word) word 0 (rw (storePending-keeps-length now) (inside 0 (zero-lt-suc remaining))))
       (λ i short.
-      ap (λ (at : Pointer). getD (storePending (words setup width left next) .memory) (spot (setup .direction) i at) 0) (sym to-d)
-      ∙ row-copies left next (omega arith)
+      ap (λ (at : Pointer). getD (storePending (words setup width remaining next) .memory) (spot (setup .direction) i at) 0) (sym to-d)
+      ∙ row-copies remaining next (omega arith)
       (λ place. rw memory (all-next place))
       (λ place. rw stores (SixteenBits-of-set stored (d .word) word all-next (all (a .word)) place))
-      (rw (oneWord-hands-on setup copying width left now (all (a .word)) before) (all (a .word)))
+      (rw (oneWord-hands-on setup copying width remaining now (all (a .word)) before) (all (a .word)))
       (rw to-d (moved-lt (setup .direction) d))
       (λ j few. rw (to-d, memory, storePending-keeps-length now) (inside (suc j) (omega arith)))
       (λ j later few. rw (stores, memory, to-a) (getD-set-other stored (d .word) (spot (setup .direction) (suc j) a) word 0 (apart (suc j) 0 (omega arith) (omega arith))))
@@ -119,15 +121,15 @@ module _ (setup : Setup) (copying : Copying setup) (width : ℕ) where
       i within
 
 -- the words of a row that doesn't leave memory lie inside
-spot-inside : (direction : Direction) (n left : ℕ) (pointer : Pointer) → leaves n (rowTouches direction left pointer) ≡ false
-    → (j : ℕ) → j < left → spot direction j pointer < n
+spot-inside : (direction : Direction) (n remaining : ℕ) (pointer : Pointer) → leaves n (rowTouches direction remaining pointer) ≡ false
+    → (j : ℕ) → j < remaining → spot direction j pointer < n
 unfolding leaves rowTouches repeated
 spot-inside direction n zero pointer stays j within = absurd (not-suc-le-zero within)
-spot-inside direction n (suc left) pointer stays j within =
-    let rest : Bool = leaves n (rowTouches direction left (moved direction pointer)) in
-    first-or-later left (λ j. spot direction j pointer < n)
+spot-inside direction n (suc remaining) pointer stays j within =
+    let rest : Bool = leaves n (rowTouches direction remaining (moved direction pointer)) in
+    first-or-later remaining (λ j. spot direction j pointer < n)
     (leb-false n (pointer .word) (or-left (leb n (pointer .word)) rest stays))
-    (λ j short. spot-inside direction n left (moved direction pointer) (or-right (leb n (pointer .word)) rest stays) j short)
+    (λ j short. spot-inside direction n remaining (moved direction pointer) (or-right (leb n (pointer .word)) rest stays) j short)
     j within
 
 -- D's row lies inside where a blit of one row is lawful
@@ -138,10 +140,10 @@ one-row-inside direction n wide modulo rows pointer one stays =
     or-left (leaves n (rowTouches direction wide pointer)) (leaves n [])
     (sym (leaves-of-append n (rowTouches direction wide pointer) []) ∙ rw one at stays)
 
-d-inside : (n size : ℕ) (set : Setup) (at : Pointers) → set .uses .d ≡ true → height size ≡ 1 → leaving n set at size ≡ 0
-    → leaves n (rowTouches (set .direction) (width size) (at .d)) ≡ false
-d-inside n size set at uses one stays =
-    one-row-inside (set .direction) n (width size) (set .modulos .d) (height size) (at .d) one (leaving-of-d n size set at uses stays)
+d-inside : (n : ℕ) (by : Plan) → by .setup .uses .d ≡ true → by .height ≡ 1 → leaving n by ≡ 0
+    → leaves n (rowTouches (by .setup .direction) (by .width) (by .pointers .d)) ≡ false
+d-inside n by uses one stays =
+    one-row-inside (by .setup .direction) n (by .width) (by .setup .modulos .d) (by .height) (by .pointers .d) one (leaving-of-d n by uses stays)
 
 -- a file that copies has a set-up that copies
 setup-direction : (way : Direction) (file : List ℕ) → con1 file ≡ plain way → setup file .direction ≡ way
@@ -193,7 +195,7 @@ blit-copies memory file size all copying one lawful apart i within =
     (blit-of-lawful memory file size lawful ∙ one-row-is-words (setup file) (width size) (height size) (state memory (start file)) one)
     ∙ row-copies (setup file) copying (width size) (width size) begin (width-le size) all all (zero-lt-suc 65535) (pointerAt-lt file pointerD)
     (spot-inside (setup file .direction) (length memory) (width size) (start file .pointers .d)
-    (d-inside (length memory) size (setup file) (pointers file) (copying .d) one (refusal-of-none (length memory) file size lawful)))
+    (d-inside (length memory) (plan file size) (copying .d) one (refusal-of-none (length memory) file size lawful)))
     (λ i later few. refl) apart i within
 
 pub copy-of-one-row : CopyOfOneRow

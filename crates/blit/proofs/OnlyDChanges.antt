@@ -9,7 +9,7 @@ use lib.ListN.{length, getD}
 use lib.Seq.{getD-set-other}
 use Rattle.word.specs.declared.types.Pointer.{Pointer}
 use Rattle.word.specs.Repeat.{repeated}
-use Rattle.word.specs.Pointer.{moved}
+use Rattle.word.specs.Pointer.{moved, nextRow}
 use Rattle.word.specs.Size.{height, width}
 use Rattle.word.proofs.ChoiceLaws.{or-left, or-right}
 use Rattle.area.specs.declared.types.Setup.{Setup}
@@ -19,7 +19,7 @@ use Rattle.area.specs.Store.{memoryWith, storePending}
 use Rattle.area.specs.Move.{rowEnd}
 use Rattle.area.specs.Rows.{finishedWord, oneWord, words, rowStart, oneRow, rows, areaBlit}
 use Rattle.area.proofs.ChannelLaws.{oneWord-stores, oneWord-moves-d, oneRow-moves-d, rows-without-d}
-use Rattle.refusal.specs.Touch.{rowTouches, afterRow, touches, among}
+use Rattle.refusal.specs.Touch.{rowTouches, touches, among}
 use Rattle.refusal.specs.Refusal.{refusal}
 use Rattle.blit.specs.Blit.{Outcome, finished, done, refused, blit}
 use Rattle.blit.proofs.BlitLaws.{answered-either}
@@ -33,21 +33,21 @@ among-of-append word (touched ∷ first) rest =
     ∙ sym (or-assoc (eqb touched word) (among word first) (among word rest))
 
 module _ (setup : Setup) (uses : setup .uses .d ≡ true) (width word : ℕ) where
-  pub words-change-no-other : (left : ℕ) (now : State) → among word (rowTouches (setup .direction) left (now .flow .pointers .d)) ≡ false
-      → getD (storePending (words setup width left now) .memory) word 0 ≡ getD (storePending now .memory) word 0
+  pub words-change-no-other : (remaining : ℕ) (now : State) → among word (rowTouches (setup .direction) remaining (now .flow .pointers .d)) ≡ false
+      → getD (storePending (words setup width remaining now) .memory) word 0 ≡ getD (storePending now .memory) word 0
   unfolding repeated rowTouches among
   words-change-no-other zero now apart = refl
-  words-change-no-other (suc left) now apart =
-      let next : State = oneWord setup width left now in
+  words-change-no-other (suc remaining) now apart =
+      let next : State = oneWord setup width remaining now in
       let at : Pointer = now .flow .pointers .d in
-      let rest : Bool = among word (rowTouches (setup .direction) left (moved (setup .direction) at)) in
+      let rest : Bool = among word (rowTouches (setup .direction) remaining (moved (setup .direction) at)) in
       let here : eqb (at .word) word ≡ false = or-left (eqb (at .word) word) rest apart in
-      let later : among word (rowTouches (setup .direction) left (next .flow .pointers .d)) ≡ false =
-      ap (λ (at : Pointer). among word (rowTouches (setup .direction) left at)) (oneWord-moves-d setup width left now uses)
+      let later : among word (rowTouches (setup .direction) remaining (next .flow .pointers .d)) ≡ false =
+      ap (λ (at : Pointer). among word (rowTouches (setup .direction) remaining at)) (oneWord-moves-d setup width remaining now uses)
       ∙ or-right (eqb (at .word) word) rest apart in
-      words-change-no-other left next later
-      ∙ ap (λ (memory : List ℕ). getD memory word 0) (oneWord-stores setup width left now uses)
-      ∙ getD-set-other (storePending now .memory) (at .word) word (finishedWord setup width left now .word) 0
+      words-change-no-other remaining next later
+      ∙ ap (λ (memory : List ℕ). getD memory word 0) (oneWord-stores setup width remaining now uses)
+      ∙ getD-set-other (storePending now .memory) (at .word) word (finishedWord setup width remaining now .word) 0
       (λ same. eqb-false (at .word) word here (sym same))
 
   row-changes-no-other : (now : State) → among word (rowTouches (setup .direction) width (now .flow .pointers .d)) ≡ false
@@ -55,28 +55,28 @@ module _ (setup : Setup) (uses : setup .uses .d ≡ true) (width word : ℕ) whe
   unfolding oneRow rowStart rowEnd storePending
   row-changes-no-other now apart = words-change-no-other width (rowStart setup now) apart
 
-  rows-change-no-other : (left : ℕ) (now : State)
-      → among word (touches (setup .direction) width (setup .modulos .d) left (now .flow .pointers .d)) ≡ false
-      → getD (storePending (rows setup width left now) .memory) word 0 ≡ getD (storePending now .memory) word 0
-  unfolding repeated touches afterRow
+  rows-change-no-other : (remaining : ℕ) (now : State)
+      → among word (touches (setup .direction) width (setup .modulos .d) remaining (now .flow .pointers .d)) ≡ false
+      → getD (storePending (rows setup width remaining now) .memory) word 0 ≡ getD (storePending now .memory) word 0
+  unfolding repeated touches nextRow
   rows-change-no-other zero now apart = refl
-  rows-change-no-other (suc left) now apart =
+  rows-change-no-other (suc remaining) now apart =
       let next : State = oneRow setup width now in
       let row : List ℕ = rowTouches (setup .direction) width (now .flow .pointers .d) in
-      let rest : List ℕ = touches (setup .direction) width (setup .modulos .d) left (afterRow (setup .direction) width (setup .modulos .d) (now .flow .pointers .d)) in
+      let rest : List ℕ = touches (setup .direction) width (setup .modulos .d) remaining (nextRow (setup .direction) width (setup .modulos .d) (now .flow .pointers .d)) in
       let parts : (among word row || among word rest) ≡ false = sym (among-of-append word row rest) ∙ apart in
-      let later : among word (touches (setup .direction) width (setup .modulos .d) left (next .flow .pointers .d)) ≡ false =
-      ap (λ (at : Pointer). among word (touches (setup .direction) width (setup .modulos .d) left at)) (oneRow-moves-d setup width now uses)
+      let later : among word (touches (setup .direction) width (setup .modulos .d) remaining (next .flow .pointers .d)) ≡ false =
+      ap (λ (at : Pointer). among word (touches (setup .direction) width (setup .modulos .d) remaining at)) (oneRow-moves-d setup width now uses)
       ∙ or-right (among word row) (among word rest) parts in
-      rows-change-no-other left next later ∙ row-changes-no-other now (or-left (among word row) (among word rest) parts)
+      rows-change-no-other remaining next later ∙ row-changes-no-other now (or-left (among word row) (among word rest) parts)
 
 -- D used or not
-rows-change-no-word : (setup : Setup) (width word left : ℕ) (now : State) (used : Bool) → setup .uses .d ≡ used
-    → among word (touches (setup .direction) width (setup .modulos .d) left (now .flow .pointers .d)) ≡ false
-    → getD (storePending (rows setup width left now) .memory) word 0 ≡ getD (storePending now .memory) word 0
-rows-change-no-word setup width word left now true uses apart = rows-change-no-other setup uses width word left now apart
-rows-change-no-word setup width word left now false idle apart =
-    ap (λ (memory : List ℕ). getD memory word 0) (rows-without-d setup width left now idle)
+rows-change-no-word : (setup : Setup) (width word remaining : ℕ) (now : State) (used : Bool) → setup .uses .d ≡ used
+    → among word (touches (setup .direction) width (setup .modulos .d) remaining (now .flow .pointers .d)) ≡ false
+    → getD (storePending (rows setup width remaining now) .memory) word 0 ≡ getD (storePending now .memory) word 0
+rows-change-no-word setup width word remaining now true uses apart = rows-change-no-other setup uses width word remaining now apart
+rows-change-no-word setup width word remaining now false idle apart =
+    ap (λ (memory : List ℕ). getD memory word 0) (rows-without-d setup width remaining now idle)
 
 pub only-d-changes : OnlyDChanges
 unfolding blit done refused finished areaBlit storePending memoryWith start

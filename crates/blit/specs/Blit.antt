@@ -10,7 +10,7 @@ use Rattle.blit.specs.declared.types.Answer.the-variants.{Done, Refused}
 use Rattle.area.specs.Setup.{setup}
 use Rattle.area.specs.Flow.{State, state, start}
 use Rattle.area.specs.Rows.{areaBlit}
-use Rattle.blit.specs.WriteBack.{putPointers, putSources, putFlag}
+use Rattle.blit.specs.WriteBack.{writeBack}
 use Rattle.refusal.specs.Refusal.{stepRefusal, refusal, refusalNumber}
 
 -- what a blit gives and leaves
@@ -31,10 +31,7 @@ done file end =
       number = 0;
       stored = end .flow .stored;
       memory = end .memory;
-      file =
-          putFlag (end .flow .allzero)
-          (putSources (setup file .uses) (end .flow .sources)
-          (putPointers (setup file .uses) (end .flow .pointers) file));
+      file = writeBack (setup file .uses) (end .flow) file;
     }
 
 -- a blit that is refused: nothing is stored, and nothing changes

@@ -12,7 +12,7 @@ use Rattle.word.specs.Word.{SixteenBits}
 use Rattle.word.specs.Pointer.{moved}
 use Rattle.word.specs.Size.{height, width}
 use Rattle.file.specs.Places.{firstMask, lastMask}
-use Rattle.area.specs.Setup.{con0, con1}
+use Rattle.file.specs.File.{con0, con1}
 use Rattle.area.specs.Flow.{start}
 use Rattle.refusal.specs.Refusal.{refusal}
 use Rattle.blit.specs.Blit.{blit}

@@ -7,9 +7,10 @@ use Rattle.word.specs.declared.types.Pointer.{Pointer}
 use Rattle.word.specs.Choice.{if_then_else_}
 use Rattle.word.specs.Pointer.{high, low}
 use Rattle.file.specs.Places.{pointerA, pointerB, pointerC, pointerD, sourceA, sourceB, sourceC, flag}
-use Rattle.area.specs.declared.types.Uses.{Uses}
+use Rattle.word.specs.declared.types.Uses.{Uses}
 use Rattle.area.specs.declared.types.Pointers.{Pointers}
 use Rattle.area.specs.declared.types.Sources.{Sources}
+use Rattle.area.specs.declared.types.Flow.{Flow}
 
 -- "Unused pointers stay"; a used one is written to its two registers
 unfoldable pub putPointer : (used : Bool) → (place : ℕ) → Pointer → (file : List ℕ) → List ℕ
@@ -36,3 +37,8 @@ putSources uses sources file =
 -- "The zero flag becomes 1 exactly when every final word was zero"
 unfoldable pub putFlag : (allzero : Bool) → (file : List ℕ) → List ℕ
 putFlag allzero file = set file flag (if allzero then 1 else 0)
+
+-- all of it, from where a blit's flow ends
+abbrev pub writeBack : Uses → Flow → (file : List ℕ) → List ℕ
+writeBack uses end file =
+    putFlag (end .allzero) (putSources uses (end .sources) (putPointers uses (end .pointers) file))

@@ -1,40 +1,38 @@
 // A blit that is done: all rows, and what is written back to the register file.
 ghost use mathlib.Core.Path.{_≡_};
 ghost use Rattle.blit.specs.Blit.{finished, done, answered, left};
-ghost use Rattle.refusal.specs.Refusal.{verdictNumber};
+ghost use Rattle.refusal.specs.Refusal.{plan, verdictNumber, handed};
 use crate::types::Answer;
+use refusal::types::Plan;
 use refusal::types::Verdict;
 
-// Does a blit that nothing refuses, and answers the count of words stored.
-fn done(ram: &mut [u16], file: &mut [u16], size: u16) -> u32
+// Does a blit that nothing refuses, by its plan, and answers the count of words stored.
+fn done(ram: &mut [u16], file: &mut [u16], size: u16, by: Plan) -> u32
+    requires { ⌜ by ≡ plan (now file) size ⌝ }
     ensures { λ stored. ⌜
         left (Answer.Done stored) (now (ram .exit)) (now (file .exit))
         ≡ done (now (file .entry)) (finished (now (ram .entry)) (now (file .entry)) size) ⌝ }
 {
-    let setup = area::setup::setup(file);
-    let flow = area::flow::start(file);
-    let width = word::size::width(size);
-    let height = word::size::height(size);
-    let end = engine::rows::area_blit(ram, setup, width, height, flow);
+    let setup = by.setup;
+    let from = by.pointers;
+    let flow = area::flow::start_from(from, file);
+    let end = engine::rows::area_blit(ram, setup, by.width, by.height, flow);
     let uses = setup.uses;
-    let pointers = end.pointers;
-    let sources = end.sources;
-    crate::registers::put_pointers(file, uses, pointers);
-    crate::registers::put_sources(file, uses, sources);
-    crate::registers::put_flag(file, end.allzero);
+    crate::registers::write_back(file, uses, end);
     end.stored
 }
 
 // Does a blit, or refuses it as the verdict says.
 pub fn answered(ram: &mut [u16], file: &mut [u16], size: u16, verdict: Verdict) -> Answer
+    requires { ⌜ handed verdict (plan (now file) size) ≡ plan (now file) size ⌝ }
     ensures { λ answer. ⌜
         left answer (now (ram .exit)) (now (file .exit))
         ≡ answered (verdictNumber verdict) (now (ram .entry)) (now (file .entry)) size ⌝ }
 {
     match verdict {
         Verdict::Refused(why) => Answer::Refused(why),
-        Verdict::Lawful => {
-            let stored = done(ram, file, size);
+        Verdict::Lawful(by) => {
+            let stored = done(ram, file, size, by);
             Answer::Done(stored)
         }
     }

@@ -2,11 +2,12 @@
 ghost use mathlib.Core.Path.{_≡_};
 ghost use Prim.Native.Nat.{_<_};
 ghost use Rattle.file.specs.Places.{fileLength};
-ghost use Rattle.blit.specs.WriteBack.{putPointer, putPointers, putSource, putSources, putFlag};
+ghost use Rattle.blit.specs.WriteBack.{putPointer, putPointers, putSource, putSources, putFlag, writeBack};
+use area::types::Flow;
 use area::types::Pointers;
 use area::types::Sources;
-use area::types::Uses;
 use word::types::Pointer;
+use word::types::Uses;
 
 fn put_pointer(file: &mut [u16], used: bool, place: u32, pointer: Pointer)
     requires { ⌜ place < fileLength ⌝ }
@@ -18,17 +19,17 @@ fn put_pointer(file: &mut [u16], used: bool, place: u32, pointer: Pointer)
     }
 }
 
-pub fn put_pointers(file: &mut [u16], uses: Uses, pointers: Pointers)
+fn put_pointers(file: &mut [u16], uses: Uses, pointers: Pointers)
     ensures { λ _. ⌜ now (file .exit) ≡ putPointers uses pointers (now (file .entry)) ⌝ }
 {
     let a = pointers.a;
     let b = pointers.b;
     let c = pointers.c;
     let d = pointers.d;
-    put_pointer(file, uses.a, 8, a);
-    put_pointer(file, uses.b, 6, b);
-    put_pointer(file, uses.c, 4, c);
-    put_pointer(file, uses.d, 10, d);
+    put_pointer(file, uses.a, file::POINTER_A, a);
+    put_pointer(file, uses.b, file::POINTER_B, b);
+    put_pointer(file, uses.c, file::POINTER_C, c);
+    put_pointer(file, uses.d, file::POINTER_D, d);
 }
 
 fn put_source(file: &mut [u16], used: bool, place: u32, word: u16)
@@ -39,15 +40,15 @@ fn put_source(file: &mut [u16], used: bool, place: u32, word: u16)
     }
 }
 
-pub fn put_sources(file: &mut [u16], uses: Uses, sources: Sources)
+fn put_sources(file: &mut [u16], uses: Uses, sources: Sources)
     ensures { λ _. ⌜ now (file .exit) ≡ putSources uses sources (now (file .entry)) ⌝ }
 {
-    put_source(file, uses.a, 18, sources.a);
-    put_source(file, uses.b, 17, sources.b);
-    put_source(file, uses.c, 16, sources.c);
+    put_source(file, uses.a, file::SOURCE_A, sources.a);
+    put_source(file, uses.b, file::SOURCE_B, sources.b);
+    put_source(file, uses.c, file::SOURCE_C, sources.c);
 }
 
-pub fn put_flag(file: &mut [u16], allzero: bool)
+fn put_flag(file: &mut [u16], allzero: bool)
     ensures { λ _. ⌜ now (file .exit) ≡ putFlag allzero (now (file .entry)) ⌝ }
 {
     if allzero {
@@ -55,4 +56,14 @@ pub fn put_flag(file: &mut [u16], allzero: bool)
     } else {
         word::memory::write(file, file::FLAG, 0);
     }
+}
+
+pub fn write_back(file: &mut [u16], uses: Uses, end: Flow)
+    ensures { λ _. ⌜ now (file .exit) ≡ writeBack uses end (now (file .entry)) ⌝ }
+{
+    let pointers = end.pointers;
+    let sources = end.sources;
+    put_pointers(file, uses, pointers);
+    put_sources(file, uses, sources);
+    put_flag(file, end.allzero);
 }

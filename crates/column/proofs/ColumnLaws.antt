@@ -12,11 +12,11 @@ use Rattle.word.specs.declared.types.Direction.{Direction}
 use Rattle.word.specs.declared.types.Pointer.{Pointer}
 use Rattle.word.specs.declared.types.Fill.the-variants.{Off}
 use Rattle.word.specs.Repeat.{repeated}
-use Rattle.word.specs.Pointer.{moved}
+use Rattle.word.specs.Pointer.{moved, nextRow}
 use Rattle.word.specs.Shift.{shifted}
 use Rattle.word.specs.Logic.{logic}
 use Rattle.word.specs.Fill.{filled}
-use Rattle.word.specs.Even.{nextRow, RowsInside}
+use Rattle.word.specs.Inner.Even.{RowsInside}
 use Rattle.word.proofs.ChoiceLaws.{and-left, and-right, or-left, or-right}
 use Rattle.word.proofs.RepeatLaws.{repeated-turn}
 use Rattle.word.proofs.StrideLaws.{origin, nextRow-evenly}
@@ -107,14 +107,14 @@ module _ (setup : Setup) (two : Two) (flow : Flow) (rows : ℕ) (memory : List �
         word-is,
       )
 
-pub goes-start : (setup : Setup) (two : Two) (left : ℕ) (memory : List ℕ) (band : Band) → Goes setup two left memory band left memory band
+pub goes-start : (setup : Setup) (two : Two) (remaining : ℕ) (memory : List ℕ) (band : Band) → Goes setup two remaining memory band remaining memory band
 unfolding Goes
-goes-start setup two left memory band flow folds =
-    let none : left - left ≡ 0 = omega arith in
-    ap (λ (done : ℕ). rows setup 1 left (state memory (columnAt setup flow done band))) none
+goes-start setup two remaining memory band flow folds =
+    let none : remaining - remaining ≡ 0 = omega arith in
+    ap (λ (done : ℕ). rows setup 1 remaining (state memory (columnAt setup flow done band))) none
 
-pub goes-turn : (setup : Setup) (two : Two) (left whole : ℕ) (memory begins : List ℕ) (band after start : Band) (a toA toD : ℕ)
-    → Column setup → 0 < left → left ≤ whole
+pub goes-turn : (setup : Setup) (two : Two) (remaining whole : ℕ) (memory begins : List ℕ) (band after start : Band) (a toA toD : ℕ)
+    → Column setup → 0 < remaining → remaining ≤ whole
     → band .a < 262144 → band .d < 262144
     → toA ≡ nextRow (setup .direction) 1 (setup .modulos .a) origin .word
     → toD ≡ nextRow (setup .direction) 1 (setup .modulos .d) origin .word
@@ -123,28 +123,28 @@ pub goes-turn : (setup : Setup) (two : Two) (left whole : ℕ) (memory begins : 
     → after .source ≡ a → after .earlier ≡ maskedOf setup true true a
     → after .word ≡ folded two (shifted (setup .direction) (setup .shifts .a) (band .earlier) (maskedOf setup true true a))
     → after .any ≡ bitOr (band .any) (after .word) → after .place ≡ band .d
-    → Goes setup two left memory band whole begins start
-    → Goes setup two (left - 1) (set memory (band .place) (band .word)) after whole begins start
+    → Goes setup two remaining memory band whole begins start
+    → Goes setup two (remaining - 1) (set memory (band .place) (band .word)) after whole begins start
 unfolding Goes
-goes-turn setup two left whole memory begins band after start a toA toD column more most small-a small-d strides-a strides-d reads goes-a goes-d source earlier word any place goes flow folds =
-    let done : whole - (left - 1) ≡ suc (whole - left) = omega arith in
-    ap (λ (done : ℕ). rows setup 1 (left - 1) (state (set memory (band .place) (band .word)) (columnAt setup flow done after))) done
-    ∙ repeated-turn (λ _. oneRow setup 1) left (state memory (columnAt setup flow (whole - left) band))
-    (state (set memory (band .place) (band .word)) (columnAt setup flow (suc (whole - left)) after))
+goes-turn setup two remaining whole memory begins band after start a toA toD column more most small-a small-d strides-a strides-d reads goes-a goes-d source earlier word any place goes flow folds =
+    let done : whole - (remaining - 1) ≡ suc (whole - remaining) = omega arith in
+    ap (λ (done : ℕ). rows setup 1 (remaining - 1) (state (set memory (band .place) (band .word)) (columnAt setup flow done after))) done
+    ∙ repeated-turn (λ _. oneRow setup 1) remaining (state memory (columnAt setup flow (whole - remaining) band))
+    (state (set memory (band .place) (band .word)) (columnAt setup flow (suc (whole - remaining)) after))
     (rows setup 1 whole (state begins (columnAt setup flow 0 start))) more
-    (column-row setup two flow (whole - left) memory band after a toA toD column folds small-a small-d strides-a strides-d reads goes-a goes-d source earlier word any place)
+    (column-row setup two flow (whole - remaining) memory band after a toA toD column folds small-a small-d strides-a strides-d reads goes-a goes-d source earlier word any place)
     (goes flow folds)
 
 -- A and D stay inside
-module _ (n modulo left at to next : ℕ) (direction : Direction) where
-  pub inside-turn : 0 < left → at < 262144 → to ≡ nextRow direction 1 modulo origin .word → next ≡ (at + to) % 262144
-      → RowsInside n direction 1 modulo left (record { word = at }) → RowsInside n direction 1 modulo (left - 1) (record { word = next })
+module _ (n modulo remaining at to next : ℕ) (direction : Direction) where
+  pub inside-turn : 0 < remaining → at < 262144 → to ≡ nextRow direction 1 modulo origin .word → next ≡ (at + to) % 262144
+      → RowsInside n direction 1 modulo remaining (record { word = at }) → RowsInside n direction 1 modulo (remaining - 1) (record { word = next })
   inside-turn more small strides goes inside =
-      RowsInside-turn n direction 1 modulo left (record { word = at }) (record { word = next }) more
+      RowsInside-turn n direction 1 modulo remaining (record { word = at }) (record { word = next }) more
       (ap (λ (word : ℕ). record { word = word }) (goes ∙ next-place direction modulo at to small strides)) inside
 
-  pub inside-now : 0 < left → RowsInside n direction 1 modulo left (record { word = at }) → at < n
-  inside-now more inside = RowsInside-lt n direction 1 modulo left (record { word = at }) more (omega arith) inside
+  pub inside-now : 0 < remaining → RowsInside n direction 1 modulo remaining (record { word = at }) → at < n
+  inside-now more inside = RowsInside-lt n direction 1 modulo remaining (record { word = at }) more (omega arith) inside
 
 -- the whole column
 module _ (setup : Setup) (two : Two) (n height : ℕ) (flow : Flow) (stands : Stands n setup height flow) where
@@ -198,17 +198,17 @@ pub ended-is : (setup : Setup) (height : ℕ) (flow after : Flow) (band : Band)
 unfolding columnAt
 ended-is setup height flow after band is = is
 
-pub place-inside : (n modulo left at next : ℕ) (direction : Direction) → 0 < left → RowsInside n direction 1 modulo left (record { word = at })
+pub place-inside : (n modulo remaining at next : ℕ) (direction : Direction) → 0 < remaining → RowsInside n direction 1 modulo remaining (record { word = at })
     → next ≡ at → next < n
-place-inside n modulo left at next direction more inside is = rw is (inside-now n modulo left at at at direction more inside)
+place-inside n modulo remaining at next direction more inside is = rw is (inside-now n modulo remaining at at at direction more inside)
 
 pub round-lt : (next at to : ℕ) → next ≡ (at + to) % 262144 → next < 262144
 round-lt next at to is = rw is (omega arith)
 
-pub goes-end : (setup : Setup) (two : Two) (left whole : ℕ) (memory begins : List ℕ) (band start : Band) → left ≤ 0
-    → Goes setup two left memory band whole begins start → Goes setup two 0 memory band whole begins start
+pub goes-end : (setup : Setup) (two : Two) (remaining whole : ℕ) (memory begins : List ℕ) (band start : Band) → remaining ≤ 0
+    → Goes setup two remaining memory band whole begins start → Goes setup two 0 memory band whole begins start
 goes-end setup two zero whole memory begins band start none goes = goes
-goes-end setup two (suc left) whole memory begins band start none goes = absurd (omega arith)
+goes-end setup two (suc remaining) whole memory begins band start none goes = absurd (omega arith)
 
 -- what the tests of a column tell
 pub column-told : (setup : Setup) (width : ℕ) (told : Bool) → ((eqb width 1 && setup .uses .a) && setup .uses .d) ≡ true

@@ -5,7 +5,7 @@ use mathlib.Core.Bool.{true, false, _&&_}
 use mathlib.Core.List.{List}
 use lib.Dec.{eqb}
 use Rattle.word.specs.declared.types.Fill.the-variants.{Off}
-use Rattle.word.specs.Even.{RowsInside}
+use Rattle.word.specs.Inner.Even.{RowsInside}
 use Rattle.area.specs.declared.types.Setup.{Setup}
 use Rattle.area.specs.declared.types.Flow.{Flow}
 use Rattle.area.specs.Flow.{state}
@@ -45,11 +45,11 @@ begun flow =
     }
 
 -- what is left of a column from here gives what the whole gives
-unfoldable pub Goes : Setup → Two → (left : ℕ) → (memory : List ℕ) → Band → (whole : ℕ) → (begins : List ℕ) → Band → Type 0
-Goes setup two left memory band whole begins start =
+unfoldable pub Goes : Setup → Two → (remaining : ℕ) → (memory : List ℕ) → Band → (whole : ℕ) → (begins : List ℕ) → Band → Type 0
+Goes setup two remaining memory band whole begins start =
     (flow : Flow)
     → Folds setup two (flow .sources .b) (flow .sources .c)
-    → rows setup 1 left (state memory (columnAt setup flow (whole - left) band))
+    → rows setup 1 remaining (state memory (columnAt setup flow (whole - remaining) band))
     ≡ rows setup 1 whole (state begins (columnAt setup flow 0 start))
 
 -- a word waits inside memory, B's earlier word is B, and the carry is the carry in

@@ -7,7 +7,7 @@ ghost use Prim.Native.Nat.{_+_, _%_, _<_, _≤_};
 ghost use lib.Bits.{bitOr};
 ghost use lib.ListN.{length};
 ghost use Rattle.word.specs.Shift.{shifted};
-ghost use Rattle.word.specs.Even.{RowsInside};
+ghost use Rattle.word.specs.Inner.Even.{RowsInside};
 ghost use Rattle.area.specs.Flow.{state};
 ghost use Rattle.area.specs.Rows.{rows};
 ghost use Rattle.straight.specs.Line.{maskedOf};
@@ -116,14 +116,14 @@ fn bands(ram: &mut [u16], setup: Setup, two: Two, rows: u32, start: Band) -> Ban
     let far_a = word::even::stride(direction, 1, setup.modulos.a) as usize;
     let far_d = word::even::stride(direction, 1, setup.modulos.d) as usize;
     let mut band = start;
-    let mut left = rows;
-    while 0 < left {
+    let mut remaining = rows;
+    while 0 < remaining {
         let at = band.a;
         let a = ram[at];
         let place = band.place;
         ram[place] = band.word;
         band = next(setup, two, a, far_a, far_d, band);
-        left = left - 1;
+        remaining = remaining - 1;
     }
     band
 }

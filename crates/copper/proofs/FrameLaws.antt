@@ -13,7 +13,7 @@ use Rattle.word.proofs.ChoiceLaws.{or-right}
 use Rattle.file.specs.File.{accepted}
 use Rattle.beam.specs.Beam.{frameEnd}
 use Rattle.refusal.specs.declared.types.Refusal as blits
-use Rattle.refusal.specs.Refusal.{memorySize}
+use Rattle.word.specs.Memory.{memorySize}
 use Rattle.refusal.proofs.RefusalLaws.{refusal-is-some}
 use Rattle.instruction.specs.declared.types.Refusal.{Refusal}
 use Rattle.instruction.specs.declared.types.Taken.{Taken}

@@ -9,7 +9,7 @@ use lib.ListN.{length}
 use Rattle.word.specs.Choice.{if_then_else_, Rule, _when_, given}
 use Rattle.file.specs.File.{accepted}
 use Rattle.beam.specs.Beam.{frameEnd}
-use Rattle.refusal.specs.Refusal.{memorySize}
+use Rattle.word.specs.Memory.{memorySize}
 use Rattle.instruction.specs.Effect.{Machine, machine, effect}
 
 -- why a frame stopped

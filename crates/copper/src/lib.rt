@@ -28,7 +28,7 @@ pub fn frame_from(ram: &mut [u16], file: &mut [u16], beam: u32, start: u32, lent
         left answer (now (ram .exit)) (now (file .exit))
         ≡ frameFrom (now (ram .entry)) (now (file .entry)) beam start lent ⌝ }
 {
-    let bad = refusal::memory_size(ram.len());
+    let bad = word::memory::memory_size(ram.len());
     let fine = file::accepted(file);
     if bad {
         return refused_at_start(refusal::types::Refusal::MemorySize, beam);

@@ -9,10 +9,8 @@ use borrow.Author.Tests.{eq-eqb, ne-eqb, eqb-true}
 use lib.Dec.{eqb}
 use lib.ListN.{length}
 use Rattle.word.specs.Choice.{if_then_else_, given}
-use Rattle.word.specs.Word.{SixteenBits}
 use Rattle.file.specs.File.{accepted}
-use Rattle.blit.specs.AcceptedAgain.{Ready}
-use Rattle.refusal.specs.Refusal.{memorySize}
+use Rattle.word.specs.Memory.{memorySize}
 use Rattle.instruction.specs.Effect.{Machine, machine, effect}
 use Rattle.copper.specs.Frame.{endOfFrame, usedUp, refusal, Frame, stopped, over, onward, startRefusal, frameFrom}
 use Rattle.copper_facts.specs.Course.{after}

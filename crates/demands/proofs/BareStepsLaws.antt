@@ -39,9 +39,7 @@ stepsFrom-is-placedFrom zero at to (first ∷ rest) inside whole =
         ∙ ap (λ (place : ℕ). placedFrom place (bareSteps (stepsFrom (operands step) (at + 1) rest))) same)
         ∙ ap (λ (place : ℕ). placedFrom place (step ∷ bareSteps (stepsFrom (operands step) (at + 1) rest))) (sym (add-zero to))
     by-read Read.End reads whole later = let n : _≡_ {A = ℕ} 0 1 = cc in absurd (omega arith)
-    by-read Read.NoStep reads whole later = let n : _≡_ {A = ℕ} 0 1 = cc in absurd (omega arith)
-    by-read Read.CutOff reads whole later = let n : _≡_ {A = ℕ} 0 1 = cc in absurd (omega arith)
-    by-read Read.OddStore reads whole later = let n : _≡_ {A = ℕ} 0 1 = cc in absurd (omega arith)
+    by-read (Read.Refused why) reads whole later = let n : _≡_ {A = ℕ} 0 1 = cc in absurd (omega arith)
 stepsFrom-is-placedFrom (suc skip) at to (word ∷ rest) inside whole =
     let same : to + 1 + skip ≡ to + suc skip = omega arith in
     stepsFrom-is-placedFrom skip (at + 1) (to + 1) rest (omega arith) whole
@@ -61,9 +59,7 @@ bareSteps-of-append (one ∷ first) rest = by-read (one .read) (bareSteps-of-app
         → bareStep read ++ bareSteps (first ++ rest) ≡ (bareStep read ++ bareSteps first) ++ bareSteps rest
     by-read (Read.Step step next) later = ap (λ (others : List Step). step ∷ others) later
     by-read Read.End later = later
-    by-read Read.NoStep later = later
-    by-read Read.CutOff later = later
-    by-read Read.OddStore later = later
+    by-read (Read.Refused why) later = later
 
 faultless-of-append : (first rest : List Placed) → faultless first ≡ true → faultless rest ≡ true → faultless (first ++ rest) ≡ true
 unfolding faultless

@@ -14,8 +14,9 @@ use Rattle.file.specs.File.{accepted}
 use Rattle.file.specs.Places.{blitterLength, pointerD, flag, fileLength}
 use Rattle.file.proofs.FileLaws.{accepted-has-length}
 use Rattle.area.specs.Setup.{setup}
-use Rattle.refusal.specs.Refusal.{memorySize, stepRefusal}
-use Rattle.blit.specs.Blit.{refused, blitStep}
+use Rattle.refusal.specs.Refusal.{stepRefusal}
+use Rattle.word.specs.Memory.{memorySize}
+use Rattle.blit.specs.Blit.{blitStep}
 use Rattle.job.specs.declared.types.Step.{Step}
 use Rattle.job.specs.declared.types.Read.{Read}
 use Rattle.job.specs.Step.{operands, found, front}

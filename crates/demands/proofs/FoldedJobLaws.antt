@@ -9,7 +9,7 @@ use lib.Dec.{eqb, leb}
 use lib.ListN.{length, take, drop}
 use lib.Seq.{take-append-seam}
 use Rattle.word.specs.Choice.{if_then_else_, given}
-use Rattle.refusal.specs.Refusal.{memorySize}
+use Rattle.word.specs.Memory.{memorySize}
 use Rattle.job.specs.Step.{readNumber}
 use Rattle.job.specs.Steps.{Placed, steps}
 use Rattle.runner.specs.Run.{jobLength}

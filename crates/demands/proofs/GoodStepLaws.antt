@@ -37,8 +37,8 @@ begun-elsewhere (Kind.Store high) at to (low ∷ []) step next reads = let n : _
 begun-elsewhere (Kind.Store high) at to (low ∷ value ∷ rest) step next reads = by-test (isOdd low) reads
   where
     by-test : (odd : Bool)
-        → (if odd then Read.OddStore else found at (Step.Store (pointer high low .word) value)) ≡ Read.Step step next
-        → (if odd then Read.OddStore else found to (Step.Store (pointer high low .word) value)) ≡ found to step
+        → (if odd then Read.Refused Refusal.OddStore else found at (Step.Store (pointer high low .word) value)) ≡ Read.Step step next
+        → (if odd then Read.Refused Refusal.OddStore else found to (Step.Store (pointer high low .word) value)) ≡ found to step
     by-test true wrong = let n : _≡_ {A = ℕ} 0 1 = cc in absurd (omega arith)
     by-test false is = let same : Step.Store (pointer high low .word) value ≡ step = cc in ap (found to) same
 begun-elsewhere (Kind.Flag flag) at to rest step next reads =
@@ -83,9 +83,7 @@ good-front job at first rest (Read.Step step next) here reads none =
           ∙ front-elsewhere at to first (take (operands step) rest) step next (front-of-take at (operands step) first rest step next reads (le-refl (operands step)));
     }
 good-front job at first rest Read.End here reads none = absurd (front-is-some at first rest reads)
-good-front job at first rest Read.NoStep here reads none = absurd (omega arith)
-good-front job at first rest Read.CutOff here reads none = absurd (omega arith)
-good-front job at first rest Read.OddStore here reads none = absurd (omega arith)
+good-front job at first rest (Read.Refused why) here reads none = absurd (omega arith)
 
 pub steps-are-good : (job : List ℕ) (skip at : ℕ) (words : List ℕ) → drop at job ≡ words → Clean (stepsFrom skip at words)
     → Good job (stepsFrom skip at words)

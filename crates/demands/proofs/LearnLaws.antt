@@ -7,10 +7,12 @@ use mathlib.Core.List.{List}
 use lib.ListN.{length, length-set}
 use Rattle.word.specs.Choice.{if_then_else_}
 use Rattle.file.specs.Places.{blitterLength, control0, pointerA, pointerB, pointerC, pointerD, sourceA, sourceB, sourceC}
-use Rattle.area.specs.declared.types.Uses.{Uses}
+use Rattle.word.specs.declared.types.Uses.{Uses}
 use Rattle.area.specs.declared.types.Pointers.{Pointers}
 use Rattle.area.specs.declared.types.Sources.{Sources}
-use Rattle.area.specs.Setup.{con0, uses, setup}
+use Rattle.area.specs.Setup.{setup}
+use Rattle.file.specs.File.{con0}
+use Rattle.word.specs.Control.{uses}
 use Rattle.area.specs.Flow.{start}
 use Rattle.refusal.specs.Refusal.{stepRefusal}
 use Rattle.blit.specs.WriteBack.{putPointer, putPointers, putSource, putSources, putFlag}

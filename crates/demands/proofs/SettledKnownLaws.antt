@@ -10,8 +10,10 @@ use lib.ListN.{length, getD}
 use Rattle.word.specs.Size.{height, width}
 use Rattle.word.proofs.ChoiceLaws.{and-left, and-right}
 use Rattle.file.specs.Places.{blitterLength, control0, control1, firstMask, lastMask, pointerD, moduloD, sourceA, sourceB, sourceC}
-use Rattle.area.specs.declared.types.Uses.{Uses}
-use Rattle.area.specs.Setup.{con0, uses, function, setup}
+use Rattle.word.specs.declared.types.Uses.{Uses}
+use Rattle.area.specs.Setup.{setup}
+use Rattle.file.specs.File.{con0}
+use Rattle.word.specs.Control.{uses, function}
 use Rattle.refusal.specs.Refusal.{stepRefusal}
 use Rattle.depends.specs.Depends.{counts}
 use Rattle.knowledge.specs.declared.types.Known.{Known}

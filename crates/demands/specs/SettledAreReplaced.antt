@@ -20,9 +20,7 @@ use Rattle.demands.specs.DemandThree.{FolderAccepts, foldedJob}
 unfoldable pub bareStep : Read → List Step
 bareStep (Read.Step step next) = step ∷ []
 bareStep Read.End = []
-bareStep Read.NoStep = []
-bareStep Read.CutOff = []
-bareStep Read.OddStore = []
+bareStep (Read.Refused why) = []
 
 unfoldable pub bareSteps : List Placed → List Step
 bareSteps [] = []

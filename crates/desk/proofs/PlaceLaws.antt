@@ -10,7 +10,7 @@ use borrow.Author.Tests.{eq-eqb, ne-eqb}
 use lib.Dec.{eqb}
 use lib.ListN.{length}
 use Rattle.word.specs.Choice.{if_then_else_, _when_, given}
-use Rattle.refusal.specs.Refusal.{memorySize}
+use Rattle.word.specs.Memory.{memorySize}
 use Rattle.job.specs.Step.{front, readNumber}
 use Rattle.job.specs.Steps.{Placed, following, stepsFrom, steps}
 use Rattle.runner.specs.Run.{Machine, machine, effectOn, after, End, ended, runSteps, jobLength, startRefusal, run}

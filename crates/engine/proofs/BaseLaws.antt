@@ -86,7 +86,7 @@ module _ (setup : Setup) (width : ℕ) (memory stored : List ℕ) (flow start ba
       ∙ ap (λ (flow : Flow). words setup width width (storePending (state memory flow))) starts
       ∙ early width more (state memory (withCarry (setup .carry) flow)) (taken .1)
     where
-      early : (left : ℕ) → 2 ≤ left → (now : State) → Clear (setup .uses) (now .flow .pending) (now .flow .pointers)
-          → words setup width left (storePending now) ≡ words setup width left now
+      early : (remaining : ℕ) → 2 ≤ remaining → (now : State) → Clear (setup .uses) (now .flow .pending) (now .flow .pointers)
+          → words setup width remaining (storePending now) ≡ words setup width remaining now
       early zero more now clear = absurd (omega arith)
-      early (suc left) more now clear = words-early setup width left now clear
+      early (suc remaining) more now clear = words-early setup width remaining now clear

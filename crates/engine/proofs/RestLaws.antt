@@ -23,22 +23,22 @@ use Rattle.straight.proofs.EarlyLaws.{fetched-unused}
 use Rattle.straight.proofs.SetsLaws.{at-least-two, rest-c}
 
 module _ (setup : Setup) (width : ℕ) where
-  word-keeps-b : setup .uses .b ≡ false → (left : ℕ) (now : State) → oneWord setup width left now .flow .sources .b ≡ now .flow .sources .b
+  word-keeps-b : setup .uses .b ≡ false → (remaining : ℕ) (now : State) → oneWord setup width remaining now .flow .sources .b ≡ now .flow .sources .b
   unfolding oneWord storedBefore storePending wait moveOn finishedWord finish fetch
-  word-keeps-b off left now = fetched-unused (setup .uses .b) (now .memory) (now .flow .pointers .b) (now .flow .sources .b) off
+  word-keeps-b off remaining now = fetched-unused (setup .uses .b) (now .memory) (now .flow .pointers .b) (now .flow .sources .b) off
 
-  word-keeps-c : setup .uses .c ≡ false → (left : ℕ) (now : State) → oneWord setup width left now .flow .sources .c ≡ now .flow .sources .c
+  word-keeps-c : setup .uses .c ≡ false → (remaining : ℕ) (now : State) → oneWord setup width remaining now .flow .sources .c ≡ now .flow .sources .c
   unfolding oneWord storedBefore storePending wait moveOn finishedWord finish fetch
-  word-keeps-c off left now = fetched-unused (setup .uses .c) (now .memory) (now .flow .pointers .c) (now .flow .sources .c) off
+  word-keeps-c off remaining now = fetched-unused (setup .uses .c) (now .memory) (now .flow .pointers .c) (now .flow .sources .c) off
 
-  word-earlier-b : setup .uses .b ≡ false → (left : ℕ) (now : State) → oneWord setup width left now .flow .earlier .b ≡ now .flow .sources .b
+  word-earlier-b : setup .uses .b ≡ false → (remaining : ℕ) (now : State) → oneWord setup width remaining now .flow .earlier .b ≡ now .flow .sources .b
   unfolding oneWord storedBefore storePending wait moveOn finishedWord finish fetch
-  word-earlier-b off left now = fetched-unused (setup .uses .b) (now .memory) (now .flow .pointers .b) (now .flow .sources .b) off
+  word-earlier-b off remaining now = fetched-unused (setup .uses .b) (now .memory) (now .flow .pointers .b) (now .flow .sources .b) off
 
-  words-earlier-b : setup .uses .b ≡ false → (left : ℕ) (now : State) → words setup width (suc left) now .flow .earlier .b ≡ now .flow .sources .b
+  words-earlier-b : setup .uses .b ≡ false → (remaining : ℕ) (now : State) → words setup width (suc remaining) now .flow .earlier .b ≡ now .flow .sources .b
   unfolding repeated
   words-earlier-b off zero now = word-earlier-b off zero now
-  words-earlier-b off (suc left) now = words-earlier-b off left (oneWord setup width (suc left) now) ∙ word-keeps-b off (suc left) now
+  words-earlier-b off (suc remaining) now = words-earlier-b off remaining (oneWord setup width (suc remaining) now) ∙ word-keeps-b off (suc remaining) now
 
   -- after a row B and C are as they were, and B's earlier word is B
   module _ (memory after : List ℕ) (flow end next : Flow) (off : setup .uses .b ≡ false) (known : Known setup width)
@@ -59,9 +59,9 @@ module _ (setup : Setup) (width : ℕ) where
     row-earlier = ap (λ (flow : Flow). flow .earlier .b) turns ∙ ap (λ (now : State). now .flow .earlier .b) does
         ∙ some width (at-least-two setup width known)
       where
-        some : (left : ℕ) → 2 ≤ left → words setup width left (rowStart setup (state memory flow)) .flow .earlier .b ≡ flow .sources .b
+        some : (remaining : ℕ) → 2 ≤ remaining → words setup width remaining (rowStart setup (state memory flow)) .flow .earlier .b ≡ flow .sources .b
         some zero more = absurd (omega arith)
-        some (suc left) more = words-earlier-b off left (rowStart setup (state memory flow))
+        some (suc remaining) more = words-earlier-b off remaining (rowStart setup (state memory flow))
 
   pub ready-on : (two : Two) (memory after : List ℕ) (flow end next : Flow) → Known setup width → Ready setup two flow
       → state after end ≡ words setup width width (rowStart setup (state memory flow))
@@ -79,15 +79,15 @@ known-small n width setup told known both =
     (known (and-left told (leb n 262144) both), leb→le n 262144 (subst T (sym (and-right told (leb n 262144) both)) tt))
 
 -- one row of those left
-pub one-row-turn : (setup : Setup) (width left : ℕ) (memory after : List ℕ) (flow next : Flow) (whole : State) → 0 < left
-    → state after next ≡ oneRow setup width (state memory flow) → rows setup width left (state memory flow) ≡ whole
-    → rows setup width (left - 1) (state after next) ≡ whole
-one-row-turn setup width left memory after flow next whole more does here = repeated-turn (λ _. oneRow setup width) left (state memory flow) (state after next) whole more does here
+pub one-row-turn : (setup : Setup) (width remaining : ℕ) (memory after : List ℕ) (flow next : Flow) (whole : State) → 0 < remaining
+    → state after next ≡ oneRow setup width (state memory flow) → rows setup width remaining (state memory flow) ≡ whole
+    → rows setup width (remaining - 1) (state after next) ≡ whole
+one-row-turn setup width remaining memory after flow next whole more does here = repeated-turn (λ _. oneRow setup width) remaining (state memory flow) (state after next) whole more does here
 
-pub one-row-room : (setup : Setup) (width left : ℕ) (memory after : List ℕ) (flow next : Flow) → 0 < left → width ≤ 64
-    → state after next ≡ oneRow setup width (state memory flow) → flow .stored + left * 64 < 4294967296
-    → next .stored + (left - 1) * 64 < 4294967296
-one-row-room setup width left memory after flow next more narrow does room =
+pub one-row-room : (setup : Setup) (width remaining : ℕ) (memory after : List ℕ) (flow next : Flow) → 0 < remaining → width ≤ 64
+    → state after next ≡ oneRow setup width (state memory flow) → flow .stored + remaining * 64 < 4294967296
+    → next .stored + (remaining - 1) * 64 < 4294967296
+one-row-room setup width remaining memory after flow next more narrow does room =
     let count : next .stored ≤ flow .stored + width =
     rw (ap (λ (now : State). now .flow .stored) does) (oneRow-counts setup width (state memory flow)) in
     omega arith
@@ -97,27 +97,27 @@ pub known-kept : (n m width : ℕ) (setup : Setup) (told : Bool) → n ≡ m →
 known-kept n m width setup told same known is = (known is .0, rw same (known is .1))
 
 -- where what is left gives what the whole gives, so does what is left after some rows of it, and after some more
-pub rest-onward : (setup : Setup) (width height left more : ℕ) (memory begun after : List ℕ) (flow here next : Flow)
-    → rows setup width left (state begun here) ≡ rows setup width height (state memory flow)
-    → rows setup width more (state after next) ≡ rows setup width left (state begun here)
+pub rest-onward : (setup : Setup) (width height remaining more : ℕ) (memory begun after : List ℕ) (flow here next : Flow)
+    → rows setup width remaining (state begun here) ≡ rows setup width height (state memory flow)
+    → rows setup width more (state after next) ≡ rows setup width remaining (state begun here)
     → rows setup width more (state after next) ≡ rows setup width height (state memory flow)
-rest-onward setup width height left more memory begun after flow here next begins does = does ∙ begins
+rest-onward setup width height remaining more memory begun after flow here next begins does = does ∙ begins
 
-pub rest-onward-twice : (setup : Setup) (width height left one more : ℕ) (memory begun between after : List ℕ)
+pub rest-onward-twice : (setup : Setup) (width height remaining one more : ℕ) (memory begun between after : List ℕ)
     (flow here later next : Flow)
-    → rows setup width left (state begun here) ≡ rows setup width height (state memory flow)
-    → rows setup width one (state between later) ≡ rows setup width left (state begun here)
+    → rows setup width remaining (state begun here) ≡ rows setup width height (state memory flow)
+    → rows setup width one (state between later) ≡ rows setup width remaining (state begun here)
     → rows setup width more (state after next) ≡ rows setup width one (state between later)
     → rows setup width more (state after next) ≡ rows setup width height (state memory flow)
-rest-onward-twice setup width height left one more memory begun between after flow here later next begins some others =
+rest-onward-twice setup width height remaining one more memory begun between after flow here later next begins some others =
     others ∙ some ∙ begins
 
 -- all rows, the first of them straight
-pub rest-done : (setup : Setup) (width height left : ℕ) (memory begun after : List ℕ) (flow here end : Flow)
-    → rows setup width left (state begun here) ≡ rows setup width height (state memory flow)
-    → state after end ≡ rows setup width left (state begun here)
+pub rest-done : (setup : Setup) (width height remaining : ℕ) (memory begun after : List ℕ) (flow here end : Flow)
+    → rows setup width remaining (state begun here) ≡ rows setup width height (state memory flow)
+    → state after end ≡ rows setup width remaining (state begun here)
     → state after end ≡ rows setup width height (state memory flow)
-rest-done setup width height left memory begun after flow here end begins does = does ∙ begins
+rest-done setup width height remaining memory begun after flow here end begins does = does ∙ begins
 
 -- the first row of a column, and the others
 module _ (setup : Setup) (width height : ℕ) (memory begun : List ℕ) (flow first : Flow) (narrow : width ≡ 1) (some : 0 < height)

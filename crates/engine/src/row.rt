@@ -107,7 +107,7 @@ pub fn row(ram: &mut [u16], setup: Setup, two: Two, width: u32, flow: Flow) -> F
         state (now (ram .exit)) after
         ≡ words setup width width (rowStart setup (state (now (ram .entry)) flow)) ⌝ }
 {
-    let start = by_word::row_start(setup, flow);
+    let start = area::rows::row_start(setup, flow);
     let base = area::store::store_pending(ram, start);
     let end = by_set(ram, setup, two, width - 1, base);
     ended(setup, width - 1, base, end)

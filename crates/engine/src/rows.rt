@@ -5,7 +5,7 @@ ghost use Prim.Native.Nat.{_+_, _*_, _<_, _≤_};
 ghost use lib.ListN.{length};
 ghost use Rattle.area.specs.Flow.{state};
 ghost use Rattle.area.specs.Rows.{oneRow, rows, areaBlit};
-ghost use Rattle.area.specs.Left.{Left};
+ghost use Rattle.area.specs.Inner.GoesOn.{GoesOn};
 ghost use Rattle.straight.specs.Fits.{Taken};
 ghost use Rattle.straight.specs.Sets.{Known, Ready};
 ghost use Rattle.column.specs.Column.{Column};
@@ -30,18 +30,25 @@ fn one_row(ram: &mut [u16], setup: Setup, two: Two, width: u32, flow: Flow) -> F
 }
 
 // Rows as long as they fit. What is left after them is what was left before.
-fn straight_rows(ram: &mut [u16], setup: Setup, two: Two, width: u32, left: u32, flow: Flow) -> Rest
+fn straight_rows(
+    ram: &mut [u16],
+    setup: Setup,
+    two: Two,
+    width: u32,
+    remaining: u32,
+    flow: Flow,
+) -> Rest
     requires { ⌜ (setup .shifts .a < 16) × (setup .shifts .b < 16) × (width ≤ 64) × (length (now ram) ≤ 262144)
-        × (flow .stored + left * 64 < 4294967296) × Known setup width × Ready setup two flow ⌝ }
-    ensures { λ rest. ⌜ (rest .left ≤ left)
-        × Left setup width (now (ram .exit)) rest left (now (ram .entry)) flow ⌝ }
+        × (flow .stored + remaining * 64 < 4294967296) × Known setup width × Ready setup two flow ⌝ }
+    ensures { λ rest. ⌜ (rest .remaining ≤ remaining)
+        × GoesOn setup width (now (ram .exit)) rest remaining (now (ram .entry)) flow ⌝ }
 {
     let mut here = flow;
-    let mut more = left;
+    let mut more = remaining;
     while 0 < more {
         if !straight::fits::fits(ram.len(), setup, width, here) {
             return Rest {
-                left: more,
+                remaining: more,
                 flow: here,
             };
         }
@@ -49,66 +56,80 @@ fn straight_rows(ram: &mut [u16], setup: Setup, two: Two, width: u32, left: u32,
         more = more - 1;
     }
     Rest {
-        left: more,
+        remaining: more,
         flow: here,
     }
 }
 
 // The straight rows from here, if B rests.
-fn fast_rows(ram: &mut [u16], setup: Setup, width: u32, left: u32, flow: Flow) -> Rest
+fn fast_rows(ram: &mut [u16], setup: Setup, width: u32, remaining: u32, flow: Flow) -> Rest
     requires { ⌜ (setup .shifts .a < 16) × (setup .shifts .b < 16) × (width ≤ 64) × (length (now ram) ≤ 262144)
-        × (flow .stored + left * 64 < 4294967296) × Known setup width ⌝ }
-    ensures { λ rest. ⌜ (rest .left ≤ left)
-        × Left setup width (now (ram .exit)) rest left (now (ram .entry)) flow ⌝ }
+        × (flow .stored + remaining * 64 < 4294967296) × Known setup width ⌝ }
+    ensures { λ rest. ⌜ (rest .remaining ≤ remaining)
+        × GoesOn setup width (now (ram .exit)) rest remaining (now (ram .entry)) flow ⌝ }
 {
     let two = straight::fold::two(setup, flow);
     if straight::sets::ready(setup, two, flow) {
-        return straight_rows(ram, setup, two, width, left, flow);
+        return straight_rows(ram, setup, two, width, remaining, flow);
     }
-    Rest { left, flow }
+    Rest { remaining, flow }
 }
 
 // Rows word by word, up to the first after which one may fit again. A copy to a word ahead has none.
-fn plain_rows(ram: &mut [u16], known: bool, setup: Setup, width: u32, left: u32, flow: Flow) -> Rest
-    requires { ⌜ (setup .shifts .a < 16) × (setup .shifts .b < 16) × (0 < left) × (width ≤ 64)
-        × (flow .stored + left * 64 < 4294967296) ⌝ }
-    ensures { λ rest. ⌜ (rest .left < left)
-        × Left setup width (now (ram .exit)) rest left (now (ram .entry)) flow ⌝ }
+fn plain_rows(
+    ram: &mut [u16],
+    known: bool,
+    setup: Setup,
+    width: u32,
+    remaining: u32,
+    flow: Flow,
+) -> Rest
+    requires { ⌜ (setup .shifts .a < 16) × (setup .shifts .b < 16) × (0 < remaining) × (width ≤ 64)
+        × (flow .stored + remaining * 64 < 4294967296) ⌝ }
+    ensures { λ rest. ⌜ (rest .remaining < remaining)
+        × GoesOn setup width (now (ram .exit)) rest remaining (now (ram .entry)) flow ⌝ }
 {
     let mut here = flow;
-    let mut more = left;
+    let mut more = remaining;
     while 0 < more {
         let one = by_word::some_rows(ram, setup, width, more, here);
-        more = one.left;
+        more = one.remaining;
         here = one.flow;
         if known {
             let direction = setup.direction;
             if straight::fits::apart(direction, here.pointers.d.word, here.pointers.a.word) {
                 return Rest {
-                    left: more,
+                    remaining: more,
                     flow: here,
                 };
             }
         }
     }
     Rest {
-        left: more,
+        remaining: more,
         flow: here,
     }
 }
 
 // The straight rows from here, if the set is known.
-fn some_rows(ram: &mut [u16], known: bool, setup: Setup, width: u32, left: u32, flow: Flow) -> Rest
+fn some_rows(
+    ram: &mut [u16],
+    known: bool,
+    setup: Setup,
+    width: u32,
+    remaining: u32,
+    flow: Flow,
+) -> Rest
     requires { ⌜ (setup .shifts .a < 16) × (setup .shifts .b < 16) × (width ≤ 64)
-        × (flow .stored + left * 64 < 4294967296)
+        × (flow .stored + remaining * 64 < 4294967296)
         × (known ≡ true → Known setup width × (length (now ram) ≤ 262144)) ⌝ }
-    ensures { λ rest. ⌜ (rest .left ≤ left)
-        × Left setup width (now (ram .exit)) rest left (now (ram .entry)) flow ⌝ }
+    ensures { λ rest. ⌜ (rest .remaining ≤ remaining)
+        × GoesOn setup width (now (ram .exit)) rest remaining (now (ram .entry)) flow ⌝ }
 {
     if known {
-        return fast_rows(ram, setup, width, left, flow);
+        return fast_rows(ram, setup, width, remaining, flow);
     }
-    Rest { left, flow }
+    Rest { remaining, flow }
 }
 
 // In an empty memory no row fits.
@@ -131,28 +152,28 @@ pub fn rows(ram: &mut [u16], setup: Setup, width: u32, height: u32, flow: Flow) 
 {
     let known = known(ram.len(), setup, width);
     let mut here = flow;
-    let mut left = height;
-    while 0 < left {
-        let one = plain_rows(ram, known, setup, width, left, here);
+    let mut remaining = height;
+    while 0 < remaining {
+        let one = plain_rows(ram, known, setup, width, remaining, here);
         let after = one.flow;
-        let rest = some_rows(ram, known, setup, width, one.left, after);
-        left = rest.left;
+        let rest = some_rows(ram, known, setup, width, one.remaining, after);
+        remaining = rest.remaining;
         here = rest.flow;
     }
     here
 }
 
 // The straight rows from the start on.
-fn first_rows(ram: &mut [u16], setup: Setup, width: u32, left: u32, flow: Flow) -> Rest
+fn first_rows(ram: &mut [u16], setup: Setup, width: u32, remaining: u32, flow: Flow) -> Rest
     requires { ⌜ (setup .shifts .a < 16) × (setup .shifts .b < 16) × (width ≤ 64)
-        × (flow .stored + left * 64 < 4294967296) ⌝ }
-    ensures { λ rest. ⌜ (rest .left ≤ left)
-        × Left setup width (now (ram .exit)) rest left (now (ram .entry)) flow ⌝ }
+        × (flow .stored + remaining * 64 < 4294967296) ⌝ }
+    ensures { λ rest. ⌜ (rest .remaining ≤ remaining)
+        × GoesOn setup width (now (ram .exit)) rest remaining (now (ram .entry)) flow ⌝ }
 {
     if known(ram.len(), setup, width) {
-        return fast_rows(ram, setup, width, left, flow);
+        return fast_rows(ram, setup, width, remaining, flow);
     }
-    Rest { left, flow }
+    Rest { remaining, flow }
 }
 
 // The straight rows first, then what is left.
@@ -165,7 +186,7 @@ fn straight_first(ram: &mut [u16], setup: Setup, width: u32, height: u32, flow: 
 {
     let rest = first_rows(ram, setup, width, height, flow);
     let here = rest.flow;
-    rows(ram, setup, width, rest.left, here)
+    rows(ram, setup, width, rest.remaining, here)
 }
 
 // The first row of a column, then all the others if they lie inside.

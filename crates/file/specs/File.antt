@@ -7,7 +7,7 @@ use lib.Dec.{eqb, ltb}
 use lib.Bits.{bitAnd}
 use lib.ListN.{length, getD}
 use Rattle.word.specs.Choice.{if_then_else_, every}
-use Rattle.file.specs.Places.{colourCount, flag, fileLength}
+use Rattle.file.specs.Places.{control0, control1, colourCount, flag, fileLength}
 
 pub record Register : Type 0 where
   pub offset : ℕ
@@ -92,3 +92,10 @@ keptAt file place = eqb (kept place (getD file place 0)) (getD file place 0)
 -- number 2 is given for a file not of 53 words, or with "a bit set that isn't kept"
 unfoldable pub accepted : (file : List ℕ) → Bool
 accepted file = eqb (length file) fileLength && every (keptAt file) fileLength
+
+-- its BLTCON0 and BLTCON1
+abbrev pub con0 : (file : List ℕ) → ℕ
+con0 file = getD file control0 0
+
+abbrev pub con1 : (file : List ℕ) → ℕ
+con1 file = getD file control1 0

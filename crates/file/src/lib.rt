@@ -9,7 +9,42 @@ ghost use Rattle.file.specs.File.{place, keptBits, kept, keptAt, accepte
 // How many words a file has.
 pub const WORDS: usize = 53;
 
-// Where the zero flag stands; no offset reaches it.
+// Its places by name; of a pointer, the place of its high half, which its low half follows.
+pub const CONTROL_0: u32 = 0;
+
+pub const CONTROL_1: u32 = 1;
+
+pub const FIRST_MASK: u32 = 2;
+
+pub const LAST_MASK: u32 = 3;
+
+pub const POINTER_C: u32 = 4;
+
+pub const POINTER_B: u32 = 6;
+
+pub const POINTER_A: u32 = 8;
+
+pub const POINTER_D: u32 = 10;
+
+pub const MODULO_C: u32 = 12;
+
+pub const MODULO_B: u32 = 13;
+
+pub const MODULO_A: u32 = 14;
+
+pub const MODULO_D: u32 = 15;
+
+pub const SOURCE_C: u32 = 16;
+
+pub const SOURCE_B: u32 = 17;
+
+pub const SOURCE_A: u32 = 18;
+
+pub const COPCON: u32 = 19;
+
+pub const COLOUR_0: u32 = 20;
+
+// The zero flag stands last; no offset reaches it.
 pub const FLAG: u32 = 52;
 
 // The place of the register with an offset; the flag's where none has it. The offsets lie in runs, each two above the
@@ -23,7 +58,7 @@ pub fn place(offset: u16) -> u32
     }
     if offset < 0x040 {
         if offset == 0x02E {
-            return 19;
+            return COPCON;
         }
         return FLAG;
     }
@@ -34,19 +69,19 @@ pub fn place(offset: u16) -> u32
         return FLAG;
     }
     if offset <= 0x066 {
-        return half - 0x030 + 12;
+        return half - 0x030 + MODULO_C;
     }
     if offset < 0x070 {
         return FLAG;
     }
     if offset <= 0x074 {
-        return half - 0x038 + 16;
+        return half - 0x038 + SOURCE_C;
     }
     if offset < 0x180 {
         return FLAG;
     }
     if offset <= 0x1BE {
-        return half - 0x0C0 + 20;
+        return half - 0x0C0 + COLOUR_0;
     }
     FLAG
 }
@@ -55,22 +90,22 @@ pub fn place(offset: u16) -> u32
 fn bits(place: u32) -> u16
     ensures { λ found. ⌜ found ≡ getD keptBits place 0 ⌝ }
 {
-    if place < 4 {
+    if place < POINTER_C {
         return 0xFFFF;
     }
-    if place < 12 {
+    if place < MODULO_C {
         if place % 2 == 0 {
             return 0x0007;
         }
         return 0xFFFE;
     }
-    if place < 16 {
+    if place < SOURCE_C {
         return 0xFFFE;
     }
-    if place < 19 {
+    if place < COPCON {
         return 0xFFFF;
     }
-    if place < 20 {
+    if place < COLOUR_0 {
         return 0x0002;
     }
     if place < FLAG {
@@ -112,7 +147,7 @@ fn colours_keep(file: &[u16]) -> bool
     let mut fine = true;
     let mut colour: usize = 0;
     while colour < 32 {
-        let value = file[20 + colour];
+        let value = file[COLOUR_0 as usize + colour];
         fine = (value & 0x0FFF == value) & fine;
         colour = colour + 1;
     }
@@ -126,6 +161,6 @@ pub fn accepted(file: &[u16]) -> bool
     if file.len() != WORDS {
         return false;
     }
-    let flag = file[52];
-    (kept(FLAG, flag) == flag) & (colours_keep(file) & keeps(file, 20))
+    let flag = file[FLAG as usize];
+    (kept(FLAG, flag) == flag) & (colours_keep(file) & keeps(file, COLOUR_0))
 }

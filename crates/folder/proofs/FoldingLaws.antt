@@ -9,11 +9,12 @@ use borrow.Author.Tests.{lt-leb}
 use lib.Dec.{eqb, leb}
 use lib.ListN.{length}
 use Rattle.word.specs.Choice.{if_then_else_, given}
-use Rattle.word.proofs.ChoiceLaws.{or-left, or-right}
-use Rattle.refusal.specs.Refusal.{memorySize}
+use Rattle.word.proofs.ChoiceLaws.{or-left, or-right, within-when-passed}
+use Rattle.word.specs.Memory.{memorySize}
 use Rattle.job.specs.Step.{readNumber}
+use Rattle.job.proofs.StepsLaws.{readNumber-of-refused}
 use Rattle.job.specs.Steps.{Placed, steps}
-use Rattle.runner.specs.Run.{jobMost, jobLength}
+use Rattle.job.specs.Length.{jobMost, jobLength}
 use Rattle.folder.specs.declared.types.Refusal.{Refusal}
 use Rattle.folder.specs.declared.types.Answer.{Answer}
 use Rattle.folder.specs.Fold.{fold}
@@ -24,26 +25,16 @@ use Rattle.word.proofs.LaidLaws.{laid-in-front}
 
 -- a refusal's number is never 0
 pub refusalNumber-positive : (why : Refusal) → refusalNumber why ≡ 0 → ⊥
+unfolding readNumber given
 refusalNumber-positive Refusal.MemorySize same = omega arith
 refusalNumber-positive Refusal.JobLength same = omega arith
-refusalNumber-positive Refusal.NoStep same = omega arith
-refusalNumber-positive Refusal.CutOff same = omega arith
-refusalNumber-positive Refusal.OddStore same = omega arith
+refusalNumber-positive (Refusal.Step why) same = omega (arith, readNumber-of-refused why)
 refusalNumber-positive Refusal.TooLong same = omega arith
-
-inside : (words most : ℕ) → not (leb words most) ≡ false → words ≤ most
-inside words most fits = by-order (decLt most words)
-  where
-    by-order : Dec (most < words) → words ≤ most
-    by-order (yes far) =
-        let no : not false ≡ false = rw (lt-leb words most far) at fits in
-        let n : _≡_ {A = ℕ} 0 1 = cc in absurd (omega arith)
-    by-order (no near) = omega arith
 
 pub tooLong-when-few : (words out : List ℕ) → tooLong words out ≡ false → length words ≤ jobMost
 unfolding tooLong
 tooLong-when-few words out is =
-    inside (length words) jobMost (or-right (not (leb (length words) (length out))) (not (leb (length words) jobMost)) is)
+    within-when-passed (length words) jobMost (or-right (not (leb (length words) (length out))) (not (leb (length words) jobMost)) is)
 
 -- what is known of a folding by its number
 pub record Fits (words out : List ℕ) (end : Folding) : Type 0 where
@@ -61,7 +52,7 @@ byStep-when-done words out [] none = by-test (tooLong words out) refl none
     by-test false is none =
         record {
           gives = refl;
-          room = inside (length words) (length out) (or-left (not (leb (length words) (length out))) (not (leb (length words) jobMost)) is);
+          room = within-when-passed (length words) (length out) (or-left (not (leb (length words) (length out))) (not (leb (length words) jobMost)) is);
           few = tooLong-when-few words out is;
         }
 byStep-when-done words out (one ∷ rest) none =
@@ -135,5 +126,5 @@ module _ (n : ℕ) (job out : List ℕ) (answer : Answer)
       let does : left (Answer.Done words) (byStep (fold n job) out (steps job) .out) ≡ byStep (fold n job) out (steps job) = rw same at gives in
       sym (ap (λ (end : Folding). end .number) does)
 
-  pub few-when-done : length (fold n job) ≤ 4096
+  pub few-when-done : length (fold n job) ≤ jobMost
   few-when-done = byStep-when-done (fold n job) out (steps job) lawful-when-done .few

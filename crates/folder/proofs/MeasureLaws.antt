@@ -7,25 +7,27 @@ use mathlib.Core.Bool.{Bool, true, false, not, _||_}
 use mathlib.Core.List.{List, [], _∷_, _++_}
 use mir.Val.{Fits}
 use mir.Syntax.{w32}
-use lib.Dec.{leb}
+use lib.Dec.{leb, eqb}
 use lib.ListN.{length, drop, length-append}
-use borrow.Author.Tests.{lt-leb, le-leb}
-use Rattle.word.specs.Choice.{if_then_else_}
+use borrow.Author.Tests.{lt-leb, le-leb, ne-eqb}
+use Rattle.word.specs.Choice.{if_then_else_, given}
+use Rattle.job.specs.declared.types.Refusal as jobs
+use Rattle.job.specs.Step as jobs-numbers
 use Rattle.job.specs.declared.types.Step.{Step}
 use Rattle.job.specs.declared.types.Read.{Read}
 use Rattle.job.specs.Step.{stepAt, readNumber}
 use Rattle.job.specs.Steps.{Placed, placed, stepsFrom, steps}
 use Rattle.job.proofs.StepLaws.{stepAt-moves}
-use Rattle.job.proofs.StepsLaws.{steps-of-step, steps-of-fault, steps-of-end, steps-at-end}
-use Rattle.runner.specs.Run.{jobMost}
+use Rattle.job.proofs.StepsLaws.{steps-of-step, steps-of-refused, steps-of-end, steps-at-end, readNumber-of-refused}
+use Rattle.job.specs.Length.{jobMost}
 use Rattle.knowledge.specs.declared.types.Known.{Known}
 use Rattle.knowledge.specs.Knowledge.{nothing}
 use Rattle.folder.specs.declared.types.Refusal.{Refusal}
 use Rattle.folder.specs.declared.types.Answer.{Answer}
-use Rattle.folder.specs.Fold.{folded, learned, rawWords, piece, learnedAfter, foldSteps, foldFrom, fold}
+use Rattle.folder.specs.Fold.{becomes, learned, rawWords, piece, learnedAfter, foldSteps, foldFrom, fold}
 use Rattle.folder.specs.Folding.{Folding, refused, done, tooLong, byStep}
 use Rattle.folder.specs.Answer.{left}
-use Rattle.folder.specs.PieceLength.{pieceLength}
+use Rattle.folder.specs.Inner.PieceLength.{pieceLength}
 use Rattle.folder.proofs.PieceLaws.{piece-length, pieceLength-le}
 
 -- the length tested last of all
@@ -48,7 +50,7 @@ stepsAt job at = stepsFrom 0 at (drop at job)
 -- the first step of a list
 pub foldSteps-of-step : (n : ℕ) (known : List Known) (job : List ℕ) (at : ℕ) (step : Step) (next : ℕ) → stepAt job at ≡ Read.Step step next
     → foldSteps n known job (stepsAt job at)
-    ≡ folded n known step (rawWords job at step) ++ foldSteps n (learned n known step) job (stepsAt job next)
+    ≡ becomes n known step (rawWords job at step) ++ foldSteps n (learned n known step) job (stepsAt job next)
 unfolding foldSteps piece learnedAfter
 foldSteps-of-step n known job at step next reads = ap (λ (list : List Placed). foldSteps n known job list) (steps-of-step job at step next reads)
 
@@ -65,7 +67,7 @@ module _ (n : ℕ) (job out : List ℕ) (at : ℕ)
       let ends : byStep (fold n job) out [] ≡ byStep (fold n job) out (steps job) =
       sym (ap (λ (list : List Placed). byStep (fold n job) out list) none) ∙ so-far in
       ap (λ (end : Folding). left answer (end .out)) (sym ends)
-      ∙ ap (λ (given : Answer). left given (byStep (fold n job) out [] .out)) (fits ∙ ap (λ (long : ℕ). fitting long (length out)) all)
+      ∙ ap (λ (this : Answer). left this (byStep (fold n job) out [] .out)) (fits ∙ ap (λ (long : ℕ). fitting long (length out)) all)
       ∙ by-test (not (leb (length (fold n job)) (length out)) || not (leb (length (fold n job)) jobMost))
       ∙ ends
     where
@@ -90,36 +92,24 @@ module _ (n : ℕ) (job out : List ℕ) (at : ℕ)
     measure-of-end known words answer counted same fits = at-last known words answer counted (steps-of-end job at (sym reads ∙ same)) fits
 
     -- what is no step is refused with its own number, at its place
-    of-fault : (why : Refusal) (fault : Read) → read ≡ fault → 0 < readNumber fault
-        → left (Answer.Refused why at) out ≡ byStep (fold n job) out (placed at fault ∷ stepsAt job (at + 1))
-        → left (Answer.Refused why at) (byStep (fold n job) out (steps job) .out) ≡ byStep (fold n job) out (steps job)
-    of-fault why fault same faulty gives =
-        let whole : left (Answer.Refused why at) out ≡ byStep (fold n job) out (steps job) =
+    pub measure-of-fault : (why : jobs.Refusal) → read ≡ Read.Refused why
+        → left (Answer.Refused (Refusal.Step why) at) (byStep (fold n job) out (steps job) .out) ≡ byStep (fold n job) out (steps job)
+    unfolding byStep readNumber given
+    measure-of-fault why same =
+        let number : 0 < jobs-numbers.refusalNumber why = readNumber-of-refused why in
+        let some : eqb (jobs-numbers.refusalNumber why) 0 ≡ false = ne-eqb (jobs-numbers.refusalNumber why) 0 (λ none. omega (arith, number, none)) in
+        let gives : left (Answer.Refused (Refusal.Step why) at) out ≡ byStep (fold n job) out (placed at (Read.Refused why) ∷ []) = rw some in
+        let whole : left (Answer.Refused (Refusal.Step why) at) out ≡ byStep (fold n job) out (steps job) =
         gives
-        ∙ sym (ap (λ (list : List Placed). byStep (fold n job) out list) (steps-of-fault job at fault (sym reads ∙ same) faulty))
+        ∙ sym (ap (λ (list : List Placed). byStep (fold n job) out list) (steps-of-refused job at why (sym reads ∙ same)))
         ∙ so-far in
-        ap (λ (end : Folding). left (Answer.Refused why at) (end .out)) (sym whole) ∙ whole
-
-    pub measure-of-nothing : read ≡ Read.NoStep
-        → left (Answer.Refused Refusal.NoStep at) (byStep (fold n job) out (steps job) .out) ≡ byStep (fold n job) out (steps job)
-    unfolding byStep readNumber
-    measure-of-nothing same = of-fault Refusal.NoStep Read.NoStep same (omega arith) refl
-
-    pub measure-of-cut : read ≡ Read.CutOff
-        → left (Answer.Refused Refusal.CutOff at) (byStep (fold n job) out (steps job) .out) ≡ byStep (fold n job) out (steps job)
-    unfolding byStep readNumber
-    measure-of-cut same = of-fault Refusal.CutOff Read.CutOff same (omega arith) refl
-
-    pub measure-of-odd : read ≡ Read.OddStore
-        → left (Answer.Refused Refusal.OddStore at) (byStep (fold n job) out (steps job) .out) ≡ byStep (fold n job) out (steps job)
-    unfolding byStep readNumber
-    measure-of-odd same = of-fault Refusal.OddStore Read.OddStore same (omega arith) refl
+        ap (λ (end : Folding). left (Answer.Refused (Refusal.Step why) at) (end .out)) (sym whole) ∙ whole
 
 -- a step passed
 module _ (n : ℕ) (job : List ℕ) (at : ℕ) (read : Read) (reads : read ≡ stepAt job at)
     (step : Step) (next : ℕ) (same : read ≡ Read.Step step next) where
   pub byStep-turn : (out : List ℕ) (whole : Folding) → byStep (fold n job) out (stepsAt job at) ≡ whole → byStep (fold n job) out (stepsAt job next) ≡ whole
-  unfolding byStep readNumber
+  unfolding byStep readNumber given
   byStep-turn out whole so-far =
       sym (ap (λ (list : List Placed). byStep (fold n job) out list) (steps-of-step job at step next (sym reads ∙ same))) ∙ so-far
 
@@ -129,7 +119,7 @@ module _ (n : ℕ) (job : List ℕ) (at : ℕ) (read : Read) (reads : read ≡ s
     count-turn counted =
         let first = foldSteps-of-step n known job at step next (sym reads ∙ same) in
         let size = piece-length n known job at step next (sym reads ∙ same) in
-        let parts = length-append (folded n known step (rawWords job at step)) (foldSteps n (learned n known step) job (stepsAt job next)) in
+        let parts = length-append (becomes n known step (rawWords job at step)) (foldSteps n (learned n known step) job (stepsAt job next)) in
         let joined = ap length first ∙ parts in
         let known-after = ap (λ (k : List Known). length (foldSteps n k job (stepsAt job next))) learns in
         omega arith

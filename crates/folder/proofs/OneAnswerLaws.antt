@@ -4,6 +4,7 @@ use Prim.Native.Nat.{ℕ}
 use mathlib.Core.List.{List}
 use lib.Dec.{eqb}
 use Rattle.word.specs.Choice.{if_then_else_}
+use Rattle.job.specs.declared.types.Refusal as jobs
 use Rattle.folder.specs.declared.types.Refusal.{Refusal}
 use Rattle.folder.specs.declared.types.Answer.{Answer}
 use Rattle.folder.specs.Folding.{Folding}
@@ -16,25 +17,25 @@ numbered : (number : ℕ) → Refusal
 numbered number =
     if eqb number 1 then Refusal.MemorySize else
     if eqb number 3 then Refusal.JobLength else
-    if eqb number 4 then Refusal.NoStep else
-    if eqb number 5 then Refusal.CutOff else
-    if eqb number 6 then Refusal.OddStore else
+    if eqb number 4 then Refusal.Step jobs.Refusal.NoStep else
+    if eqb number 5 then Refusal.Step jobs.Refusal.CutOff else
+    if eqb number 6 then Refusal.Step jobs.Refusal.OddStore else
     Refusal.TooLong
 
 numbered-of-number : (why : Refusal) → numbered (refusalNumber why) ≡ why
 unfolding numbered
 numbered-of-number Refusal.MemorySize = refl
 numbered-of-number Refusal.JobLength = refl
-numbered-of-number Refusal.NoStep = refl
-numbered-of-number Refusal.CutOff = refl
-numbered-of-number Refusal.OddStore = refl
+numbered-of-number (Refusal.Step jobs.Refusal.NoStep) = refl
+numbered-of-number (Refusal.Step jobs.Refusal.CutOff) = refl
+numbered-of-number (Refusal.Step jobs.Refusal.OddStore) = refl
 numbered-of-number Refusal.TooLong = refl
 
 pub refusalNumber-is-unique : (one other : Refusal) → refusalNumber one ≡ refusalNumber other → one ≡ other
 refusalNumber-is-unique one other same = sym (numbered-of-number one) ∙ ap numbered same ∙ numbered-of-number other
 
 pub answer-is-unique : (one other : Answer) (out others : List ℕ) → left one out ≡ left other others → one ≡ other
-answer-is-unique (Answer.Done words) (Answer.Done more) out others same = ap Answer.Done (ap (λ (end : Folding). end .length) same)
+answer-is-unique (Answer.Done words) (Answer.Done more) out others same = ap Answer.Done (ap (λ (end : Folding). end .long) same)
 answer-is-unique (Answer.Done words) (Answer.Refused why place) out others same =
     absurd (refusalNumber-positive why (sym (ap (λ (end : Folding). end .number) same)))
 answer-is-unique (Answer.Refused why place) (Answer.Done words) out others same =

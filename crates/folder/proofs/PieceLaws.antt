@@ -9,36 +9,41 @@ use mir.Syntax.{w32}
 use lib.Dec.{eqb, leb}
 use lib.ListN.{length, drop, length-append, length-drop}
 use lib.Seq.{length-take-le}
-use borrow.Author.Tests.{lt-leb}
-use native.Mathlib.Decide.{decLt}
+use borrow.Author.Tests.{leb-true}
 use Rattle.word.specs.Choice.{if_then_else_}
 use Rattle.word.specs.Size.{height, width}
+use Rattle.word.specs.declared.types.Pointer.{Pointer}
+use Rattle.word.proofs.ChoiceLaws.{and-left, and-right}
 use Rattle.word.proofs.SizeLaws.{words-le}
-use Rattle.area.specs.declared.types.Flow.{Flow}
-use Rattle.area.specs.Setup.{con0, function, setup}
-use Rattle.area.specs.Flow.{State, state, start}
+use Rattle.file.specs.File.{con0}
+use Rattle.word.specs.Control.{function}
 use Rattle.job.specs.declared.types.Step.{Step}
 use Rattle.job.specs.declared.types.Read.{Read}
 use Rattle.job.specs.Step.{operands, stepAt}
 use Rattle.job.proofs.StepLaws.{stepAt-moves, stepAt-next}
-use Rattle.settled.specs.Words.{blitStores, settledEnd, settledWords}
+use Rattle.stores.specs.Stores.{stores, finalD}
+use Rattle.stores.proofs.StoresLaws.{stores-length}
+use Rattle.settled.specs.Words.{storesWords, settledWords}
+use Rattle.settled.proofs.RunLaws.{storesWords-length}
 use Rattle.knowledge.specs.declared.types.Known.{Known}
 use Rattle.knowledge.specs.Knowledge.{numbers}
 use Rattle.learning.specs.Learn.{written, forgotten, movedD}
 use Rattle.refusal.specs.Refusal.{stepRefusal}
 use Rattle.settled.specs.Settled.{controlsKnown, onlyDUsed, sourcesKnown, settled}
-use Rattle.output.proofs.StoresLaws.{blitStores-length}
-use Rattle.folder.specs.Fold.{folded, learned, rawWords}
-use Rattle.folder.specs.PieceLength.{settledLength, pieceLength}
+use Rattle.folder.specs.Fold.{becomes, learned, rawWords}
+use Rattle.folder.specs.Inner.PieceLength.{settledLength, pieceLength}
 
 -- the words of a settled blit
 pub settledWords-length : (file : List ℕ) (size : ℕ) → length (settledWords file size) ≡ settledLength size
 unfolding settledWords
 settledWords-length file size =
-    length-append (blitStores (setup file) (width size) (height size) (state [] (start file))) _
-    ∙ ap (λ (stores : ℕ). stores + 5) (blitStores-length (setup file) (width size) (height size) (state [] (start file)))
+    length-append (storesWords (stores file size)) _
+    ∙ ap (λ (many : ℕ). many + 5) (storesWords-length (stores file size) ∙ ap (λ (many : ℕ). 3 * many) (stores-length file size))
 
 -- room for them
+pub settledLength-fits : (size rows words : ℕ) → rows ≡ height size → words ≡ width size → Fits w32 (3 * (rows * words))
+settledLength-fits size rows words tall wide = rw (tall, wide) (record { fits = omega (arith, words-le size) })
+
 pub settledLength-fits-all : (size rows words : ℕ) → rows ≡ height size → words ≡ width size
     → Fits w32 (3 * (rows * words) + 5)
 settledLength-fits-all size rows words tall wide = rw (tall, wide) (record { fits = omega (arith, words-le size) })
@@ -47,13 +52,9 @@ pub settledLength-of-parts : (size rows words : ℕ) → rows ≡ height size �
 settledLength-of-parts size rows words tall wide = rw (tall, wide)
 
 -- what is known after a settled blit
-pub settled-known-of-parts : (size : ℕ) (known after : List Known) (file : List ℕ) (end : Flow)
-    → file ≡ numbers known → state [] end ≡ settledEnd file size → after ≡ movedD (end .pointers .d) known
-    → after ≡ movedD (settledEnd (numbers known) size .flow .pointers .d) known
-settled-known-of-parts size known after file end same ends moves =
-    moves
-    ∙ ap (λ (last : State). movedD (last .flow .pointers .d) known) ends
-    ∙ ap (λ (f : List ℕ). movedD (settledEnd f size .flow .pointers .d) known) same
+pub settled-known-of-parts : (size : ℕ) (known after : List Known) (file : List ℕ) (end : Pointer)
+    → file ≡ numbers known → end ≡ finalD file size → after ≡ movedD end known → after ≡ movedD (finalD (numbers known) size) known
+settled-known-of-parts size known after file end same ends moves = rw (ends ∙ ap (λ (f : List ℕ). finalD f size) same) at moves
 
 -- a 058, settled or kept
 module _ (n size : ℕ) (known : List Known) (settles : Bool) (is : settles ≡ settled n known size) where
@@ -62,7 +63,7 @@ module _ (n size : ℕ) (known : List Known) (settles : Bool) (is : settles ≡ 
   pieceLength-when-settled words holds long = rw (← is, holds) long
 
   pub learned-when-settled : (after : List Known) → settles ≡ true
-      → after ≡ movedD (settledEnd (numbers known) size .flow .pointers .d) known → after ≡ learned n known (Step.Size size)
+      → after ≡ movedD (finalD (numbers known) size) known → after ≡ learned n known (Step.Size size)
   unfolding learned
   learned-when-settled after holds moves = rw (← is, holds) moves
 
@@ -108,17 +109,17 @@ module _ (n : ℕ) (known : List Known) (step : Step) where
   learned-of-flag value same = rw same
 
 -- how long a piece is
-folded-length : (n : ℕ) (known : List Known) (step : Step) (raw : List ℕ) → length raw ≡ 1 + operands step
-    → length (folded n known step raw) ≡ pieceLength n known step
-unfolding folded pieceLength operands
-folded-length n known (Step.Register place value) raw long = long
-folded-length n known (Step.Size size) raw long = by-test (settled n known size)
+becomes-length : (n : ℕ) (known : List Known) (step : Step) (raw : List ℕ) → length raw ≡ 1 + operands step
+    → length (becomes n known step raw) ≡ pieceLength n known step
+unfolding becomes pieceLength operands
+becomes-length n known (Step.Register place value) raw long = long
+becomes-length n known (Step.Size size) raw long = by-test (settled n known size)
   where
     by-test : (settles : Bool) → length (if settles then settledWords (numbers known) size else raw) ≡ (if settles then settledLength size else 2)
     by-test true = settledWords-length (numbers known) size
     by-test false = long
-folded-length n known (Step.Store to value) raw long = long
-folded-length n known (Step.Flag value) raw long = long
+becomes-length n known (Step.Store to value) raw long = long
+becomes-length n known (Step.Flag value) raw long = long
 
 rawWords-length : (job : List ℕ) (at : ℕ) (step : Step) (next : ℕ) → stepAt job at ≡ Read.Step step next
     → length (rawWords job at step) ≡ 1 + operands step
@@ -128,35 +129,18 @@ rawWords-length job at step next reads =
     length-take-le (1 + operands step) (drop at job) (omega (arith, length-drop at job))
 
 pub piece-length : (n : ℕ) (known : List Known) (job : List ℕ) (at : ℕ) (step : Step) (next : ℕ) → stepAt job at ≡ Read.Step step next
-    → length (folded n known step (rawWords job at step)) ≡ pieceLength n known step
+    → length (becomes n known step (rawWords job at step)) ≡ pieceLength n known step
 piece-length n known job at step next reads =
-    folded-length n known step (rawWords job at step) (rawWords-length job at step next reads)
+    becomes-length n known step (rawWords job at step) (rawWords-length job at step next reads)
 
 -- a settled blit has at most 64 words
-few : (words : ℕ) → leb words 64 ≡ true → words ≤ 64
-few words small = by-order (decLt 64 words)
-  where
-    by-order : Dec (64 < words) → words ≤ 64
-    by-order (yes far) =
-        let no : false ≡ true = sym (lt-leb words 64 far) ∙ small in
-        let n : _≡_ {A = ℕ} 0 1 = cc in absurd (omega arith)
-    by-order (no near) = omega arith
-
-and-first : (a b : Bool) → (a && b) ≡ true → a ≡ true
-and-first true b both = refl
-and-first false b both = both
-
-and-second : (a b : Bool) → (a && b) ≡ true → b ≡ true
-and-second true b both = both
-and-second false b both = let n : _≡_ {A = ℕ} 0 1 = cc in absurd (omega arith)
-
 pub settled-is-few : (n : ℕ) (known : List Known) (size : ℕ) → settled n known size ≡ true → height size * width size ≤ 64
 unfolding settled
 settled-is-few n known size holds =
     let before : Bool = controlsKnown known && onlyDUsed (con0 (numbers known)) && eqb (stepRefusal n (numbers known) size) 0 in
     let small : Bool = leb (height size * width size) 64 in
-    few (height size * width size)
-    (and-second before small (and-first (before && small) (sourcesKnown (function (con0 (numbers known))) known) holds))
+    leb-true (height size * width size) 64
+    (and-right before small (and-left (before && small) (sourcesKnown (function (con0 (numbers known))) known) holds))
 
 pub pieceLength-le : (n : ℕ) (known : List Known) (step : Step) → pieceLength n known step ≤ 197
 unfolding pieceLength

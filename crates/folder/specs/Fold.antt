@@ -7,25 +7,26 @@ use Rattle.job.specs.declared.types.Step.{Step}
 use Rattle.job.specs.declared.types.Read.{Read}
 use Rattle.job.specs.Step.{operands}
 use Rattle.job.specs.Steps.{Placed, steps}
-use Rattle.settled.specs.Words.{settledEnd, settledWords}
+use Rattle.stores.specs.Stores.{finalD}
+use Rattle.settled.specs.Words.{settledWords}
 use Rattle.knowledge.specs.declared.types.Known.{Known}
 use Rattle.knowledge.specs.Knowledge.{nothing, numbers}
 use Rattle.learning.specs.Learn.{written, forgotten, movedD}
 use Rattle.settled.specs.Settled.{settled}
 
 -- what a step becomes; raw are its own words
-unfoldable pub folded : (n : ℕ) → (known : List Known) → Step → (raw : List ℕ) → List ℕ
-folded n known (Step.Register place value) raw = raw
-folded n known (Step.Size size) raw =
+unfoldable pub becomes : (n : ℕ) → (known : List Known) → Step → (raw : List ℕ) → List ℕ
+becomes n known (Step.Register place value) raw = raw
+becomes n known (Step.Size size) raw =
     if settled n known size then settledWords (numbers known) size else raw
-folded n known (Step.Store to value) raw = raw
-folded n known (Step.Flag value) raw = raw
+becomes n known (Step.Store to value) raw = raw
+becomes n known (Step.Flag value) raw = raw
 
 -- what is known after a step
 unfoldable pub learned : (n : ℕ) → (known : List Known) → Step → List Known
 learned n known (Step.Register place value) = written place value known
 learned n known (Step.Size size) =
-    if settled n known size then movedD (settledEnd (numbers known) size .flow .pointers .d) known else
+    if settled n known size then movedD (finalD (numbers known) size) known else
     forgotten known
 learned n known (Step.Store to value) = known
 learned n known (Step.Flag value) = known
@@ -37,18 +38,14 @@ rawWords job at step = take (1 + operands step) (drop at job)
 -- what stands at a place becomes, and what is known after it; what is no step becomes nothing, and the folder refuses
 -- the job for it
 unfoldable pub piece : (n : ℕ) → (known : List Known) → (job : List ℕ) → (at : ℕ) → Read → List ℕ
-piece n known job at (Read.Step step next) = folded n known step (rawWords job at step)
+piece n known job at (Read.Step step next) = becomes n known step (rawWords job at step)
 piece n known job at Read.End = []
-piece n known job at Read.NoStep = []
-piece n known job at Read.CutOff = []
-piece n known job at Read.OddStore = []
+piece n known job at (Read.Refused why) = []
 
 unfoldable pub learnedAfter : (n : ℕ) → (known : List Known) → Read → List Known
 learnedAfter n known (Read.Step step next) = learned n known step
 learnedAfter n known Read.End = known
-learnedAfter n known Read.NoStep = known
-learnedAfter n known Read.CutOff = known
-learnedAfter n known Read.OddStore = known
+learnedAfter n known (Read.Refused why) = known
 
 -- the folding of a job's steps, one after the other
 unfoldable pub foldSteps : (n : ℕ) → (known : List Known) → (job : List ℕ) → List Placed → List ℕ

@@ -5,27 +5,27 @@ use mathlib.Core.List.{List, [], _∷_, _++_}
 use lib.Dec.{eqb, leb}
 use lib.ListN.{length, drop}
 use Rattle.word.specs.Choice.{if_then_else_, _when_, given}
-use Rattle.refusal.specs.Refusal.{memorySize}
+use Rattle.word.specs.Memory.{memorySize}
 use Rattle.job.specs.Step.{readNumber}
 use Rattle.job.specs.Steps.{Placed, steps}
-use Rattle.runner.specs.Run.{jobMost, jobLength}
+use Rattle.job.specs.Length.{jobMost, jobLength}
 use Rattle.folder.specs.Fold.{fold}
 
 -- what a folding gives and leaves
 pub record Folding : Type 0 where
   pub number : ℕ
   pub place : ℕ
-  pub length : ℕ
+  pub long : ℕ
   pub out : List ℕ
 
 -- "A folder refusal answers length 0 with the step's place .., output unchanged"
 abbrev pub refused : (number place : ℕ) → (out : List ℕ) → Folding
-refused number place out = record { number = number; place = place; length = 0; out = out }
+refused number place out = record { number = number; place = place; long = 0; out = out }
 
 -- "a done folding has place 0"; "Output beyond the folded length stays as it was."
 abbrev pub done : (words out : List ℕ) → Folding
 done words out =
-    record { number = 0; place = 0; length = length words; out = words ++ drop (length words) out }
+    record { number = 0; place = 0; long = length words; out = words ++ drop (length words) out }
 
 -- "Order: 1, .., 3": N, then the job's length
 unfoldable pub startRefusal : (n : ℕ) → (job : List ℕ) → ℕ

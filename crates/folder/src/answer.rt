@@ -1,6 +1,6 @@
 // The paper's number, place and length of an answer.
 ghost use mathlib.Core.Path.{_≡_};
-ghost use Rattle.folder.specs.Answer.{refusalNumber, answerNumber, answerPlace, answerLength};
+ghost use Rattle.folder.specs.Answer.{refusalNumber, answerNumber, answerPlace, answerLong};
 use crate::types::Answer;
 use crate::types::Refusal;
 
@@ -10,9 +10,7 @@ fn refusal_number(why: Refusal) -> u32
     match why {
         Refusal::MemorySize => 1,
         Refusal::JobLength => 3,
-        Refusal::NoStep => 4,
-        Refusal::CutOff => 5,
-        Refusal::OddStore => 6,
+        Refusal::Step(reason) => job::number::refusal_number(reason),
         Refusal::TooLong => 11,
     }
 }
@@ -36,10 +34,10 @@ pub fn place(answer: Answer) -> usize
 }
 
 pub fn length(answer: Answer) -> usize
-    ensures { λ length. ⌜ length ≡ answerLength answer ⌝ }
+    ensures { λ long. ⌜ long ≡ answerLong answer ⌝ }
 {
     match answer {
-        Answer::Done(length) => length,
+        Answer::Done(long) => long,
         Answer::Refused(_, _) => 0,
     }
 }

@@ -19,17 +19,17 @@ pub fn fold(n: usize, job: &[u16], out: &mut [u16]) -> Answer
         left answer (now (out .exit))
         ≡ folding n (now (job .entry)) (now (out .entry)) ⌝ }
 {
-    if refusal::memory_size(n) {
+    if word::memory::memory_size(n) {
         return Answer::Refused(Refusal::MemorySize, 0);
     }
-    if runner::start::job_length(job) {
+    if job::length::job_length(job) {
         return Answer::Refused(Refusal::JobLength, 0);
     }
     let answer = crate::measure::measure(n, job, out);
     match answer {
-        Answer::Done(length) => {
+        Answer::Done(long) => {
             crate::write::write(n, job, out);
-            Answer::Done(length)
+            Answer::Done(long)
         }
         Answer::Refused(why, place) => Answer::Refused(why, place),
     }

@@ -6,7 +6,7 @@ ghost use lib.Dec.{leb};
 ghost use lib.ListN.{length};
 ghost use Rattle.word.specs.Choice.{if_then_else_};
 ghost use Rattle.job.specs.Steps.{steps};
-ghost use Rattle.runner.specs.Run.{jobMost};
+ghost use Rattle.job.specs.Length.{jobMost};
 ghost use Rattle.folder.specs.Fold.{fold};
 ghost use Rattle.folder.specs.Folding.{byStep};
 ghost use Rattle.folder.specs.Answer.{left};
@@ -25,7 +25,7 @@ fn ended(words: u32, out: &[u16]) -> Answer
     if out.len() < words as usize {
         return Answer::Refused(Refusal::TooLong, 0);
     }
-    if 4096 < words {
+    if job::length::JOB_MOST < words as usize {
         return Answer::Refused(Refusal::TooLong, 0);
     }
     Answer::Done(words as usize)
@@ -33,7 +33,7 @@ fn ended(words: u32, out: &[u16]) -> Answer
 
 // What the folding of a job's steps answers.
 pub fn measure(n: usize, job: &[u16], out: &[u16]) -> Answer
-    requires { ⌜ length (now job) ≤ 4096 ⌝ }
+    requires { ⌜ length (now job) ≤ jobMost ⌝ }
     ensures { λ answer. ⌜
         left answer (byStep (fold n (now (job .entry))) (now (out .entry)) (steps (now (job .entry))) .out)
         ≡ byStep (fold n (now (job .entry))) (now (out .entry)) (steps (now (job .entry))) ⌝ }
@@ -45,14 +45,12 @@ pub fn measure(n: usize, job: &[u16], out: &[u16]) -> Answer
         match job::reader::read_at(job, at) {
             Read::Step(step, next) => {
                 let piece = crate::piece::step_piece(n, known, step);
-                words = words + piece.length;
+                words = words + piece.long;
                 known = piece.known;
                 at = next;
             }
             Read::End => return ended(words, out),
-            Read::NoStep => return Answer::Refused(Refusal::NoStep, at),
-            Read::CutOff => return Answer::Refused(Refusal::CutOff, at),
-            Read::OddStore => return Answer::Refused(Refusal::OddStore, at),
+            Read::Refused(why) => return Answer::Refused(Refusal::Step(why), at),
         }
     }
     ended(words, out)

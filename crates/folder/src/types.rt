@@ -1,13 +1,12 @@
 // The types that the answers of a folding speak of.
 use knowledge::types::Knowledge;
 
-// Why a folding is refused, in the order of the paper.
+// Why a folding is refused, in the order of the paper: memory, the job's length, what is no step, and a folded job that
+// is too long.
 pub enum Refusal {
     MemorySize,
     JobLength,
-    NoStep,
-    CutOff,
-    OddStore,
+    Step(job::types::Refusal),
     TooLong,
 }
 
@@ -19,6 +18,6 @@ pub enum Answer {
 
 // What is left of a step: how many words it became, and what is known after it.
 pub struct Piece {
-    pub length: u32,
+    pub long: u32,
     pub known: Knowledge,
 }

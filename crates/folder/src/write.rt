@@ -1,17 +1,20 @@
 // The folded job laid into the output, from its front on.
 ghost use mathlib.Core.Path.{_≡_};
-ghost use Prim.Native.Nat.{_+_, _<_, _≤_};
+ghost use Prim.Native.Nat.{_+_, _*_, _<_, _≤_};
 ghost use lib.ListN.{length, take, drop};
 ghost use Rattle.job.specs.declared.types.Step as job-steps;
 ghost use Rattle.job.specs.Step.{operands};
+ghost use Rattle.job.specs.Length.{jobMost};
 ghost use Rattle.job.specs.Steps.{steps};
-ghost use Rattle.settled.specs.Words.{settledEnd, settledWords};
+ghost use Rattle.stores.specs.Stores.{finalD};
+ghost use Rattle.settled.specs.Words.{settledWords};
 ghost use Rattle.knowledge.specs.Knowledge.{listed, numbers};
 ghost use Rattle.learning.specs.Learn.{movedD};
-ghost use Rattle.folder.specs.Fold.{folded, learned, rawWords, fold};
+ghost use Rattle.folder.specs.Fold.{becomes, learned, rawWords, fold};
 ghost use Rattle.folder.specs.Folding.{byStep};
 ghost use Rattle.word.specs.Laid.{laid};
-ghost use Rattle.folder.specs.PieceLength.{pieceLength};
+ghost use Rattle.word.specs.Size.{height, width};
+ghost use Rattle.folder.specs.Inner.PieceLength.{pieceLength};
 use crate::types::Piece;
 use job::types::Read;
 use job::types::Step;
@@ -19,15 +22,13 @@ use knowledge::types::Knowledge;
 
 // Lays a settled blit, and answers what is known after it.
 fn put_blit(out: &mut [u16], at: u32, known: Knowledge, size: u16) -> Knowledge
-    requires { ⌜ at < 1000000 ⌝ }
+    requires { ⌜ (at < 1000000) × (height size * width size ≤ 64) ⌝ }
     ensures { λ after. ⌜ (now (out .exit) ≡ laid (settledWords (numbers (listed known)) size) at (now (out .entry)))
-        × (listed after ≡ movedD (settledEnd (numbers (listed known)) size .flow .pointers .d) (listed known)) ⌝ }
+        × (listed after ≡ movedD (finalD (numbers (listed known)) size) (listed known)) ⌝ }
 {
     let file = known.numbers();
-    let end = output::stores::put_settled(out, at, &file, size);
-    let pointers = end.pointers;
-    let d = pointers.d;
-    learning::moved_d(known, d)
+    let end = output::words::put_settled(out, at, &file, size);
+    learning::moved_d(known, end)
 }
 
 fn put_size(
@@ -41,21 +42,21 @@ fn put_size(
 ) -> Piece
     requires { ⌜ (at < 1000000) × (from + 2 ≤ length (now job)) ⌝ }
     ensures { λ piece. ⌜ (now (out .exit)
-        ≡ laid (folded n (listed known) (job-steps.Step.Size size) (take 2 (drop from (now (job .entry))))) at (now (out .entry)))
-        × (piece .length ≡ pieceLength n (listed known) (job-steps.Step.Size size))
+        ≡ laid (becomes n (listed known) (job-steps.Step.Size size) (take 2 (drop from (now (job .entry))))) at (now (out .entry)))
+        × (piece .long ≡ pieceLength n (listed known) (job-steps.Step.Size size))
         × (listed (piece .known) ≡ learned n (listed known) (job-steps.Step.Size size)) ⌝ }
 {
     if settled::settle::settled(n, known, size) {
         let after = put_blit(out, at, known, size);
         return Piece {
-            length: crate::piece::settled_length(size),
+            long: crate::piece::settled_length(size),
             known: after,
         };
     }
     output::put::put_copied(out, at, job, from, 2);
     let after = learning::forgotten(known);
     Piece {
-        length: 2,
+        long: 2,
         known: after,
     }
 }
@@ -72,8 +73,8 @@ fn put_step(
 ) -> Piece
     requires { ⌜ (at < 1000000) × (from + (1 + operands step) ≤ length (now job)) ⌝ }
     ensures { λ piece. ⌜ (now (out .exit)
-        ≡ laid (folded n (listed known) step (rawWords (now (job .entry)) from step)) at (now (out .entry)))
-        × (piece .length ≡ pieceLength n (listed known) step)
+        ≡ laid (becomes n (listed known) step (rawWords (now (job .entry)) from step)) at (now (out .entry)))
+        × (piece .long ≡ pieceLength n (listed known) step)
         × (listed (piece .known) ≡ learned n (listed known) step) ⌝ }
 {
     match step {
@@ -81,26 +82,26 @@ fn put_step(
             output::put::put_copied(out, at, job, from, 2);
             let after = learning::written(known, place, value);
             Piece {
-                length: 2,
+                long: 2,
                 known: after,
             }
         }
         Step::Size(size) => put_size(out, at, n, known, size, job, from),
         Step::Store(_, _) => {
             output::put::put_copied(out, at, job, from, 3);
-            Piece { length: 3, known }
+            Piece { long: 3, known }
         }
         Step::Flag(_) => {
             output::put::put_copied(out, at, job, from, 1);
-            Piece { length: 1, known }
+            Piece { long: 1, known }
         }
     }
 }
 
 // Lays the folded job of a folding that isn't refused.
 pub fn write(n: usize, job: &[u16], out: &mut [u16])
-    requires { ⌜ (length (now job) ≤ 4096)
-        × (length (fold n (now job)) ≤ 4096)
+    requires { ⌜ (length (now job) ≤ jobMost)
+        × (length (fold n (now job)) ≤ jobMost)
         × (byStep (fold n (now job)) (now out) (steps (now job)) .number ≡ 0) ⌝ }
     ensures { λ _. ⌜ now (out .exit) ≡ laid (fold n (now (job .entry))) 0 (now (out .entry)) ⌝ }
 {
@@ -111,14 +112,12 @@ pub fn write(n: usize, job: &[u16], out: &mut [u16])
         match job::reader::read_at(job, from) {
             Read::Step(step, next) => {
                 let piece = put_step(out, at, n, known, step, job, from);
-                at = at + piece.length;
+                at = at + piece.long;
                 known = piece.known;
                 from = next;
             }
             Read::End => return,
-            Read::NoStep => return,
-            Read::CutOff => return,
-            Read::OddStore => return,
+            Read::Refused(_) => return,
         }
     }
 }

@@ -1,5 +1,5 @@
 -- Laws of a step: what the words after a first word make of it, and what stands at a place of a job.
-use mathlib.Core.Path.{_≡_, refl, ap, _∙_}
+use mathlib.Core.Path.{_≡_, refl, sym, ap, _∙_}
 use Prim.Native.Nat.{ℕ, suc, _+_, _-_, _%_, _<_, _≤_}
 use native.Mathlib.Decide.{decLt}
 use native.Mathlib.Omega.{arith}
@@ -13,6 +13,7 @@ use Rattle.word.specs.Pointer.{pointer}
 use Rattle.word.specs.declared.types.Pointer.{Pointer}
 use Rattle.job.specs.declared.types.Kind.{Kind}
 use Rattle.job.specs.declared.types.Step.{Step}
+use Rattle.job.specs.declared.types.Refusal.{Refusal}
 use Rattle.job.specs.declared.types.Read.{Read}
 use Rattle.job.specs.Kind.{kind}
 use Rattle.job.specs.Step.{operands, found, isOdd, begun, front, stepAt}
@@ -36,7 +37,7 @@ module _ (job : List ℕ) (at : ℕ) where
   unfolding begun found operands
   begun-of-register place value more same = rw (rest-of-value more, same)
 
-  pub begun-of-register-cut : (place : ℕ) → length job - at < 2 → Read.CutOff ≡ begun (Kind.Register place) at (drop (at + 1) job)
+  pub begun-of-register-cut : (place : ℕ) → length job - at < 2 → Read.Refused Refusal.CutOff ≡ begun (Kind.Register place) at (drop (at + 1) job)
   unfolding begun
   begun-of-register-cut place cut = rw (rest-at-end cut)
 
@@ -45,7 +46,7 @@ module _ (job : List ℕ) (at : ℕ) where
   unfolding begun found operands
   begun-of-size value more same = rw (rest-of-value more, same)
 
-  pub begun-of-size-cut : length job - at < 2 → Read.CutOff ≡ begun Kind.Size at (drop (at + 1) job)
+  pub begun-of-size-cut : length job - at < 2 → Read.Refused Refusal.CutOff ≡ begun Kind.Size at (drop (at + 1) job)
   unfolding begun
   begun-of-size-cut cut = rw (rest-at-end cut)
 
@@ -62,15 +63,15 @@ module _ (job : List ℕ) (at : ℕ) where
       rw (rest-of-two more, ← first, ne-eqb (low % 2) 1 even, address, last)
 
   pub begun-of-odd : (high low : ℕ) → 3 ≤ length job - at → low ≡ getD job (at + 1) 0 → low % 2 ≡ 1
-      → Read.OddStore ≡ begun (Kind.Store high) at (drop (at + 1) job)
+      → Read.Refused Refusal.OddStore ≡ begun (Kind.Store high) at (drop (at + 1) job)
   unfolding begun
   begun-of-odd high low more first odd = rw (rest-of-two more, ← first, eq-eqb (low % 2) 1 odd)
 
-  pub begun-of-store-cut : (high : ℕ) → length job - at < 3 → Read.CutOff ≡ begun (Kind.Store high) at (drop (at + 1) job)
+  pub begun-of-store-cut : (high : ℕ) → length job - at < 3 → Read.Refused Refusal.CutOff ≡ begun (Kind.Store high) at (drop (at + 1) job)
   unfolding begun
   begun-of-store-cut high cut = by-length (decLt (length job - at) 2)
     where
-      by-length : Dec (length job - at < 2) → Read.CutOff ≡ begun (Kind.Store high) at (drop (at + 1) job)
+      by-length : Dec (length job - at < 2) → Read.Refused Refusal.CutOff ≡ begun (Kind.Store high) at (drop (at + 1) job)
       by-length (yes none) = rw (rest-at-end none)
       by-length (no some) = rw (rest-of-value (omega arith), drop-at-end job (at + 2) (omega arith))
 
@@ -88,17 +89,15 @@ module _ (job : List ℕ) (at : ℕ) where
     unfolding begun found operands
     stepAt-of-flag flag same = stepAt-of-kind (Kind.Flag flag) (Read.Step (Step.Flag flag) (at + 1)) same refl
 
-    pub stepAt-of-nothing : begins ≡ Kind.Nothing → Read.NoStep ≡ stepAt job at
+    pub stepAt-of-nothing : begins ≡ Kind.Nothing → Read.Refused Refusal.NoStep ≡ stepAt job at
     unfolding begun
-    stepAt-of-nothing same = stepAt-of-kind Kind.Nothing Read.NoStep same refl
+    stepAt-of-nothing same = stepAt-of-kind Kind.Nothing (Read.Refused Refusal.NoStep) same refl
 
 -- what is known of what was read at the front of a run: of a step, that its words stand in the run, and the next place
 abbrev InRun : (at : ℕ) → (words : List ℕ) → Read → Type 0
 InRun at words (Read.Step step next) = (next ≡ at + (1 + operands step)) × (1 + operands step ≤ length words)
 InRun at words Read.End = Unit
-InRun at words Read.NoStep = Unit
-InRun at words Read.CutOff = Unit
-InRun at words Read.OddStore = Unit
+InRun at words (Read.Refused why) = Unit
 
 begun-in-run : (begins : Kind) (at first : ℕ) (rest : List ℕ) → InRun at (first ∷ rest) (begun begins at rest)
 unfolding begun found operands
@@ -112,7 +111,7 @@ begun-in-run (Kind.Store high) at first (low ∷ []) = tt
 begun-in-run (Kind.Store high) at first (low ∷ value ∷ rest) = by-test (isOdd low)
   where
     by-test : (odd : Bool)
-        → InRun at (first ∷ low ∷ value ∷ rest) (if odd then Read.OddStore else found at (Step.Store (pointer high low .word) value))
+        → InRun at (first ∷ low ∷ value ∷ rest) (if odd then Read.Refused Refusal.OddStore else found at (Step.Store (pointer high low .word) value))
     by-test true = tt
     by-test false = (refl, omega arith)
 begun-in-run (Kind.Flag flag) at first rest = (refl, omega arith)
@@ -146,6 +145,17 @@ module _ (job : List ℕ) (at : ℕ) (step : Step) (next : ℕ) (reads : stepAt 
       let inside = front-le at (drop at job) step next reads in
       (omega arith, omega (arith, length-drop at job))
 
+-- the same of what a reader has given
+module _ (job : List ℕ) (at : ℕ) (read : Read) (reads : read ≡ stepAt job at) (step : Step) (next : ℕ) (same : read ≡ Read.Step step next) where
+  pub read-moves : at < next
+  read-moves = stepAt-moves job at step next (sym reads ∙ same) .0
+
+  pub read-inside : next ≤ length job
+  read-inside = stepAt-moves job at step next (sym reads ∙ same) .1
+
+  pub read-falls : at < length job → length job - next < length job - at
+  read-falls inside = let on = read-moves in omega arith
+
 -- only past the last word does the end stand
 begun-is-some : (begins : Kind) (at : ℕ) (rest : List ℕ) → begun begins at rest ≡ Read.End → ⊥
 unfolding begun found
@@ -158,7 +168,7 @@ begun-is-some (Kind.Store high) at [] reads = let n : _≡_ {A = ℕ} 0 1 = cc i
 begun-is-some (Kind.Store high) at (low ∷ []) reads = let n : _≡_ {A = ℕ} 0 1 = cc in omega arith
 begun-is-some (Kind.Store high) at (low ∷ value ∷ rest) reads = by-test (isOdd low) reads
   where
-    by-test : (odd : Bool) → (if odd then Read.OddStore else found at (Step.Store (pointer high low .word) value)) ≡ Read.End → ⊥
+    by-test : (odd : Bool) → (if odd then Read.Refused Refusal.OddStore else found at (Step.Store (pointer high low .word) value)) ≡ Read.End → ⊥
     by-test true reads = let n : _≡_ {A = ℕ} 0 1 = cc in omega arith
     by-test false reads = let n : _≡_ {A = ℕ} 0 1 = cc in omega arith
 begun-is-some (Kind.Flag flag) at rest reads = let n : _≡_ {A = ℕ} 0 1 = cc in omega arith

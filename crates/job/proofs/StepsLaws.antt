@@ -1,16 +1,26 @@
 -- Laws of the list of a job's steps: how it begins at a place, by what stands there.
-use mathlib.Core.Path.{_≡_, refl, sym, ap, _∙_}
+use mathlib.Core.Path.{_≡_, refl, ap, _∙_}
 use Prim.Native.Nat.{ℕ, zero, suc, _+_, _<_, _≤_}
 use native.Mathlib.Nat.{add-zero}
 use native.Mathlib.Omega.{arith}
 use mathlib.Core.List.{List, [], _∷_}
 use lib.ListN.{length, drop, drop-of-length-le}
 use lib.Seq.{drop-drop}
+use Rattle.word.specs.Choice.{given}
 use Rattle.job.specs.declared.types.Step.{Step}
+use Rattle.job.specs.declared.types.Refusal.{Refusal}
 use Rattle.job.specs.declared.types.Read.{Read}
 use Rattle.job.specs.Step.{operands, front, stepAt, readNumber}
-use Rattle.job.specs.Steps.{Placed, placed, following, stepsFrom}
+use Rattle.job.specs.Steps.{Placed, placed, behind, stepsFrom}
 use Rattle.job.proofs.StepLaws.{front-next, stepAt-of-end}
+
+-- what holds of the later steps and of none holds of what comes behind
+pub behind-either : (Holds : List Placed → Type 0) (read : Read) (later : ℕ → List Placed)
+    → ((skip : ℕ) → Holds (later skip)) → Holds [] → Holds (behind read later)
+unfolding behind
+behind-either Holds (Read.Step step next) later each none = each (operands step)
+behind-either Holds Read.End later each none = each 0
+behind-either Holds (Read.Refused why) later each none = none
 
 -- the words that belong to the step before are passed over
 pub stepsFrom-of-skip : (skip at : ℕ) (words : List ℕ) → stepsFrom skip at words ≡ stepsFrom 0 (at + skip) (drop skip words)
@@ -31,12 +41,12 @@ steps-of-end job at reads = steps-at-end job at (stepAt-of-end job at reads)
 -- a run that begins with a step
 pub stepsFrom-of-step : (at : ℕ) (words : List ℕ) (step : Step) (next : ℕ) → front at words ≡ Read.Step step next
     → stepsFrom 0 at words ≡ placed at (Read.Step step next) ∷ stepsFrom 0 next (drop (suc (operands step)) words)
-unfolding stepsFrom following front
+unfolding stepsFrom behind front
 stepsFrom-of-step at [] step next reads = let n : _≡_ {A = ℕ} 0 1 = cc in absurd (omega arith)
 stepsFrom-of-step at (first ∷ rest) step next reads =
     let past = front-next at (first ∷ rest) step next reads in
     let same : at + 1 + operands step ≡ next = omega arith in
-    ap (λ (read : Read). placed at read ∷ stepsFrom (following read) (at + 1) rest) reads
+    ap (λ (read : Read). placed at read ∷ behind read (λ skip. stepsFrom skip (at + 1) rest)) reads
     ∙ ap (λ (later : List Placed). placed at (Read.Step step next) ∷ later)
     (stepsFrom-of-skip (operands step) (at + 1) rest ∙ ap (λ (place : ℕ). stepsFrom 0 place (drop (operands step) rest)) same)
 
@@ -50,30 +60,22 @@ steps-of-step job at step next reads =
     ∙ ap (λ (later : List ℕ). placed at (Read.Step step next) ∷ stepsFrom 0 next later)
     (drop-drop (suc (operands step)) at job ∙ ap (λ (place : ℕ). drop place job) same)
 
--- what is refused has a number; no word after the first belongs to it, and it is not the end
-following-of-fault : (read : Read) → 0 < readNumber read → following read ≡ 0
-unfolding readNumber following
-following-of-fault (Read.Step step next) faulty = absurd (omega arith)
-following-of-fault Read.End faulty = refl
-following-of-fault Read.NoStep faulty = refl
-following-of-fault Read.CutOff faulty = refl
-following-of-fault Read.OddStore faulty = refl
+-- a run that begins with what is refused: it stands alone
+stepsFrom-of-refused : (at : ℕ) (words : List ℕ) (why : Refusal) → front at words ≡ Read.Refused why
+    → stepsFrom 0 at words ≡ placed at (Read.Refused why) ∷ []
+unfolding stepsFrom behind front
+stepsFrom-of-refused at [] why reads = let n : _≡_ {A = ℕ} 0 1 = cc in absurd (omega arith)
+stepsFrom-of-refused at (first ∷ rest) why reads =
+    ap (λ (read : Read). placed at read ∷ behind read (λ skip. stepsFrom skip (at + 1) rest)) reads
 
-end-is-no-fault : (read : Read) → 0 < readNumber read → read ≡ Read.End → ⊥
-unfolding readNumber
-end-is-no-fault read faulty same = omega (arith, ap readNumber same)
+pub steps-of-refused : (job : List ℕ) (at : ℕ) (why : Refusal) → stepAt job at ≡ Read.Refused why
+    → stepsFrom 0 at (drop at job) ≡ placed at (Read.Refused why) ∷ []
+unfolding stepAt
+steps-of-refused job at why reads = stepsFrom-of-refused at (drop at job) why reads
 
--- a run that begins with what is refused: it stands first, at its place
-module _ (job : List ℕ) (at : ℕ) where
-  stepsFrom-of-fault : (words : List ℕ) (read : Read) → front at words ≡ read → 0 < readNumber read
-      → stepsFrom 0 at words ≡ placed at read ∷ stepsFrom 0 (at + 1) (drop 1 words)
-  unfolding stepsFrom front
-  stepsFrom-of-fault [] read reads faulty = absurd (end-is-no-fault read faulty (sym reads))
-  stepsFrom-of-fault (first ∷ rest) read reads faulty =
-      ap (λ (read : Read). placed at read ∷ stepsFrom (following read) (at + 1) rest) reads
-      ∙ ap (λ (skip : ℕ). placed at read ∷ stepsFrom skip (at + 1) rest) (following-of-fault read faulty)
-
-  pub steps-of-fault : (read : Read) → stepAt job at ≡ read → 0 < readNumber read
-      → stepsFrom 0 at (drop at job) ≡ placed at read ∷ stepsFrom 0 (at + 1) (drop (at + 1) job)
-  unfolding stepAt
-  steps-of-fault read reads faulty = rw (← drop-drop 1 at job) (stepsFrom-of-fault (drop at job) read reads faulty)
+-- what is refused has a number, which the end hasn't
+pub readNumber-of-refused : (why : Refusal) → 0 < readNumber (Read.Refused why)
+unfolding readNumber given
+readNumber-of-refused Refusal.NoStep = omega arith
+readNumber-of-refused Refusal.CutOff = omega arith
+readNumber-of-refused Refusal.OddStore = omega arith

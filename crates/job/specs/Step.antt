@@ -1,13 +1,14 @@
 -- Paper 01, "Jobs": the steps of a job, and what stands at a place of it.
 use Prim.Native.Nat.{ℕ, _+_, _%_}
-use mathlib.Core.Bool.{Bool}
+use mathlib.Core.Bool.{Bool, true}
 use mathlib.Core.List.{List, [], _∷_}
 use lib.Dec.{eqb}
 use lib.ListN.{drop}
-use Rattle.word.specs.Choice.{if_then_else_}
+use Rattle.word.specs.Choice.{if_then_else_, Rule, _when_, given}
 use Rattle.word.specs.Pointer.{pointer}
 use Rattle.job.specs.declared.types.Kind.{Kind}
 use Rattle.job.specs.declared.types.Step.{Step}
+use Rattle.job.specs.declared.types.Refusal.{Refusal}
 use Rattle.job.specs.declared.types.Read.{Read}
 use Rattle.job.specs.Kind.{kind}
 
@@ -30,15 +31,15 @@ isOdd low = eqb (low % 2) 1
 -- The refusals in their order: "first word begins no step", "step cut off by the job's end", "store's low half odd".
 -- A store "puts the value into memory at that byte address": the word number is that of the two halves as a pointer
 unfoldable pub begun : Kind → (at : ℕ) → (rest : List ℕ) → Read
-begun Kind.Nothing at rest = Read.NoStep
-begun (Kind.Register place) at [] = Read.CutOff
+begun Kind.Nothing at rest = Read.Refused Refusal.NoStep
+begun (Kind.Register place) at [] = Read.Refused Refusal.CutOff
 begun (Kind.Register place) at (value ∷ rest) = found at (Step.Register place value)
-begun Kind.Size at [] = Read.CutOff
+begun Kind.Size at [] = Read.Refused Refusal.CutOff
 begun Kind.Size at (value ∷ rest) = found at (Step.Size value)
-begun (Kind.Store high) at [] = Read.CutOff
-begun (Kind.Store high) at (low ∷ []) = Read.CutOff
+begun (Kind.Store high) at [] = Read.Refused Refusal.CutOff
+begun (Kind.Store high) at (low ∷ []) = Read.Refused Refusal.CutOff
 begun (Kind.Store high) at (low ∷ value ∷ rest) =
-    if isOdd low then Read.OddStore else
+    if isOdd low then Read.Refused Refusal.OddStore else
     found at (Step.Store (pointer high low .word) value)
 begun (Kind.Flag flag) at rest = found at (Step.Flag flag)
 
@@ -51,10 +52,18 @@ front at (first ∷ rest) = begun (kind first) at rest
 unfoldable pub stepAt : (job : List ℕ) → (at : ℕ) → Read
 stepAt job at = front at (drop at job)
 
--- "Numbers given back": the number for each case; 0 for a step and for the end
+-- "Numbers given back": the number for each reason
+abbrev pub refusalNumber : Refusal → ℕ
+refusalNumber Refusal.NoStep = 4
+refusalNumber Refusal.CutOff = 5
+refusalNumber Refusal.OddStore = 6
+
+-- the rule for what stands at a place: only what is refused as no step has one
+abbrev pub readRules : Read → List Rule
+readRules (Read.Step step next) = []
+readRules Read.End = []
+readRules (Read.Refused why) = refusalNumber why when true ∷ []
+
+-- its number: 0 for a step and for the end
 unfoldable pub readNumber : Read → ℕ
-readNumber (Read.Step step next) = 0
-readNumber Read.End = 0
-readNumber Read.NoStep = 4
-readNumber Read.CutOff = 5
-readNumber Read.OddStore = 6
+readNumber read = given (readRules read)

@@ -7,6 +7,7 @@ ghost use Rattle.job.specs.Kind.{kind};
 ghost use Rattle.job.specs.Step.{begun, stepAt};
 use crate::types::Kind;
 use crate::types::Read;
+use crate::types::Refusal;
 use crate::types::Step;
 
 // What a first word begins. Past the table and 058, no word below 8000 begins a step.
@@ -55,7 +56,7 @@ fn register_at(job: &[u16], at: usize, place: u32) -> Read
     if 2 <= words {
         return Read::Step(Step::Register(place, word_at(job, at + 1)), at + 2);
     }
-    Read::CutOff
+    Read::Refused(Refusal::CutOff)
 }
 
 fn size_at(job: &[u16], at: usize) -> Read
@@ -66,7 +67,7 @@ fn size_at(job: &[u16], at: usize) -> Read
     if 2 <= words {
         return Read::Step(Step::Size(word_at(job, at + 1)), at + 2);
     }
-    Read::CutOff
+    Read::Refused(Refusal::CutOff)
 }
 
 // A store's refusals in their order: cut off, then odd.
@@ -77,10 +78,10 @@ fn store_at(job: &[u16], at: usize, high: u16) -> Read
     let words = job.len() - at;
     let low = word_at(job, at + 1);
     if words < 3 {
-        return Read::CutOff;
+        return Read::Refused(Refusal::CutOff);
     }
     if low % 2 == 1 {
-        return Read::OddStore;
+        return Read::Refused(Refusal::OddStore);
     }
     let to = word::pointer::pointer(high, low);
     Read::Step(Step::Store(to.word, word_at(job, at + 2)), at + 3)
@@ -98,6 +99,6 @@ pub fn step_at(job: &[u16], at: usize) -> Read
         Kind::Size => size_at(job, at),
         Kind::Store(high) => store_at(job, at, high),
         Kind::Flag(flag) => Read::Step(Step::Flag(flag), at + 1),
-        Kind::Nothing => Read::NoStep,
+        Kind::Nothing => Read::Refused(Refusal::NoStep),
     }
 }

@@ -19,11 +19,16 @@ pub enum Step {
     Flag(u16),
 }
 
-// What stands at a place of a job: a step with the place of the next, the end, or the reason why it is no step.
-pub enum Read {
-    Step(Step, usize),
-    End,
+// Why what stands at a place of a job is no step, in the order of the paper.
+pub enum Refusal {
     NoStep,
     CutOff,
     OddStore,
+}
+
+// What stands at a place of a job: a step with the place of the next, the end, or what is refused as no step.
+pub enum Read {
+    Step(Step, usize),
+    End,
+    Refused(Refusal),
 }

@@ -9,8 +9,8 @@ use Rattle.word.specs.Choice.{if_then_else_}
 use Rattle.word.specs.Pointer.{high, low}
 use Rattle.file.specs.File.{kept}
 use Rattle.file.specs.Places.{control0, pointerA, pointerB, pointerC, pointerD, sourceA, sourceB, sourceC}
-use Rattle.area.specs.declared.types.Uses.{Uses}
-use Rattle.area.specs.Setup.{uses}
+use Rattle.word.specs.declared.types.Uses.{Uses}
+use Rattle.word.specs.Control.{uses}
 use Rattle.knowledge.specs.declared.types.Known.{Known}
 use Rattle.knowledge.specs.Known.{number, isKnown}
 

@@ -5,10 +5,10 @@ ghost use Rattle.file.specs.Places.{fileLength};
 ghost use Rattle.knowledge.specs.Knowledge.{listed};
 ghost use Rattle.learning.specs.Learn.{written, mayUse, forgetPointer, forgetSource, forgetUsed};
 ghost use Rattle.learning.specs.Learn.{forgotten, movedD};
-use area::types::Uses;
 use knowledge::types::Knowledge;
 use knowledge::types::Known;
 use word::types::Pointer;
+use word::types::Uses;
 
 // A register write makes it known.
 pub fn written(known: Knowledge, place: u32, value: u16) -> Knowledge
@@ -23,7 +23,7 @@ fn may_use(known: Knowledge) -> Uses
     let controls = known.controls;
     let con0 = controls.con0;
     match con0 {
-        Known::Is(number) => area::setup::uses(number),
+        Known::Is(number) => word::control::uses(number),
         Known::Unknown => Uses {
             a: true,
             b: true,

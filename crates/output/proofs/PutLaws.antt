@@ -51,19 +51,19 @@ put-end-of-parts pointer allzero word at out one two flags first second =
     ∙ ap (λ (last : List ℕ). laid (pointerWords pointer ++ last) at out) flags
 
 -- words copied one by one
-pub copied-turn : (job out next whole : List ℕ) (left at from word : ℕ)
-    → 0 < left → from + left ≤ length job → word ≡ getD job from 0 → next ≡ set out at word
-    → laid (take left (drop from job)) at out ≡ whole
-    → laid (take (left - 1) (drop (from + 1) job)) (at + 1) next ≡ whole
+pub copied-turn : (job out next whole : List ℕ) (remaining at from word : ℕ)
+    → 0 < remaining → from + remaining ≤ length job → word ≡ getD job from 0 → next ≡ set out at word
+    → laid (take remaining (drop from job)) at out ≡ whole
+    → laid (take (remaining - 1) (drop (from + 1) job)) (at + 1) next ≡ whole
 unfolding laid
 copied-turn job out next whole zero at from word more inside is sets so-far = absurd (omega arith)
-copied-turn job out next whole (suc left) at from word more inside is sets so-far =
+copied-turn job out next whole (suc remaining) at from word more inside is sets so-far =
     let same : suc from ≡ from + 1 = omega arith in
     let split : drop from job ≡ getD job from 0 ∷ drop (from + 1) job =
     drop-cons job from 0 (omega arith) ∙ ap (λ (place : ℕ). getD job from 0 ∷ drop place job) same in
-    rw (sub-one, sets, is) (sym (ap (λ (rest : List ℕ). laid (take (suc left) rest) at out) split) ∙ so-far)
+    rw (sub-one, sets, is) (sym (ap (λ (rest : List ℕ). laid (take (suc remaining) rest) at out) split) ∙ so-far)
 
-pub copied-done : (job out whole : List ℕ) (left at from : ℕ) → left ≤ 0 → laid (take left (drop from job)) at out ≡ whole → out ≡ whole
+pub copied-done : (job out whole : List ℕ) (remaining at from : ℕ) → remaining ≤ 0 → laid (take remaining (drop from job)) at out ≡ whole → out ≡ whole
 unfolding laid
 copied-done job out whole zero at from none so-far = so-far
-copied-done job out whole (suc left) at from none so-far = absurd (omega arith)
+copied-done job out whole (suc remaining) at from none so-far = absurd (omega arith)

@@ -53,13 +53,13 @@ pub fn put_copied(out: &mut [u16], at: u32, job: &[u16], from: usize, count: u32
         now (out .exit)
         ≡ laid (take count (drop from (now (job .entry)))) at (now (out .entry)) ⌝ }
 {
-    let mut left = count;
+    let mut remaining = count;
     let mut to = at;
     let mut here = from;
-    while 0 < left {
+    while 0 < remaining {
         word::memory::write(out, to, job[here]);
         to = to + 1;
         here = here + 1;
-        left = left - 1;
+        remaining = remaining - 1;
     }
 }

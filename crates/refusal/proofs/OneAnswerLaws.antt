@@ -1,14 +1,16 @@
 -- The number of a refusal tells it from all others, and is never 0: what a verdict's number is tells the verdict.
 use mathlib.Core.Path.{_≡_, refl, sym, ap, _∙_}
 use Prim.Native.Nat.{ℕ}
-use borrow.Author.Tests.{eqb-false}
+use mathlib.Core.Bool.{Bool, true}
+use borrow.Author.Tests.{eqb-false, eq-eqb}
 use lib.Dec.{eqb}
 use Rattle.word.specs.Choice.{if_then_else_}
 use Rattle.refusal.specs.declared.types.Refusal.{Refusal}
 use Rattle.refusal.specs.declared.types.Refusal.the-variants.{MemorySize, RegisterFile, Line, BothFills, FillUpward, ALeaves, BLeaves, CLeaves, DLeaves}
+use Rattle.refusal.specs.declared.types.Plan.{Plan}
 use Rattle.refusal.specs.declared.types.Verdict.{Verdict}
 use Rattle.refusal.specs.declared.types.Verdict.the-variants.{Lawful, Refused}
-use Rattle.refusal.specs.Refusal.{refusalNumber, verdictNumber}
+use Rattle.refusal.specs.Refusal.{plan, refusalNumber, verdictNumber, handed}
 use Rattle.refusal.specs.OneAnswer.{OneAnswer, OneStepAnswer}
 use Rattle.refusal.proofs.RefusalLaws.{refusal-is-some}
 
@@ -25,7 +27,7 @@ refusalOf number =
     if eqb number 16 then CLeaves else
     DLeaves
 
-refusalNumber-tells : (why : Refusal) → refusalOf (refusalNumber why) ≡ why
+pub refusalNumber-tells : (why : Refusal) → refusalOf (refusalNumber why) ≡ why
 unfolding refusalOf
 refusalNumber-tells MemorySize = refl
 refusalNumber-tells RegisterFile = refl
@@ -37,20 +39,31 @@ refusalNumber-tells BLeaves = refl
 refusalNumber-tells CLeaves = refl
 refusalNumber-tells DLeaves = refl
 
+-- a number that a blit's refusal has
+abbrev pub isOwn : ℕ → Bool
+isOwn number = eqb (refusalNumber (refusalOf number)) number
+
+pub refusalNumber-is-own : (why : Refusal) → isOwn (refusalNumber why) ≡ true
+refusalNumber-is-own why = eq-eqb _ _ (ap refusalNumber (refusalNumber-tells why))
+
 pub refusalNumber-is-unique : (why reason : Refusal) → refusalNumber why ≡ refusalNumber reason → why ≡ reason
 refusalNumber-is-unique why reason same = sym (refusalNumber-tells why) ∙ ap refusalOf same ∙ refusalNumber-tells reason
 
 pub refusalNumber-positive : (why : Refusal) → refusalNumber why ≡ 0 → ⊥
 refusalNumber-positive why = eqb-false (refusalNumber why) 0 (refusal-is-some why)
 
-verdict-is-unique : (first second : Verdict) → verdictNumber first ≡ verdictNumber second → first ≡ second
-verdict-is-unique Lawful Lawful same = refl
-verdict-is-unique Lawful (Refused why) same = absurd (refusalNumber-positive why (sym same))
-verdict-is-unique (Refused why) Lawful same = absurd (refusalNumber-positive why same)
-verdict-is-unique (Refused why) (Refused reason) same = ap Refused (refusalNumber-is-unique why reason same)
+-- two verdicts with one number that hand on the same
+verdict-is-unique : (by : Plan) (first second : Verdict) → verdictNumber first ≡ verdictNumber second
+    → handed first by ≡ by → handed second by ≡ by → first ≡ second
+verdict-is-unique by (Lawful one) (Lawful other) same hands again = ap Lawful (hands ∙ sym again)
+verdict-is-unique by (Lawful one) (Refused why) same hands again = absurd (refusalNumber-positive why (sym same))
+verdict-is-unique by (Refused why) (Lawful other) same hands again = absurd (refusalNumber-positive why same)
+verdict-is-unique by (Refused why) (Refused reason) same hands again = ap Refused (refusalNumber-is-unique why reason same)
 
 pub one-answer : OneAnswer
-one-answer n file size first second promise again = verdict-is-unique first second (promise ∙ sym again)
+one-answer n file size first second promise again =
+    verdict-is-unique (plan file size) first second (promise .0 ∙ sym (again .0)) (promise .1) (again .1)
 
 pub one-step-answer : OneStepAnswer
-one-step-answer n file size first second promise again = verdict-is-unique first second (promise ∙ sym again)
+one-step-answer n file size first second promise again =
+    verdict-is-unique (plan file size) first second (promise .0 ∙ sym (again .0)) (promise .1) (again .1)

@@ -1,110 +1,105 @@
 -- Laws of the refusals.
 use mathlib.Core.Path.{_≡_, refl, sym, ap, _∙_}
-use Prim.Native.Nat.{ℕ, _/_, _%_, _<_, _≤_}
+use Prim.Native.Nat.{ℕ, _<_, _≤_}
 use mathlib.Core.Bool.{Bool, true, false, not, _&&_, _||_}
 use mathlib.Core.List.{List}
 use native.Mathlib.Omega.{arith}
-use native.Mathlib.Decide.{decLt}
-use borrow.Author.Tests.{lt-ltb, le-ltb, le-leb, lt-leb, eq-eqb, ne-eqb}
-use lib.Dec.{eqb, leb, ltb}
+use lib.Dec.{eqb}
 use Rattle.word.specs.Choice.{if_then_else_, given}
 use Rattle.word.specs.Pointer.{pointerEnd, pointer}
 use Rattle.word.specs.Size.{height, width}
 use Rattle.word.proofs.SizeLaws.{width-le, width-positive}
-use Rattle.file.specs.File.{accepted}
+use Rattle.file.specs.File.{accepted, con1}
 use Rattle.file.specs.Places.{pointerA, pointerB, pointerC, pointerD}
-use Rattle.area.specs.declared.types.Setup.{Setup}
-use Rattle.area.specs.declared.types.Pointers.{Pointers}
-use Rattle.area.specs.Setup.{con1, line, setup}
+use Rattle.area.specs.Setup.{setup}
+use Rattle.word.specs.Control.{line}
 use Rattle.area.specs.Flow.{pointerAt, pointers}
+use Rattle.refusal.specs.declared.types.Plan.{Plan}
+use Rattle.refusal.specs.declared.types.Verdict.{Verdict}
 use Rattle.refusal.specs.declared.types.Refusal.{Refusal}
 use Rattle.refusal.specs.declared.types.Refusal.the-variants.{MemorySize, RegisterFile, Line, BothFills, FillUpward, ALeaves, BLeaves, CLeaves, DLeaves}
 use Rattle.refusal.specs.Touch.{touches, leaves, channelLeaves}
-use Rattle.refusal.specs.Refusal.{memorySize, bothFills, fillUpward, leaving, stepRefusal, refusal, refusalNumber}
-
--- the far end tested the other way round
-pub memorySize-is-beyond : (n : ℕ) → (eqb n 0 || ltb pointerEnd n) ≡ memorySize n
-unfolding memorySize
-memorySize-is-beyond n = ap (λ (far : Bool). eqb n 0 || far) (by-order (decLt pointerEnd n))
-  where
-    by-order : Dec (pointerEnd < n) → ltb pointerEnd n ≡ not (leb n pointerEnd)
-    by-order (yes far) = rw (lt-ltb pointerEnd n far, lt-leb n pointerEnd far)
-    by-order (no near) = let inside : n ≤ pointerEnd = omega arith in rw (le-ltb pointerEnd n inside, le-leb n pointerEnd inside)
+use Rattle.refusal.specs.Refusal.{bothFills, fillUpward, plan, goesOut, leaving, stepRefusal, refusal, refusalNumber, handed}
+use Rattle.word.specs.Memory.{memorySize}
 
 pub pointerAt-lt : (file : List ℕ) (place : ℕ) → pointerAt file place .word < pointerEnd
 unfolding pointerAt pointer
 pointerAt-lt file place = omega arith
 
-pub width-is-some : (size words : ℕ) → words ≡ width size → 1 ≤ words
-width-is-some size words wide = rw wide (width-positive size)
-
-pub width-is-few : (size words : ℕ) → words ≡ width size → words ≤ 64
-width-is-few size words wide = rw wide (width-le size)
-
-module _ (file : List ℕ) (at : Pointers) (same : at ≡ pointers file) where
-  pub pointers-lt-a : at .a .word < pointerEnd
+module _ (file : List ℕ) (size : ℕ) (by : Plan) (same : by ≡ plan file size) where
+  pub plan-lt-a : by .pointers .a .word < pointerEnd
   unfolding pointers
-  pointers-lt-a = rw same (pointerAt-lt file pointerA)
+  plan-lt-a = rw same (pointerAt-lt file pointerA)
 
-  pub pointers-lt-b : at .b .word < pointerEnd
+  pub plan-lt-b : by .pointers .b .word < pointerEnd
   unfolding pointers
-  pointers-lt-b = rw same (pointerAt-lt file pointerB)
+  plan-lt-b = rw same (pointerAt-lt file pointerB)
 
-  pub pointers-lt-c : at .c .word < pointerEnd
+  pub plan-lt-c : by .pointers .c .word < pointerEnd
   unfolding pointers
-  pointers-lt-c = rw same (pointerAt-lt file pointerC)
+  plan-lt-c = rw same (pointerAt-lt file pointerC)
 
-  pub pointers-lt-d : at .d .word < pointerEnd
+  pub plan-lt-d : by .pointers .d .word < pointerEnd
   unfolding pointers
-  pointers-lt-d = rw same (pointerAt-lt file pointerD)
+  plan-lt-d = rw same (pointerAt-lt file pointerD)
+
+  pub plan-is-some : 1 ≤ by .width
+  plan-is-some = rw same (width-positive size)
+
+  pub plan-is-few : by .width ≤ 64
+  plan-is-few = rw same (width-le size)
 
 -- the channels one after the other: the first that leaves decides
-module _ (n : ℕ) (set : Setup) (at : Pointers) (size wide tall : ℕ) (width-is : wide ≡ width size) (height-is : tall ≡ height size) (a : Bool)
-    (of-a : a ≡ channelLeaves n (set .direction) (set .uses .a) wide (set .modulos .a) tall (at .a)) where
-  pub leaving-by-a : a ≡ true → 14 ≡ leaving n set at size
+module _ (n : ℕ) (by : Plan) (a : Bool) (of-a : a ≡ goesOut n by (by .setup .uses .a) (by .setup .modulos .a) (by .pointers .a)) where
+  pub leaving-by-a : a ≡ true → 14 ≡ leaving n by
   unfolding leaving given
-  leaving-by-a outside = rw (← width-is, ← height-is, ← of-a, outside)
+  leaving-by-a outside = rw (← of-a, outside)
 
-  module _ (a-stays : a ≡ false) (b : Bool) (of-b : b ≡ channelLeaves n (set .direction) (set .uses .b) wide (set .modulos .b) tall (at .b)) where
-    pub leaving-by-b : b ≡ true → 15 ≡ leaving n set at size
+  module _ (a-stays : a ≡ false) (b : Bool) (of-b : b ≡ goesOut n by (by .setup .uses .b) (by .setup .modulos .b) (by .pointers .b)) where
+    pub leaving-by-b : b ≡ true → 15 ≡ leaving n by
     unfolding leaving given
-    leaving-by-b outside = rw (← width-is, ← height-is, ← of-a, ← of-b, a-stays, outside)
+    leaving-by-b outside = rw (← of-a, ← of-b, a-stays, outside)
 
-    module _ (b-stays : b ≡ false) (c : Bool) (of-c : c ≡ channelLeaves n (set .direction) (set .uses .c) wide (set .modulos .c) tall (at .c)) where
-      pub leaving-by-c : c ≡ true → 16 ≡ leaving n set at size
+    module _ (b-stays : b ≡ false) (c : Bool) (of-c : c ≡ goesOut n by (by .setup .uses .c) (by .setup .modulos .c) (by .pointers .c)) where
+      pub leaving-by-c : c ≡ true → 16 ≡ leaving n by
       unfolding leaving given
-      leaving-by-c outside = rw (← width-is, ← height-is, ← of-a, ← of-b, ← of-c, a-stays, b-stays, outside)
+      leaving-by-c outside = rw (← of-a, ← of-b, ← of-c, a-stays, b-stays, outside)
 
-      module _ (c-stays : c ≡ false) (d : Bool) (of-d : d ≡ channelLeaves n (set .direction) (set .uses .d) wide (set .modulos .d) tall (at .d)) where
-        pub leaving-by-d : d ≡ true → 17 ≡ leaving n set at size
+      module _ (c-stays : c ≡ false) (d : Bool) (of-d : d ≡ goesOut n by (by .setup .uses .d) (by .setup .modulos .d) (by .pointers .d)) where
+        pub leaving-by-d : d ≡ true → 17 ≡ leaving n by
         unfolding leaving given
-        leaving-by-d outside = rw (← width-is, ← height-is, ← of-a, ← of-b, ← of-c, ← of-d, a-stays, b-stays, c-stays, outside)
+        leaving-by-d outside = rw (← of-a, ← of-b, ← of-c, ← of-d, a-stays, b-stays, c-stays, outside)
 
-        pub leaving-by-none : d ≡ false → 0 ≡ leaving n set at size
+        pub leaving-by-none : d ≡ false → 0 ≡ leaving n by
         unfolding leaving given
-        leaving-by-none stays = rw (← width-is, ← height-is, ← of-a, ← of-b, ← of-c, ← of-d, a-stays, b-stays, c-stays, stays)
+        leaving-by-none stays = rw (← of-a, ← of-b, ← of-c, ← of-d, a-stays, b-stays, c-stays, stays)
 
 -- the rules of a blit, one after the other
-module _ (n size : ℕ) (file : List ℕ) (control : ℕ) (reads : control ≡ con1 file) where
-  pub refused-by-line : control / 1 % 2 ≡ 1 → 7 ≡ stepRefusal n file size
+module _ (n size : ℕ) (file : List ℕ) (control : ℕ) (reads : control ≡ con1 file) (lines : Bool) (of-lines : lines ≡ line control) where
+  pub refused-by-line : lines ≡ true → 7 ≡ stepRefusal n file size
   unfolding stepRefusal given
-  refused-by-line holds = rw (← reads, eq-eqb (control / 1 % 2) 1 holds)
+  refused-by-line holds = rw (← reads, ← of-lines, holds)
 
-  module _ (area : control / 1 % 2 ≡ 1 → ⊥) (both : Bool) (of-both : both ≡ bothFills control) where
+  module _ (area : lines ≡ false) (both : Bool) (of-both : both ≡ bothFills control) where
     pub refused-by-both-fills : both ≡ true → 8 ≡ stepRefusal n file size
     unfolding stepRefusal given
-    refused-by-both-fills holds = rw (← reads, ne-eqb (control / 1 % 2) 1 area, ← of-both, holds)
+    refused-by-both-fills holds = rw (← reads, ← of-lines, area, ← of-both, holds)
 
     module _ (one : both ≡ false) (upward : Bool) (of-upward : upward ≡ fillUpward control) where
       pub refused-by-fill-upward : upward ≡ true → 9 ≡ stepRefusal n file size
       unfolding stepRefusal given
-      refused-by-fill-upward holds = rw (← reads, ne-eqb (control / 1 % 2) 1 area, ← of-both, one, ← of-upward, holds)
+      refused-by-fill-upward holds = rw (← reads, ← of-lines, area, ← of-both, one, ← of-upward, holds)
 
-      pub refused-by-leaving : upward ≡ false → (set : Setup) (at : Pointers) (number : ℕ)
-          → set ≡ setup file → at ≡ pointers file → number ≡ leaving n set at size → number ≡ stepRefusal n file size
+      pub refused-by-leaving : upward ≡ false → (by : Plan) (number : ℕ)
+          → by ≡ plan file size → number ≡ leaving n by → number ≡ stepRefusal n file size
       unfolding stepRefusal given leaving
-      refused-by-leaving downward set at number of-set of-at gives =
-          rw (← reads, ne-eqb (control / 1 % 2) 1 area, ← of-both, one, ← of-upward, downward, ← of-set, ← of-at) gives
+      refused-by-leaving downward by number of-by gives =
+          rw (← reads, ← of-lines, area, ← of-both, one, ← of-upward, downward) (rw of-by at gives)
+
+-- what is handed on
+pub handed-of-plan : (file : List ℕ) (size : ℕ) (by : Plan) (verdict : Verdict) → by ≡ plan file size → handed verdict by ≡ by
+    → handed verdict (plan file size) ≡ plan file size
+handed-of-plan file size by verdict same hands = rw same at hands
 
 -- memory and file, then the rules of the blit
 module _ (n size : ℕ) (file : List ℕ) (bad : Bool) (of-bad : bad ≡ memorySize n) where
@@ -154,7 +149,7 @@ numbered memory file line both upward channel =
 pub refusal-is-numbered : (n : ℕ) (file : List ℕ) (size : ℕ)
     → refusal n file size
     ≡ numbered (memorySize n) (not (accepted file)) (line (con1 file)) (bothFills (con1 file)) (fillUpward (con1 file))
-    (leaving n (setup file) (pointers file) size)
+    (leaving n (plan file size))
 unfolding refusal given leaving
 refusal-is-numbered n file size = refl
 
@@ -167,17 +162,17 @@ numbered-of-none false false false false true channel lawful = absurd (omega ari
 numbered-of-none false false false false false channel lawful = lawful
 
 -- a blit that nothing refuses doesn't leave memory
-pub refusal-of-none : (n : ℕ) (file : List ℕ) (size : ℕ) → refusal n file size ≡ 0 → leaving n (setup file) (pointers file) size ≡ 0
+pub refusal-of-none : (n : ℕ) (file : List ℕ) (size : ℕ) → refusal n file size ≡ 0 → leaving n (plan file size) ≡ 0
 refusal-of-none n file size lawful =
     numbered-of-none (memorySize n) (not (accepted file)) (line (con1 file)) (bothFills (con1 file)) (fillUpward (con1 file))
-    (leaving n (setup file) (pointers file) size) (sym (refusal-is-numbered n file size) ∙ lawful)
+    (leaving n (plan file size)) (sym (refusal-is-numbered n file size) ∙ lawful)
 
 -- the same of a job's blit
-pub stepRefusal-of-none : (n : ℕ) (file : List ℕ) (size : ℕ) → stepRefusal n file size ≡ 0 → leaving n (setup file) (pointers file) size ≡ 0
+pub stepRefusal-of-none : (n : ℕ) (file : List ℕ) (size : ℕ) → stepRefusal n file size ≡ 0 → leaving n (plan file size) ≡ 0
 unfolding stepRefusal given leaving
 stepRefusal-of-none n file size lawful =
     numbered-of-none false false (line (con1 file)) (bothFills (con1 file)) (fillUpward (con1 file))
-    (leaving n (setup file) (pointers file) size) lawful
+    (leaving n (plan file size)) lawful
 
 -- then D, if it is used, stays inside
 last-of-none : (a b c used outside : Bool) → used ≡ true → channelNumbered a b c (used && outside) ≡ 0 → outside ≡ false
@@ -188,12 +183,12 @@ last-of-none false false false true true uses none = absurd (omega arith)
 last-of-none false false false false true uses none = sym uses
 last-of-none false false false used false uses none = refl
 
-pub leaving-of-d : (n size : ℕ) (set : Setup) (at : Pointers) → set .uses .d ≡ true → leaving n set at size ≡ 0
-    → leaves n (touches (set .direction) (width size) (set .modulos .d) (height size) (at .d)) ≡ false
+pub leaving-of-d : (n : ℕ) (by : Plan) → by .setup .uses .d ≡ true → leaving n by ≡ 0
+    → leaves n (touches (by .setup .direction) (by .width) (by .setup .modulos .d) (by .height) (by .pointers .d)) ≡ false
 unfolding leaving given channelLeaves
-leaving-of-d n size set at uses none =
+leaving-of-d n by uses none =
     last-of-none
-    (channelLeaves n (set .direction) (set .uses .a) (width size) (set .modulos .a) (height size) (at .a))
-    (channelLeaves n (set .direction) (set .uses .b) (width size) (set .modulos .b) (height size) (at .b))
-    (channelLeaves n (set .direction) (set .uses .c) (width size) (set .modulos .c) (height size) (at .c))
-    (set .uses .d) (leaves n (touches (set .direction) (width size) (set .modulos .d) (height size) (at .d))) uses none
+    (goesOut n by (by .setup .uses .a) (by .setup .modulos .a) (by .pointers .a))
+    (goesOut n by (by .setup .uses .b) (by .setup .modulos .b) (by .pointers .b))
+    (goesOut n by (by .setup .uses .c) (by .setup .modulos .c) (by .pointers .c))
+    (by .setup .uses .d) (leaves n (touches (by .setup .direction) (by .width) (by .setup .modulos .d) (by .height) (by .pointers .d))) uses none

@@ -30,13 +30,13 @@ leaves-upward n (suc zero) pointer short small some =
     leaves-by-first n (pointer .word) _ _
     (λ outside. lt-ltb n (pointer .word + 1) (omega arith))
     (λ inside. le-ltb n (pointer .word + 1) (omega arith))
-leaves-upward n (suc (suc left)) pointer short small some =
+leaves-upward n (suc (suc remaining)) pointer short small some =
     leaves-by-first n (pointer .word) _ _
-    (λ outside. lt-ltb n (pointer .word + suc (suc left)) (omega arith))
+    (λ outside. lt-ltb n (pointer .word + suc (suc remaining)) (omega arith))
     (λ inside.
     let next : (pointer .word + 1) % pointerEnd ≡ pointer .word + 1 = omega arith in
-    let far : pointer .word + suc (suc left) ≡ (pointer .word + 1) % pointerEnd + suc left = omega arith in
-    rw far (leaves-upward n (suc left) (record { word = (pointer .word + 1) % pointerEnd }) short (omega arith) (omega arith)))
+    let far : pointer .word + suc (suc remaining) ≡ (pointer .word + 1) % pointerEnd + suc remaining = omega arith in
+    rw far (leaves-upward n (suc remaining) (record { word = (pointer .word + 1) % pointerEnd }) short (omega arith) (omega arith)))
 
 -- two tests of order that hold together
 same-test : (a b c d : ℕ) → (a < b → c < d) → (b ≤ a → d ≤ c) → ltb a b ≡ ltb c d
@@ -53,26 +53,26 @@ unfolding leaves rowTouches moved
 leaves-downward n zero pointer short small some = absurd (omega arith)
 leaves-downward n (suc zero) pointer short small some =
     ap (λ (rest : Bool). leb n (pointer .word) || rest) (le-ltb (pointer .word + 1) 1 (omega arith))
-leaves-downward n (suc (suc left)) pointer short small some =
+leaves-downward n (suc (suc remaining)) pointer short small some =
     leaves-by-first n (pointer .word) _ _
     (λ outside. rw (le-leb n (pointer .word) outside))
     (λ inside. rw (lt-leb n (pointer .word) inside)
     (rest (pointer .word) inside
-    (leaves-downward n (suc left) (record { word = (pointer .word + (pointerEnd - 1)) % pointerEnd }) short (omega arith) (omega arith))))
+    (leaves-downward n (suc remaining) (record { word = (pointer .word + (pointerEnd - 1)) % pointerEnd }) short (omega arith) (omega arith))))
   where
     rest : (word : ℕ) → word < n
-        → (leb n ((word + (pointerEnd - 1)) % pointerEnd) || ltb ((word + (pointerEnd - 1)) % pointerEnd + 1) (suc left))
-        ≡ leaves n (rowTouches Descending (suc left) (record { word = (word + (pointerEnd - 1)) % pointerEnd }))
-        → ltb (word + 1) (suc (suc left)) ≡ leaves n (rowTouches Descending (suc left) (record { word = (word + (pointerEnd - 1)) % pointerEnd }))
+        → (leb n ((word + (pointerEnd - 1)) % pointerEnd) || ltb ((word + (pointerEnd - 1)) % pointerEnd + 1) (suc remaining))
+        ≡ leaves n (rowTouches Descending (suc remaining) (record { word = (word + (pointerEnd - 1)) % pointerEnd }))
+        → ltb (word + 1) (suc (suc remaining)) ≡ leaves n (rowTouches Descending (suc remaining) (record { word = (word + (pointerEnd - 1)) % pointerEnd }))
     rest zero inside later =
         let round : leb n 262143 ≡ true = le-leb n 262143 (omega arith) in
-        lt-ltb 1 (suc (suc left)) (omega arith) ∙ (ap (λ (first : Bool). first || ltb 262144 (suc left)) (sym round) ∙ later)
+        lt-ltb 1 (suc (suc remaining)) (omega arith) ∙ (ap (λ (first : Bool). first || ltb 262144 (suc remaining)) (sym round) ∙ later)
     rest (suc word) inside later =
         let next : (suc word + (pointerEnd - 1)) % pointerEnd ≡ word = omega arith in
         let below : leb n word ≡ false = lt-leb n word (omega arith) in
-        same-test (suc word + 1) (suc (suc left)) (word + 1) (suc left) (λ less. omega arith) (λ more. omega arith)
-        ∙ ap (λ (first : Bool). first || ltb (word + 1) (suc left)) (sym below)
-        ∙ ap (λ (at : ℕ). leb n at || ltb (at + 1) (suc left)) (sym next)
+        same-test (suc word + 1) (suc (suc remaining)) (word + 1) (suc remaining) (λ less. omega arith) (λ more. omega arith)
+        ∙ ap (λ (first : Bool). first || ltb (word + 1) (suc remaining)) (sym below)
+        ∙ ap (λ (at : ℕ). leb n at || ltb (at + 1) (suc remaining)) (sym next)
         ∙ later
 
 pub leaves-when-first-above : (n width : ℕ) (direction : Direction) (pointer : Pointer)

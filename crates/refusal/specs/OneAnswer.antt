@@ -4,14 +4,16 @@ use Prim.Native.Nat.{ℕ}
 use mathlib.Core.Path.{_≡_}
 use mathlib.Core.List.{List}
 use Rattle.refusal.specs.declared.types.Verdict.{Verdict}
-use Rattle.refusal.specs.Refusal.{stepRefusal, refusal, verdictNumber}
+use Rattle.refusal.specs.Refusal.{plan, stepRefusal, refusal, verdictNumber, handed}
 
 -- what the calls promise
 abbrev pub Meets : (n : ℕ) → (file : List ℕ) → (size : ℕ) → Verdict → Type 0
-Meets n file size verdict = verdictNumber verdict ≡ refusal n file size
+Meets n file size verdict =
+    (verdictNumber verdict ≡ refusal n file size) × (handed verdict (plan file size) ≡ plan file size)
 
 abbrev pub MeetsStep : (n : ℕ) → (file : List ℕ) → (size : ℕ) → Verdict → Type 0
-MeetsStep n file size verdict = verdictNumber verdict ≡ stepRefusal n file size
+MeetsStep n file size verdict =
+    (verdictNumber verdict ≡ stepRefusal n file size) × (handed verdict (plan file size) ≡ plan file size)
 
 abbrev pub OneAnswer : Type 0
 OneAnswer =

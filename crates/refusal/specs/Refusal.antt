@@ -4,24 +4,20 @@
 use Prim.Native.Nat.{ℕ}
 use mathlib.Core.Bool.{Bool, not, _&&_, _||_}
 use mathlib.Core.List.{List, [], _∷_}
-use lib.Dec.{eqb, leb}
 use Rattle.word.specs.Choice.{Rule, _when_, given}
-use Rattle.word.specs.Pointer.{pointerEnd}
+use Rattle.word.specs.declared.types.Pointer.{Pointer}
+use Rattle.word.specs.Memory.{memorySize}
 use Rattle.word.specs.Size.{height, width}
-use Rattle.file.specs.File.{accepted}
-use Rattle.area.specs.declared.types.Setup.{Setup}
-use Rattle.area.specs.declared.types.Pointers.{Pointers}
+use Rattle.word.specs.Control.{line, exclusiveFill, inclusiveFill, descending}
+use Rattle.file.specs.File.{accepted, con1}
 use Rattle.refusal.specs.declared.types.Refusal.{Refusal}
 use Rattle.refusal.specs.declared.types.Refusal.the-variants.{MemorySize, RegisterFile, Line, BothFills, FillUpward, ALeaves, BLeaves, CLeaves, DLeaves}
+use Rattle.refusal.specs.declared.types.Plan.{Plan}
 use Rattle.refusal.specs.declared.types.Verdict.{Verdict}
 use Rattle.refusal.specs.declared.types.Verdict.the-variants.{Lawful, Refused}
-use Rattle.area.specs.Setup.{con1, line, exclusiveFill, inclusiveFill, descending, setup}
+use Rattle.area.specs.Setup.{setup}
 use Rattle.area.specs.Flow.{pointers}
 use Rattle.refusal.specs.Touch.{channelLeaves}
-
--- "N outside 1 to 262,144"
-unfoldable pub memorySize : (n : ℕ) → Bool
-memorySize n = eqb n 0 || not (leb n pointerEnd)
 
 -- "both fill bits set"
 unfoldable pub bothFills : (con1 : ℕ) → Bool
@@ -31,18 +27,27 @@ bothFills con1 = exclusiveFill con1 && inclusiveFill con1
 unfoldable pub fillUpward : (con1 : ℕ) → Bool
 fillUpward con1 = (exclusiveFill con1 || inclusiveFill con1) && not (descending con1)
 
+-- what a blit goes by
+abbrev pub plan : (file : List ℕ) → (size : ℕ) → Plan
+plan file size =
+    record { setup = setup file; pointers = pointers file; width = width size; height = height size }
+
+-- a channel of a blit leaves memory
+abbrev pub goesOut : (n : ℕ) → Plan → (used : Bool) → (modulo : ℕ) → Pointer → Bool
+goesOut n by used modulo at = channelLeaves n (by .setup .direction) used (by .width) modulo (by .height) at
+
 -- "the first channel, in the order A, B, C, D, of which any word lies at N or above", whichever leaves earlier
-abbrev pub leavingRules : (n : ℕ) → Setup → Pointers → (size : ℕ) → List Rule
-leavingRules n set at size =
-    14 when channelLeaves n (set .direction) (set .uses .a) (width size) (set .modulos .a) (height size) (at .a)
-    ∷ 15 when channelLeaves n (set .direction) (set .uses .b) (width size) (set .modulos .b) (height size) (at .b)
-    ∷ 16 when channelLeaves n (set .direction) (set .uses .c) (width size) (set .modulos .c) (height size) (at .c)
-    ∷ 17 when channelLeaves n (set .direction) (set .uses .d) (width size) (set .modulos .d) (height size) (at .d)
+abbrev pub leavingRules : (n : ℕ) → Plan → List Rule
+leavingRules n by =
+    14 when goesOut n by (by .setup .uses .a) (by .setup .modulos .a) (by .pointers .a)
+    ∷ 15 when goesOut n by (by .setup .uses .b) (by .setup .modulos .b) (by .pointers .b)
+    ∷ 16 when goesOut n by (by .setup .uses .c) (by .setup .modulos .c) (by .pointers .c)
+    ∷ 17 when goesOut n by (by .setup .uses .d) (by .setup .modulos .d) (by .pointers .d)
     ∷ []
 
 -- the number of a blit that "leaves memory"; 0 where none of its channels does
-unfoldable pub leaving : (n : ℕ) → Setup → Pointers → (size : ℕ) → ℕ
-leaving n set at size = given (leavingRules n set at size)
+unfoldable pub leaving : (n : ℕ) → Plan → ℕ
+leaving n by = given (leavingRules n by)
 
 -- the rules of a job's blit, for which memory and file have been taken: 7, 8, 9, then the channels'
 abbrev pub blitRules : (n : ℕ) → (file : List ℕ) → (size : ℕ) → List Rule
@@ -50,7 +55,7 @@ blitRules n file size =
     7 when line (con1 file)
     ∷ 8 when bothFills (con1 file)
     ∷ 9 when fillUpward (con1 file)
-    ∷ leavingRules n (setup file) (pointers file) size
+    ∷ leavingRules n (plan file size)
 
 abbrev pub refusals : (n : ℕ) → (file : List ℕ) → (size : ℕ) → List Rule
 refusals n file size =
@@ -78,5 +83,10 @@ refusalNumber CLeaves = 16
 refusalNumber DLeaves = 17
 
 abbrev pub verdictNumber : Verdict → ℕ
-verdictNumber Lawful = 0
+verdictNumber (Lawful by) = 0
 verdictNumber (Refused why) = refusalNumber why
+
+-- what a verdict hands on: a lawful one what it carries, a refused one nothing, so that the other stands
+abbrev pub handed : Verdict → (other : Plan) → Plan
+handed (Lawful by) other = by
+handed (Refused why) other = other

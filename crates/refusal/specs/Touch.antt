@@ -6,23 +6,18 @@ use mathlib.Core.List.{List, [], _∷_, _++_}
 use lib.Dec.{eqb, leb}
 use Rattle.word.specs.declared.types.Direction.{Direction}
 use Rattle.word.specs.declared.types.Pointer.{Pointer}
-use Rattle.word.specs.Repeat.{repeated}
-use Rattle.word.specs.Pointer.{moved, passed}
+use Rattle.word.specs.Pointer.{moved, nextRow}
 
 -- the word numbers of a row, by the pointer's own moves
 unfoldable pub rowTouches : Direction → (width : ℕ) → Pointer → List ℕ
 rowTouches direction zero pointer = []
-rowTouches direction (suc left) pointer = pointer .word ∷ rowTouches direction left (moved direction pointer)
-
--- the pointer after a row's words and modulo
-unfoldable pub afterRow : Direction → (width modulo : ℕ) → Pointer → Pointer
-afterRow direction width modulo pointer = passed direction modulo (repeated (λ _. moved direction) width pointer)
+rowTouches direction (suc remaining) pointer = pointer .word ∷ rowTouches direction remaining (moved direction pointer)
 
 -- the word numbers of all rows
 unfoldable pub touches : Direction → (width modulo rows : ℕ) → Pointer → List ℕ
 touches direction width modulo zero pointer = []
-touches direction width modulo (suc left) pointer =
-    rowTouches direction width pointer ++ touches direction width modulo left (afterRow direction width modulo pointer)
+touches direction width modulo (suc remaining) pointer =
+    rowTouches direction width pointer ++ touches direction width modulo remaining (nextRow direction width modulo pointer)
 
 -- one of the words "lies at N or above"
 unfoldable pub leaves : (n : ℕ) → List ℕ → Bool

@@ -1,47 +1,60 @@
-// The refusals of a blit, in the order of the paper.
+// The refusals of a blit, in the order of the paper, and what a lawful one goes by.
 pub mod theorems;
 mod touch;
 pub mod types;
 
 ghost use mathlib.Core.Path.{_≡_};
-ghost use Prim.Native.Nat.{_<_};
-ghost use Rattle.refusal.specs.Refusal.{memorySize, bothFills, fillUpward, leaving, stepRefusal, refusal};
-ghost use Rattle.refusal.specs.Refusal.{refusalNumber, verdictNumber};
+ghost use Prim.Native.Nat.{_<_, _≤_};
+ghost use Rattle.word.specs.Pointer.{pointerEnd};
+ghost use Rattle.refusal.specs.Refusal.{bothFills, fillUpward, plan, leaving, stepRefusal, refusal};
+ghost use Rattle.refusal.specs.Refusal.{refusalNumber, verdictNumber, handed};
+use crate::types::Plan;
 use crate::types::Refusal;
 use crate::types::Verdict;
-use area::types::Pointers;
-use area::types::Setup;
-
-// Whether memory is refused, whatever is to be done on it.
-pub fn memory_size(n: usize) -> bool
-    ensures { λ bad. ⌜ bad ≡ memorySize n ⌝ }
-{
-    (n == 0) | (262144 < n)
-}
 
 fn both_fills(con1: u16) -> bool
     ensures { λ both. ⌜ both ≡ bothFills con1 ⌝ }
 {
-    (con1 / 16 % 2 == 1) & (con1 / 8 % 2 == 1)
+    word::control::exclusive_fill(con1) & word::control::inclusive_fill(con1)
 }
 
 fn fill_upward(con1: u16) -> bool
     ensures { λ upward. ⌜ upward ≡ fillUpward con1 ⌝ }
 {
-    ((con1 / 16 % 2 == 1) | (con1 / 8 % 2 == 1)) & !(con1 / 2 % 2 == 1)
+    let filled = word::control::exclusive_fill(con1) | word::control::inclusive_fill(con1);
+    filled & !word::control::descending(con1)
+}
+
+// What a blit goes by.
+fn plan(file: &[u16], size: u16) -> Plan
+    ensures { λ by. ⌜ by ≡ plan (now (file .entry)) size ⌝ }
+{
+    let setup = area::setup::setup(file);
+    let pointers = area::flow::pointers(file);
+    let width = word::size::width(size);
+    let height = word::size::height(size);
+    Plan {
+        setup,
+        pointers,
+        width,
+        height,
+    }
 }
 
 // The channels in the order A, B, C, D: the first that leaves memory is told.
-fn leaving(n: usize, setup: Setup, pointers: Pointers, size: u16) -> Verdict
-    requires { ⌜ (pointers .a .word < 262144) × (pointers .b .word < 262144)
-        × (pointers .c .word < 262144) × (pointers .d .word < 262144) ⌝ }
-    ensures { λ verdict. ⌜ verdictNumber verdict ≡ leaving n setup pointers size ⌝ }
+fn leaving(n: usize, by: Plan) -> Verdict
+    requires { ⌜ (by .pointers .a .word < pointerEnd) × (by .pointers .b .word < pointerEnd)
+        × (by .pointers .c .word < pointerEnd) × (by .pointers .d .word < pointerEnd)
+        × (1 ≤ by .width) × (by .width ≤ 64) ⌝ }
+    ensures { λ verdict. ⌜ (verdictNumber verdict ≡ leaving n by) × (handed verdict by ≡ by) ⌝ }
 {
+    let setup = by.setup;
     let uses = setup.uses;
     let modulos = setup.modulos;
     let direction = setup.direction;
-    let width = word::size::width(size);
-    let height = word::size::height(size);
+    let pointers = by.pointers;
+    let width = by.width;
+    let height = by.height;
     let a = pointers.a;
     let b = pointers.b;
     let c = pointers.c;
@@ -58,15 +71,16 @@ fn leaving(n: usize, setup: Setup, pointers: Pointers, size: u16) -> Verdict
     if crate::touch::channel_leaves(n, direction, uses.d, width, modulos.d, height, d) {
         return Verdict::Refused(Refusal::DLeaves);
     }
-    Verdict::Lawful
+    Verdict::Lawful(by)
 }
 
 // The refusal of a job's blit, whose memory and file have been taken.
 pub fn step_refusal(n: usize, file: &[u16], size: u16) -> Verdict
-    ensures { λ verdict. ⌜ verdictNumber verdict ≡ stepRefusal n (now (file .entry)) size ⌝ }
+    ensures { λ verdict. ⌜ (verdictNumber verdict ≡ stepRefusal n (now (file .entry)) size)
+        × (handed verdict (plan (now (file .entry)) size) ≡ plan (now (file .entry)) size) ⌝ }
 {
-    let con1 = word::memory::read(file, 1);
-    if con1 / 1 % 2 == 1 {
+    let con1 = word::memory::read(file, file::CONTROL_1);
+    if word::control::line(con1) {
         return Verdict::Refused(Refusal::Line);
     }
     if both_fills(con1) {
@@ -75,16 +89,16 @@ pub fn step_refusal(n: usize, file: &[u16], size: u16) -> Verdict
     if fill_upward(con1) {
         return Verdict::Refused(Refusal::FillUpward);
     }
-    let setup = area::setup::setup(file);
-    let pointers = area::flow::pointers(file);
-    leaving(n, setup, pointers, size)
+    let by = plan(file, size);
+    leaving(n, by)
 }
 
 // The refusal alone, from N, file and size: whether a blit on n words of memory would be done.
 pub fn refusal(n: usize, file: &[u16], size: u16) -> Verdict
-    ensures { λ verdict. ⌜ verdictNumber verdict ≡ refusal n (now (file .entry)) size ⌝ }
+    ensures { λ verdict. ⌜ (verdictNumber verdict ≡ refusal n (now (file .entry)) size)
+        × (handed verdict (plan (now (file .entry)) size) ≡ plan (now (file .entry)) size) ⌝ }
 {
-    if memory_size(n) {
+    if word::memory::memory_size(n) {
         return Verdict::Refused(Refusal::MemorySize);
     }
     if !file::accepted(file) {

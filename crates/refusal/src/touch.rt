@@ -1,13 +1,15 @@
 // The words that a channel would touch, found row by row: the first and last word of a row tell for the row.
 ghost use mathlib.Core.Path.{_≡_};
 ghost use Prim.Native.Nat.{_<_, _≤_};
-ghost use Rattle.refusal.specs.Touch.{rowTouches, afterRow, touches, leaves, channelLeaves};
+ghost use Rattle.word.specs.Pointer.{pointerEnd};
+ghost use Rattle.refusal.specs.Touch.{rowTouches, touches, leaves, channelLeaves};
+use word::pointer::POINTER_END;
 use word::types::Direction;
 use word::types::Pointer;
 
 // A row leaves memory of fewer words than a pointer reaches where its far end does, or where it goes round.
 fn row_leaves(n: u32, direction: Direction, width: u32, pointer: Pointer) -> bool
-    requires { ⌜ (n < 262144) × (pointer .word < 262144) × (1 ≤ width) × (width ≤ 64) ⌝ }
+    requires { ⌜ (n < pointerEnd) × (pointer .word < pointerEnd) × (1 ≤ width) × (width ≤ 64) ⌝ }
     ensures { λ outside. ⌜ outside ≡ leaves n (rowTouches direction width pointer) ⌝ }
 {
     match direction {
@@ -21,14 +23,6 @@ fn row_leaves(n: u32, direction: Direction, width: u32, pointer: Pointer) -> boo
     }
 }
 
-fn after_row(direction: Direction, width: u32, modulo: u32, pointer: Pointer) -> Pointer
-    requires { ⌜ (pointer .word < 262144) × (width ≤ 64) ⌝ }
-    ensures { λ next. ⌜ (next ≡ afterRow direction width modulo pointer) × (next .word < 262144) ⌝ }
-{
-    let end = pointer.passed(direction, width);
-    end.passed(direction, modulo)
-}
-
 fn rows_leave(
     n: u32,
     direction: Direction,
@@ -37,17 +31,17 @@ fn rows_leave(
     rows: u32,
     pointer: Pointer,
 ) -> bool
-    requires { ⌜ (n < 262144) × (pointer .word < 262144) × (1 ≤ width) × (width ≤ 64) ⌝ }
+    requires { ⌜ (n < pointerEnd) × (pointer .word < pointerEnd) × (1 ≤ width) × (width ≤ 64) ⌝ }
     ensures { λ outside. ⌜ outside ≡ leaves n (touches direction width modulo rows pointer) ⌝ }
 {
     let mut here = pointer;
-    let mut left = rows;
-    while 0 < left {
+    let mut remaining = rows;
+    while 0 < remaining {
         if row_leaves(n, direction, width, here) {
             return true;
         }
-        here = after_row(direction, width, modulo, here);
-        left = left - 1;
+        here = here.next_row(direction, width, modulo);
+        remaining = remaining - 1;
     }
     false
 }
@@ -62,11 +56,11 @@ pub fn channel_leaves(
     rows: u32,
     pointer: Pointer,
 ) -> bool
-    requires { ⌜ (pointer .word < 262144) × (1 ≤ width) × (width ≤ 64) ⌝ }
+    requires { ⌜ (pointer .word < pointerEnd) × (1 ≤ width) × (width ≤ 64) ⌝ }
     ensures { λ outside. ⌜ outside ≡ channelLeaves n direction used width modulo rows pointer ⌝ }
 {
     if used {
-        if n < 262144 {
+        if n < (POINTER_END as usize) {
             if word::even::evenly_inside(n, direction, width, modulo, rows, pointer) {
                 return false;
             }

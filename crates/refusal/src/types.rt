@@ -1,4 +1,6 @@
 // The types that the refusal of a blit speaks of.
+use area::types::Pointers;
+use area::types::Setup;
 
 // Why a blit is refused. One that leaves memory is refused by the first channel that does, in the order A, B, C, D.
 pub enum Refusal {
@@ -13,8 +15,16 @@ pub enum Refusal {
     DLeaves,
 }
 
-// Whether a blit would be done.
+// What a blit goes by, decoded once from file and size: its set-up, its pointers, its words a row and its rows.
+pub struct Plan {
+    pub setup: Setup,
+    pub pointers: Pointers,
+    pub width: u32,
+    pub height: u32,
+}
+
+// Whether a blit would be done; a lawful one hands on what it goes by.
 pub enum Verdict {
-    Lawful,
+    Lawful(Plan),
     Refused(Refusal),
 }

@@ -21,12 +21,14 @@ use Rattle.job.specs.declared.types.Kind.{Kind}
 use Rattle.job.specs.declared.types.Step.{Step}
 use Rattle.job.specs.declared.types.Read.{Read}
 use Rattle.job.specs.Kind.{kind}
-use Rattle.job.specs.Step.{found, isOdd, begun, front, stepAt}
-use Rattle.job.specs.Steps.{following, stepsFrom}
-use Rattle.runner.specs.Effect.{registerEffect, flagEffect, stepEffect, effect}
+use Rattle.job.specs.declared.types.Refusal.{Refusal}
+use Rattle.job.specs.Step.{found, isOdd, begun, front, stepAt, readNumber}
+use Rattle.job.specs.Steps.{Placed, behind, stepsFrom}
+use Rattle.job.proofs.StepsLaws.{behind-either}
+use Rattle.runner.specs.Effect.{taken, effect}
 use Rattle.runner.specs.Run.{Machine, machine, effectOn, after, ended, runSteps, runFrom, startRefusal, run}
 use Rattle.runner.specs.AcceptedAgain as statements
-use Rattle.runner.proofs.EffectLaws.{storeEffect-either}
+use Rattle.runner.proofs.EffectLaws.{stepEffect-either, stepEffect-of-blit}
 
 -- what a step of words of 16 bits has: a store a word of 16 bits, a flag step 0 or 1
 abbrev OfWords : Read → Type 0
@@ -35,9 +37,7 @@ OfWords (Read.Step (Step.Size size) next) = Unit
 OfWords (Read.Step (Step.Store to value) next) = value < 65536
 OfWords (Read.Step (Step.Flag value) next) = value < 2
 OfWords Read.End = Unit
-OfWords Read.NoStep = Unit
-OfWords Read.CutOff = Unit
-OfWords Read.OddStore = Unit
+OfWords (Read.Refused why) = Unit
 
 abbrev FlagBit : Kind → Type 0
 FlagBit (Kind.Register to) = Unit
@@ -64,7 +64,7 @@ begun-of-words Kind.Size at (value ∷ rest) bit all = tt
 begun-of-words (Kind.Store high) at [] bit all = tt
 begun-of-words (Kind.Store high) at (low ∷ []) bit all = tt
 begun-of-words (Kind.Store high) at (low ∷ value ∷ rest) bit all =
-    if-either OfWords (isOdd low) Read.OddStore (found at (Step.Store (pointer high low .word) value)) tt (all 1)
+    if-either OfWords (isOdd low) (Read.Refused Refusal.OddStore) (found at (Step.Store (pointer high low .word) value)) tt (all 1)
 begun-of-words (Kind.Flag value) at rest bit all = bit
 
 front-of-words : (at : ℕ) (words : List ℕ) → SixteenBits words → OfWords (front at words)
@@ -77,32 +77,41 @@ ReadyAfter : (n : ℕ) → Outcome → Type 0
 ReadyAfter n outcome = Ready n (outcome .memory) (outcome .file)
 
 module _ (n : ℕ) (memory file : List ℕ) (ready : Ready n memory file) where
+  -- a refused one leaves what it found
+  ready-when-refused : (number : ℕ) → ReadyAfter n (refused number memory file)
+  unfolding ReadyAfter refused
+  ready-when-refused number = ready
+
   effect-ready : (read : Read) → OfWords read → ReadyAfter n (effect read memory file)
-  unfolding ReadyAfter effect stepEffect registerEffect flagEffect refused keptBits registers
+  unfolding ReadyAfter effect taken keptBits registers
   effect-ready (Read.Step (Step.Register to value) next) fine =
-      record {
+      stepEffect-either (ReadyAfter n) (Step.Register to value) memory file
+      (record {
         long = ready .long;
         words = ready .words;
         fine = accepted-of-set file (ready .fine) to (kept to value) (kept-again to value);
-      }
-  effect-ready (Read.Step (Step.Size size) next) fine = blits.accepted-again .step n memory file size ready
+      })
+      ready-when-refused
+  effect-ready (Read.Step (Step.Size size) next) fine =
+      rw (stepEffect-of-blit size memory file) (blits.accepted-again .step n memory file size ready)
   effect-ready (Read.Step (Step.Store to value) next) fine =
-      storeEffect-either (ReadyAfter n) to value memory file ready
+      stepEffect-either (ReadyAfter n) (Step.Store to value) memory file
       (record {
         long = length-set memory to value ∙ ready .long;
         words = SixteenBits-of-set memory to value (ready .words) fine;
         fine = ready .fine;
       })
+      ready-when-refused
   effect-ready (Read.Step (Step.Flag value) next) fine =
-      record {
+      stepEffect-either (ReadyAfter n) (Step.Flag value) memory file
+      (record {
         long = ready .long;
         words = ready .words;
         fine = accepted-of-set file (ready .fine) flag value (kept-of-bits flag value 1 refl fine);
-      }
+      })
+      ready-when-refused
   effect-ready Read.End fine = ready
-  effect-ready Read.NoStep fine = ready
-  effect-ready Read.CutOff fine = ready
-  effect-ready Read.OddStore fine = ready
+  effect-ready (Read.Refused why) fine = ready-when-refused (readNumber (Read.Refused why))
 
 -- the words of a job from a place on
 SixteenBits-of-drop : (job : List ℕ) (at : ℕ) → SixteenBits job → SixteenBits (drop at job)
@@ -118,9 +127,13 @@ runSteps-ready n skip at [] before all ready = ready
 runSteps-ready n zero at (first ∷ rest) before all ready =
     let outcome : Outcome = effectOn before (front at (first ∷ rest)) in
     let next = effect-ready n (before .memory) (before .file) ready (front at (first ∷ rest)) (front-of-words at (first ∷ rest) all) in
+    let later : ℕ → List Placed = λ skip. stepsFrom skip (at + 1) rest in
     if-either (λ end. Ready n (end .machine .memory) (end .machine .file)) (eqb (outcome .number) 0)
-    (runSteps (stepsFrom (following (front at (first ∷ rest))) (at + 1) rest) (after before outcome)) (ended (outcome .number) at before)
-    (runSteps-ready n (following (front at (first ∷ rest))) (at + 1) rest (after before outcome) (SixteenBits-of-rest first rest all) next)
+    (runSteps (behind (front at (first ∷ rest)) later) (after before outcome)) (ended (outcome .number) at before)
+    (behind-either
+    (λ list. Ready n (runSteps list (after before outcome) .machine .memory) (runSteps list (after before outcome) .machine .file))
+    (front at (first ∷ rest)) later
+    (λ skip. runSteps-ready n skip (at + 1) rest (after before outcome) (SixteenBits-of-rest first rest all) next) next)
     ready
 runSteps-ready n (suc skip) at (word ∷ rest) before all ready =
     runSteps-ready n skip (at + 1) rest before (SixteenBits-of-rest word rest all) ready

@@ -12,8 +12,9 @@ use Rattle.word.specs.Choice.{if_then_else_}
 use Rattle.blit.specs.Blit.{refused}
 use Rattle.job.specs.declared.types.Step.{Step}
 use Rattle.job.specs.declared.types.Read.{Read}
-use Rattle.job.specs.Step.{operands, front, readNumber}
-use Rattle.job.specs.Steps.{placed, following, stepsFrom}
+use Rattle.job.specs.Step.{operands, front}
+use Rattle.job.specs.Steps.{Placed, placed, behind, stepsFrom}
+use Rattle.job.proofs.StepsLaws.{behind-either, readNumber-of-refused}
 use Rattle.job.proofs.WellCutLaws.{isStep, faultless}
 use Rattle.runner.specs.Effect.{effect}
 use Rattle.runner.specs.Run.{Machine, effectOn, after, End, ended, runSteps, runFrom}
@@ -28,15 +29,13 @@ pub record IsStep (read : Read) : Type 0 where
 
 front-when-done : (before : Machine) (at first : ℕ) (rest : List ℕ)
     → effectOn before (front at (first ∷ rest)) .number ≡ 0 → IsStep (front at (first ∷ rest))
-unfolding effect refused readNumber
+unfolding effect refused
 front-when-done before at first rest done = by-read (front at (first ∷ rest)) refl done
   where
     by-read : (read : Read) → front at (first ∷ rest) ≡ read → effectOn before read .number ≡ 0 → IsStep read
     by-read (Read.Step step next) reads done = record { step = step; next = next; same = refl }
     by-read Read.End reads done = absurd (front-is-some at first rest reads)
-    by-read Read.NoStep reads done = absurd (omega arith)
-    by-read Read.CutOff reads done = absurd (omega arith)
-    by-read Read.OddStore reads done = absurd (omega arith)
+    by-read (Read.Refused why) reads done = absurd (omega (arith, readNumber-of-refused why))
 
 -- where a run of words is refused: so many words before it are whole steps, and their run is done
 pub record CutBefore (skip at : ℕ) (words : List ℕ) (before : Machine) (end : End) : Type 0 where
@@ -67,7 +66,7 @@ cut-after-step : (at first : ℕ) (rest : List ℕ) (before : Machine) (end : En
     → front at (first ∷ rest) ≡ Read.Step step next → effectOn before (Read.Step step next) .number ≡ 0
     → CutBefore (operands step) (at + 1) rest (after before (effectOn before (Read.Step step next))) end
     → CutBefore 0 at (first ∷ rest) before end
-unfolding stepsFrom following
+unfolding stepsFrom behind
 cut-after-step at first rest before end step next reads taken cut =
     let same : at + 1 + cut .many ≡ at + suc (cut .many) = omega arith in
     record {
@@ -75,7 +74,7 @@ cut-after-step at first rest before end step next reads taken cut =
       place = cut .place ∙ same;
       past = omega arith;
       done =
-          ap (λ (read : Read). runSteps (placed at read ∷ stepsFrom (following read) (at + 1) (take (cut .many) rest)) before)
+          ap (λ (read : Read). runSteps (placed at read ∷ behind read (λ skip. stepsFrom skip (at + 1) (take (cut .many) rest))) before)
           (front-of-take at (cut .many) first rest step next reads (cut .past))
           ∙ runSteps-when-done (placed at (Read.Step step next)) (stepsFrom (operands step) (at + 1) (take (cut .many) rest)) before
           (effectOn before (Read.Step step next)) refl taken
@@ -98,9 +97,12 @@ cut-here at first rest before =
       here = ap (λ (to : ℕ). effectOn before (front to (first ∷ rest)) .number) (add-zero at);
     }
 
--- the run of a first word and the rest, by what stands at the word
+-- the steps behind a first word, and their run
+abbrev behindFirst : (read : Read) (at : ℕ) (rest : List ℕ) → List Placed
+behindFirst read at rest = behind read (λ skip. stepsFrom skip (at + 1) rest)
+
 onward : (read : Read) (at : ℕ) (rest : List ℕ) (before : Machine) → End
-onward read at rest before = runSteps (stepsFrom (following read) (at + 1) rest) (after before (effectOn before read))
+onward read at rest before = runSteps (behindFirst read at rest) (after before (effectOn before read))
 
 -- what holds of the rest after every step, holds of the run
 cut-by-read : (at first : ℕ) (rest : List ℕ) (before : Machine) (read : Read) → front at (first ∷ rest) ≡ read
@@ -108,17 +110,13 @@ cut-by-read : (at first : ℕ) (rest : List ℕ) (before : Machine) (read : Read
     → CutBefore skip (at + 1) rest on (runSteps (stepsFrom skip (at + 1) rest) on))
     → IsStep read → effectOn before read .number ≡ 0 → (onward read at rest before .number ≡ 0 → ⊥)
     → CutBefore 0 at (first ∷ rest) before (onward read at rest before)
-unfolding onward following
+unfolding onward behind
 cut-by-read at first rest before (Read.Step step next) reads later found done refusal =
     cut-after-step at first rest before
     (runSteps (stepsFrom (operands step) (at + 1) rest) (after before (effectOn before (Read.Step step next)))) step next reads done
     (later (operands step) (after before (effectOn before (Read.Step step next))) refusal)
 cut-by-read at first rest before Read.End reads later found done refusal = absurd (front-is-some at first rest reads)
-cut-by-read at first rest before Read.NoStep reads later found done refusal =
-    let same = found .same in let n : _≡_ {A = ℕ} 0 1 = cc in absurd (omega arith)
-cut-by-read at first rest before Read.CutOff reads later found done refusal =
-    let same = found .same in let n : _≡_ {A = ℕ} 0 1 = cc in absurd (omega arith)
-cut-by-read at first rest before Read.OddStore reads later found done refusal =
+cut-by-read at first rest before (Read.Refused why) reads later found done refusal =
     let same = found .same in let n : _≡_ {A = ℕ} 0 1 = cc in absurd (omega arith)
 
 pub cut-before : (skip at : ℕ) (words : List ℕ) (before : Machine) → (runSteps (stepsFrom skip at words) before .number ≡ 0 → ⊥)
@@ -146,10 +144,10 @@ cut-before zero at (first ∷ rest) before refusal =
 
 -- a run of words that is done is whole steps
 faultless-by-read : (at : ℕ) (rest : List ℕ) (read : Read) → IsStep read
-    → faultless (stepsFrom (following read) (at + 1) rest) ≡ true → faultless (placed at read ∷ stepsFrom (following read) (at + 1) rest) ≡ true
+    → faultless (behindFirst read at rest) ≡ true → faultless (placed at read ∷ behindFirst read at rest) ≡ true
 unfolding faultless isStep
 faultless-by-read at rest read found later =
-    ap (λ (other : Read). isStep other && faultless (stepsFrom (following read) (at + 1) rest)) (found .same) ∙ later
+    ap (λ (other : Read). isStep other && faultless (behindFirst read at rest)) (found .same) ∙ later
 
 pub done-is-faultless : (skip at : ℕ) (words : List ℕ) (before : Machine) → runSteps (stepsFrom skip at words) before .number ≡ 0
     → faultless (stepsFrom skip at words) ≡ true
@@ -165,11 +163,13 @@ done-is-faultless zero at (first ∷ rest) before done =
         ended (effectOn before (front at (first ∷ rest)) .number) at before) .number ≡ 0
         → ((skip : ℕ) (on : Machine) → runSteps (stepsFrom skip (at + 1) rest) on .number ≡ 0
         → faultless (stepsFrom skip (at + 1) rest) ≡ true)
-        → faultless (placed at (front at (first ∷ rest)) ∷ stepsFrom (following (front at (first ∷ rest))) (at + 1) rest) ≡ true
+        → faultless (placed at (front at (first ∷ rest)) ∷ behindFirst (front at (first ∷ rest)) at rest) ≡ true
     by-test true same done later =
         faultless-by-read at rest (front at (first ∷ rest))
         (front-when-done before at first rest (eqb-true (effectOn before (front at (first ∷ rest)) .number) 0 same))
-        (later (following (front at (first ∷ rest))) (after before (effectOn before (front at (first ∷ rest)))) done)
+        (behind-either (λ list. runSteps list (after before (effectOn before (front at (first ∷ rest)))) .number ≡ 0 → faultless list ≡ true)
+        (front at (first ∷ rest)) (λ skip. stepsFrom skip (at + 1) rest)
+        (λ skip. later skip (after before (effectOn before (front at (first ∷ rest))))) (λ none. refl) done)
     by-test false same done later =
         let other = eq-eqb (effectOn before (front at (first ∷ rest)) .number) 0 done in
         let n : _≡_ {A = ℕ} 0 1 = cc in absurd (omega arith)
@@ -177,8 +177,8 @@ done-is-faultless zero at (first ∷ rest) before done =
 -- what stands first is refused
 pub runFrom-when-refused : (at : ℕ) (words : List ℕ) (before : Machine) → (effectOn before (front at words) .number ≡ 0 → ⊥)
     → runFrom at words before ≡ ended (effectOn before (front at words) .number) at before
-unfolding stepsFrom front effect refused readNumber
+unfolding stepsFrom front effect
 runFrom-when-refused at [] before refusal = absurd (refusal refl)
 runFrom-when-refused at (first ∷ rest) before refusal =
-    runSteps-when-refused (placed at (front at (first ∷ rest))) (stepsFrom (following (front at (first ∷ rest))) (at + 1) rest) before
+    runSteps-when-refused (placed at (front at (first ∷ rest))) (behindFirst (front at (first ∷ rest)) at rest) before
     (effectOn before (front at (first ∷ rest))) refl refusal

@@ -11,22 +11,21 @@ use lib.Seq.{length-take-le}
 use Rattle.word.specs.Choice.{given}
 use Rattle.blit.specs.Blit.{refused}
 use Rattle.job.specs.declared.types.Read.{Read}
-use Rattle.job.specs.Step.{front, stepAt, readNumber}
+use Rattle.job.specs.Step.{front, stepAt}
 use Rattle.job.proofs.StepLaws.{stepAt-at-end}
 use Rattle.job.proofs.WellCutLaws.{wellCut}
 use Rattle.runner.specs.Effect.{effect}
 use Rattle.runner.specs.Run.{Machine, machine, effectOn, End, ended, runFrom, startRefusal, run}
-use Rattle.runner.specs.Table.{stepRules}
-use Rattle.runner.specs.EachNumberExactly.{RefusedAt, ExactNumbers, EachNumberExactly}
+use Rattle.runner.specs.EachNumberExactly.{rulesOn, RefusedAt, ExactNumbers, EachNumberExactly}
 use Rattle.runner.proofs.StartLaws.{startRefusal-is-one, startRefusal-is-two, startRefusal-is-three, startRefusal-when-memory, startRefusal-when-file, startRefusal-when-length, startRefusal-of-part, run-when-started, run-when-unstarted}
-use Rattle.runner.proofs.TableLaws.{stepRules-is-effect, stepRules-lt}
+use Rattle.runner.proofs.RulesLaws.{rulesOn-is-effect, rulesOn-lt}
 use Rattle.runner.proofs.RunAppendLaws.{followedBy-when-done, runFrom-of-append}
 use Rattle.runner.proofs.CutLaws.{cut-before, done-is-faultless, runFrom-when-refused}
 use Rattle.runner.proofs.RefusedRunStandsLaws.{take-le, refused-run}
 
 -- at the job's end nothing is refused
 stepAt-inside : (job : List ℕ) (place : ℕ) (before : Machine) → (effectOn before (stepAt job place) .number ≡ 0 → ⊥) → place ≤ length job
-unfolding effect refused readNumber
+unfolding effect
 stepAt-inside job place before refusal = by-order (decLt (length job) place)
   where
     by-order : Dec (length job < place) → place ≤ length job
@@ -55,7 +54,7 @@ module _ (memory file job : List ℕ) where
       (startRefusal-of-part memory file job (take place job) (take-le place job) (stops .starts)) in
       let last : Machine = run memory file (take place job) .machine in
       let gives : effectOn last (stepAt job place) .number ≡ number
-      = sym (stepRules-is-effect last (stepAt job place)) ∙ stops .here in
+      = sym (rulesOn-is-effect last (stepAt job place)) ∙ stops .here in
       let refusal : effectOn last (stepAt job place) .number ≡ 0 → ⊥ = λ none. omega (arith, sym gives ∙ none) in
       let on = runs-on place (stepAt-inside job place last refusal) (sym (ap (λ (end : End). end .number) cut) ∙ stops .earlier) in
       let whole : run memory file job ≡ ended (effectOn last (stepAt job place) .number) place last
@@ -75,8 +74,8 @@ module _ (memory file job : List ℕ) where
         starts = stops .starts;
         earlier = ap (λ (end : End). end .number) cut;
         here =
-            ap (λ (end : End). given (stepRules (end .machine) (stepAt job place))) cut
-            ∙ stepRules-is-effect (run memory file job .machine) (stepAt job place)
+            ap (λ (end : End). given (rulesOn (end .machine) (stepAt job place))) cut
+            ∙ rulesOn-is-effect (run memory file job .machine) (stepAt job place)
             ∙ ap (λ (at : ℕ). effectOn (run memory file job .machine) (stepAt job at) .number) (sym (given-so .1))
             ∙ stops .here
             ∙ given-so .0;
@@ -89,9 +88,9 @@ module _ (memory file job : List ℕ) where
       let cut = cut-before 0 0 job (machine memory file 0) (λ none. refusal (ap (λ (end : End). end .number) same ∙ none)) in
       let end : End = runFrom 0 job (machine memory file 0) in
       let read : Read = front (0 + cut .many) (drop (cut .many) job) in
-      let number : given (stepRules (end .machine) read) ≡ run memory file job .number
-      = stepRules-is-effect (end .machine) read ∙ cut .here ∙ sym (ap (λ (end : End). end .number) same) in
-      rw number at (stepRules-lt (end .machine) read (λ none. refusal (sym number ∙ none)))
+      let number : given (rulesOn (end .machine) read) ≡ run memory file job .number
+      = rulesOn-is-effect (end .machine) read ∙ cut .here ∙ sym (ap (λ (end : End). end .number) same) in
+      rw number at (rulesOn-lt (end .machine) read (λ none. refusal (sym number ∙ none)))
 
   number-of-start : run memory file job .number ≤ 3 → (run memory file job .number ≡ 0 → ⊥)
       → startRefusal memory file job ≡ run memory file job .number

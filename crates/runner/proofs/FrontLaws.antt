@@ -9,6 +9,7 @@ use Rattle.word.specs.Choice.{if_then_else_}
 use Rattle.word.specs.Pointer.{pointer}
 use Rattle.job.specs.declared.types.Kind.{Kind}
 use Rattle.job.specs.declared.types.Step.{Step}
+use Rattle.job.specs.declared.types.Refusal.{Refusal}
 use Rattle.job.specs.declared.types.Read.{Read}
 use Rattle.job.specs.Kind.{kind}
 use Rattle.job.specs.Step.{operands, found, isOdd, begun, front}
@@ -31,12 +32,12 @@ begun-of-take (Kind.Store high) at more [] step next reads fits = let n : _≡_ 
 begun-of-take (Kind.Store high) at more (low ∷ []) step next reads fits = let n : _≡_ {A = ℕ} 0 1 = cc in absurd (omega arith)
 begun-of-take (Kind.Store high) at zero (low ∷ value ∷ rest) step next reads fits = absurd (short (isOdd low) reads)
   where
-    short : (odd : Bool) → (if odd then Read.OddStore else found at (Step.Store (pointer high low .word) value)) ≡ Read.Step step next → ⊥
+    short : (odd : Bool) → (if odd then Read.Refused Refusal.OddStore else found at (Step.Store (pointer high low .word) value)) ≡ Read.Step step next → ⊥
     short true reads = let n : _≡_ {A = ℕ} 0 1 = cc in omega arith
     short false reads = let same : Step.Store (pointer high low .word) value ≡ step = cc in omega (arith, ap operands same)
 begun-of-take (Kind.Store high) at (suc zero) (low ∷ value ∷ rest) step next reads fits = absurd (short (isOdd low) reads)
   where
-    short : (odd : Bool) → (if odd then Read.OddStore else found at (Step.Store (pointer high low .word) value)) ≡ Read.Step step next → ⊥
+    short : (odd : Bool) → (if odd then Read.Refused Refusal.OddStore else found at (Step.Store (pointer high low .word) value)) ≡ Read.Step step next → ⊥
     short true reads = let n : _≡_ {A = ℕ} 0 1 = cc in omega arith
     short false reads = let same : Step.Store (pointer high low .word) value ≡ step = cc in omega (arith, ap operands same)
 begun-of-take (Kind.Store high) at (suc (suc more)) (low ∷ value ∷ rest) step next reads fits = reads

@@ -13,29 +13,37 @@ use Rattle.blit.proofs.BlitLaws.{blitStep-keeps-memory-length, blitStep-keeps-f
 use Rattle.job.specs.declared.types.Step.{Step}
 use Rattle.job.specs.declared.types.Read.{Read}
 use Rattle.job.specs.Steps.{Placed}
-use Rattle.runner.specs.Effect.{registerEffect, flagEffect, stepEffect, effect}
-use Rattle.runner.proofs.EffectLaws.{storeEffect-either}
+use Rattle.runner.specs.Effect.{taken, stepEffect, effect}
+use Rattle.runner.proofs.EffectLaws.{stepEffect-either, stepEffect-of-blit}
 use Rattle.runner.specs.Run.{Machine, effectOn, after, ended, runSteps}
 
 SameLengths : (memory file : List ℕ) → Outcome → Type 0
 SameLengths memory file outcome = (length (outcome .memory) ≡ length memory) × (length (outcome .file) ≡ length file)
 
+-- a refused step keeps them
+kept-by-refused : (memory file : List ℕ) (number : ℕ) → SameLengths memory file (refused number memory file)
+unfolding SameLengths refused
+kept-by-refused memory file number = (refl, refl)
+
 stepEffect-keeps-lengths : (step : Step) (memory file : List ℕ) → SameLengths memory file (stepEffect step memory file)
-unfolding SameLengths stepEffect registerEffect flagEffect refused
-stepEffect-keeps-lengths (Step.Register place value) memory file = (refl, length-set file place (kept place value))
+unfolding SameLengths taken
+stepEffect-keeps-lengths (Step.Register place value) memory file =
+    stepEffect-either (SameLengths memory file) (Step.Register place value) memory file
+    (refl, length-set file place (kept place value)) (kept-by-refused memory file)
 stepEffect-keeps-lengths (Step.Size size) memory file =
-    (blitStep-keeps-memory-length memory file size, blitStep-keeps-file-length memory file size)
+    rw (stepEffect-of-blit size memory file) (blitStep-keeps-memory-length memory file size, blitStep-keeps-file-length memory file size)
 stepEffect-keeps-lengths (Step.Store to value) memory file =
-    storeEffect-either (SameLengths memory file) to value memory file (refl, refl) (length-set memory to value, refl)
-stepEffect-keeps-lengths (Step.Flag value) memory file = (refl, length-set file flag value)
+    stepEffect-either (SameLengths memory file) (Step.Store to value) memory file
+    (length-set memory to value, refl) (kept-by-refused memory file)
+stepEffect-keeps-lengths (Step.Flag value) memory file =
+    stepEffect-either (SameLengths memory file) (Step.Flag value) memory file
+    (refl, length-set file flag value) (kept-by-refused memory file)
 
 effect-keeps-lengths : (read : Read) (memory file : List ℕ) → SameLengths memory file (effect read memory file)
 unfolding SameLengths effect refused
 effect-keeps-lengths (Read.Step step next) memory file = stepEffect-keeps-lengths step memory file
 effect-keeps-lengths Read.End memory file = (refl, refl)
-effect-keeps-lengths Read.NoStep memory file = (refl, refl)
-effect-keeps-lengths Read.CutOff memory file = (refl, refl)
-effect-keeps-lengths Read.OddStore memory file = (refl, refl)
+effect-keeps-lengths (Read.Refused why) memory file = (refl, refl)
 
 pub effect-keeps-memory-length : (read : Read) (memory file : List ℕ) → length (effect read memory file .memory) ≡ length memory
 unfolding SameLengths

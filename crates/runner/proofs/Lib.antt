@@ -2,7 +2,7 @@
 pub mod EffectLaws
 pub mod RunLaws
 pub mod StartLaws
-pub mod TableLaws
+pub mod RulesLaws
 pub mod RunAppendLaws
 pub mod LengthLaws
 pub mod FrontLaws

@@ -4,6 +4,8 @@ use Prim.Native.Nat.{ℕ}
 use mathlib.Core.List.{List}
 use lib.Dec.{eqb}
 use Rattle.word.specs.Choice.{if_then_else_}
+use Rattle.refusal.proofs.OneAnswerLaws.{refusalOf, refusalNumber-tells, isOwn, refusalNumber-is-own}
+use Rattle.job.specs.declared.types.Refusal as jobs
 use Rattle.runner.specs.declared.types.Refusal.{Refusal}
 use Rattle.runner.specs.declared.types.Answer.{Answer}
 use Rattle.runner.specs.Run.{End}
@@ -14,37 +16,21 @@ use Rattle.runner.proofs.RunLaws.{refusalNumber-positive}
 -- the refusal with a number
 numbered : (number : ℕ) → Refusal
 numbered number =
-    if eqb number 1 then Refusal.MemorySize else
-    if eqb number 2 then Refusal.RegisterFile else
+    if isOwn number then Refusal.Blit (refusalOf number) else
     if eqb number 3 then Refusal.JobLength else
-    if eqb number 4 then Refusal.NoStep else
-    if eqb number 5 then Refusal.CutOff else
-    if eqb number 6 then Refusal.OddStore else
-    if eqb number 7 then Refusal.Line else
-    if eqb number 8 then Refusal.BothFills else
-    if eqb number 9 then Refusal.FillUpward else
-    if eqb number 10 then Refusal.StoreOutside else
-    if eqb number 14 then Refusal.ALeaves else
-    if eqb number 15 then Refusal.BLeaves else
-    if eqb number 16 then Refusal.CLeaves else
-    Refusal.DLeaves
+    if eqb number 4 then Refusal.Step jobs.Refusal.NoStep else
+    if eqb number 5 then Refusal.Step jobs.Refusal.CutOff else
+    if eqb number 6 then Refusal.Step jobs.Refusal.OddStore else
+    Refusal.StoreOutside
 
 numbered-of-number : (why : Refusal) → numbered (refusalNumber why) ≡ why
-unfolding numbered
-numbered-of-number Refusal.MemorySize = refl
-numbered-of-number Refusal.RegisterFile = refl
+unfolding numbered refusalOf
+numbered-of-number (Refusal.Blit why) = rw (refusalNumber-is-own why) (ap Refusal.Blit (refusalNumber-tells why))
 numbered-of-number Refusal.JobLength = refl
-numbered-of-number Refusal.NoStep = refl
-numbered-of-number Refusal.CutOff = refl
-numbered-of-number Refusal.OddStore = refl
-numbered-of-number Refusal.Line = refl
-numbered-of-number Refusal.BothFills = refl
-numbered-of-number Refusal.FillUpward = refl
+numbered-of-number (Refusal.Step jobs.Refusal.NoStep) = refl
+numbered-of-number (Refusal.Step jobs.Refusal.CutOff) = refl
+numbered-of-number (Refusal.Step jobs.Refusal.OddStore) = refl
 numbered-of-number Refusal.StoreOutside = refl
-numbered-of-number Refusal.ALeaves = refl
-numbered-of-number Refusal.BLeaves = refl
-numbered-of-number Refusal.CLeaves = refl
-numbered-of-number Refusal.DLeaves = refl
 
 pub refusalNumber-is-unique : (one other : Refusal) → refusalNumber one ≡ refusalNumber other → one ≡ other
 refusalNumber-is-unique one other same = sym (numbered-of-number one) ∙ ap numbered same ∙ numbered-of-number other

@@ -1,49 +1,42 @@
 -- Laws of a run: its first step, how it goes on from a place of the job by what stands there, and what is refused before the first step.
 use mathlib.Core.Path.{_≡_, refl, sym, ap, _∙_}
 use Prim.Native.Nat.{ℕ, _+_, _*_, _-_, _<_, _≤_}
-use native.Mathlib.Decide.{decLt}
 use native.Mathlib.Omega.{arith}
 use mathlib.Core.Bool.{Bool, true, false, not}
-use mathlib.Core.List.{List, _∷_}
+use mathlib.Core.List.{List, [], _∷_}
 use mir.Val.{Fits}
 use mir.Syntax.{w32}
-use borrow.Author.Tests.{lt-ltb, le-ltb, le-leb, lt-leb, eq-eqb, ne-eqb}
-use lib.Dec.{leb, ltb}
+use borrow.Author.Tests.{eq-eqb, ne-eqb}
 use lib.ListN.{length, drop}
 use Rattle.word.specs.Choice.{given}
 use Rattle.file.specs.File.{accepted}
-use Rattle.refusal.specs.Refusal.{memorySize}
+use Rattle.word.specs.Memory.{memorySize}
 use Rattle.blit.specs.Blit.{Outcome, refused}
+use Rattle.refusal.specs.declared.types.Refusal.the-variants.{MemorySize, RegisterFile}
+use Rattle.refusal.proofs.OneAnswerLaws as blits
+use Rattle.job.specs.declared.types.Refusal as jobs
 use Rattle.job.specs.declared.types.Step.{Step}
 use Rattle.job.specs.declared.types.Read.{Read}
+use Rattle.job.specs.Length.{jobMost, jobLength}
 use Rattle.job.specs.Step.{stepAt, readNumber}
 use Rattle.job.specs.Steps.{Placed, placed, stepsFrom}
-use Rattle.job.proofs.StepLaws.{stepAt-moves}
-use Rattle.job.proofs.StepsLaws.{steps-of-step, steps-of-fault, steps-of-end, steps-at-end}
+use Rattle.job.proofs.StepLaws.{read-moves}
+use Rattle.job.proofs.StepsLaws.{steps-of-step, steps-of-refused, steps-of-end, steps-at-end, readNumber-of-refused}
 use Rattle.runner.specs.declared.types.Refusal.{Refusal}
 use Rattle.runner.specs.declared.types.Taken.{Taken}
 use Rattle.runner.specs.declared.types.Answer.{Answer}
 use Rattle.runner.specs.Effect.{stepEffect, effect}
-use Rattle.runner.specs.Run.{Machine, machine, effectOn, after, End, ended, runSteps, runFrom, jobMost, jobLength, startRefusal, run}
+use Rattle.runner.specs.Run.{Machine, machine, effectOn, after, End, ended, runSteps, runFrom, startRefusal, run}
 use Rattle.runner.specs.Answer.{refusalNumber, answerNumber, leftByStep, left}
 use Rattle.runner.proofs.EffectLaws.{stepEffect-counts, stepEffect-stays}
 
 -- a refusal's number is never 0
 pub refusalNumber-positive : (why : Refusal) → refusalNumber why ≡ 0 → ⊥
-refusalNumber-positive Refusal.MemorySize same = omega arith
-refusalNumber-positive Refusal.RegisterFile same = omega arith
+unfolding readNumber given
+refusalNumber-positive (Refusal.Blit why) same = blits.refusalNumber-positive why same
 refusalNumber-positive Refusal.JobLength same = omega arith
-refusalNumber-positive Refusal.NoStep same = omega arith
-refusalNumber-positive Refusal.CutOff same = omega arith
-refusalNumber-positive Refusal.OddStore same = omega arith
-refusalNumber-positive Refusal.Line same = omega arith
-refusalNumber-positive Refusal.BothFills same = omega arith
-refusalNumber-positive Refusal.FillUpward same = omega arith
+refusalNumber-positive (Refusal.Step why) same = omega (arith, readNumber-of-refused why)
 refusalNumber-positive Refusal.StoreOutside same = omega arith
-refusalNumber-positive Refusal.ALeaves same = omega arith
-refusalNumber-positive Refusal.BLeaves same = omega arith
-refusalNumber-positive Refusal.CLeaves same = omega arith
-refusalNumber-positive Refusal.DLeaves same = omega arith
 
 -- a refused run answers with the number of its reason
 pub answerNumber-of-refused : (answer : Answer) (why : Refusal) (place stored number : ℕ)
@@ -77,33 +70,14 @@ module _ (job : List ℕ) (at : ℕ) (memory file : List ℕ) (stored : ℕ) (wh
         sym (ap (λ (list : List Placed). runSteps list (machine memory file stored)) (steps-of-end job at (sym reads ∙ same))) ∙ so-far
 
     -- what is no step is refused with its own number
-    runAt-of-fault : (why : Refusal) (fault : Read) → read ≡ fault → refusalNumber why ≡ readNumber fault
-        → effect fault memory file ≡ refused (readNumber fault) memory file
-        → left (Answer.Refused why at stored) memory file ≡ whole
-    unfolding refused
-    runAt-of-fault why fault same number gives =
-        let some = refusalNumber-positive why in
-        let next : List Placed = stepsFrom 0 (at + 1) (drop (at + 1) job) in
-        ap (λ (given : ℕ). ended given at (machine memory file stored)) number
-        ∙ sym
-        (runSteps-when-refused (placed at fault) next (machine memory file stored) (refused (readNumber fault) memory file) (sym gives)
-        (λ none. some (number ∙ none)))
-        ∙ sym
-        (ap (λ (list : List Placed). runSteps list (machine memory file stored))
-        (steps-of-fault job at fault (sym reads ∙ same) (omega arith)))
+    pub runAt-of-fault : (why : jobs.Refusal) → read ≡ Read.Refused why → left (Answer.Refused (Refusal.Step why) at stored) memory file ≡ whole
+    unfolding effect refused readNumber given
+    runAt-of-fault why same =
+        sym
+        (runSteps-when-refused (placed at (Read.Refused why)) [] (machine memory file stored)
+        (refused (readNumber (Read.Refused why)) memory file) refl (refusalNumber-positive (Refusal.Step why)))
+        ∙ sym (ap (λ (list : List Placed). runSteps list (machine memory file stored)) (steps-of-refused job at why (sym reads ∙ same)))
         ∙ so-far
-
-    pub runAt-of-nothing : read ≡ Read.NoStep → left (Answer.Refused Refusal.NoStep at stored) memory file ≡ whole
-    unfolding effect readNumber
-    runAt-of-nothing same = runAt-of-fault Refusal.NoStep Read.NoStep same refl refl
-
-    pub runAt-of-cut : read ≡ Read.CutOff → left (Answer.Refused Refusal.CutOff at stored) memory file ≡ whole
-    unfolding effect readNumber
-    runAt-of-cut same = runAt-of-fault Refusal.CutOff Read.CutOff same refl refl
-
-    pub runAt-of-odd : read ≡ Read.OddStore → left (Answer.Refused Refusal.OddStore at stored) memory file ≡ whole
-    unfolding effect readNumber
-    runAt-of-odd same = runAt-of-fault Refusal.OddStore Read.OddStore same refl refl
 
     -- a step that is taken, done or refused
     module _ (step : Step) (next : ℕ) (same : read ≡ Read.Step step next) (taken : Taken) (nextMemory nextFile : List ℕ)
@@ -140,15 +114,6 @@ module _ (job : List ℕ) (at : ℕ) (memory file : List ℕ) (stored : ℕ) (wh
 
 -- the count has room: a step has a word at least, and stores 65,536 at most
 module _ (job : List ℕ) (at : ℕ) (read : Read) (reads : read ≡ stepAt job at) (step : Step) (next : ℕ) (same : read ≡ Read.Step step next) where
-  pub runAt-moves : at < next
-  runAt-moves = stepAt-moves job at step next (sym reads ∙ same) .0
-
-  pub runAt-inside : next ≤ length job
-  runAt-inside = stepAt-moves job at step next (sym reads ∙ same) .1
-
-  pub runAt-falls : at < length job → length job - next < length job - at
-  runAt-falls inside = let on = runAt-moves in omega arith
-
   module _ (stored : ℕ) (memory file nextMemory nextFile : List ℕ) (taken : Taken) (gives : leftByStep taken nextMemory nextFile ≡ stepEffect step memory file)
       (count : ℕ) (done : taken ≡ Taken.Done count) (room : stored ≤ at * 65536) where
     count-le : count ≤ 65536
@@ -157,39 +122,19 @@ module _ (job : List ℕ) (at : ℕ) (read : Read) (reads : read ≡ stepAt job 
         rw (ap (λ (o : Outcome). o .stored) did) (stepEffect-counts step memory file)
 
     pub stored-le : stored + count ≤ next * 65536
-    stored-le = let few = count-le in let on = runAt-moves in omega arith
+    stored-le = let few = count-le in let on = read-moves job at read reads step next same in omega arith
 
     pub stored-fits : at < length job → length job ≤ jobMost → Fits w32 (stored + count)
     stored-fits inside short = let few = count-le in record { fits = omega arith }
 
--- the far end tested the other way round
-pub jobLength-is-beyond : (job : List ℕ) → ltb jobMost (length job) ≡ jobLength job
-unfolding jobLength
-jobLength-is-beyond job = by-order (decLt jobMost (length job))
-  where
-    by-order : Dec (jobMost < length job) → ltb jobMost (length job) ≡ not (leb (length job) jobMost)
-    by-order (yes far) = rw (lt-ltb jobMost (length job) far, lt-leb (length job) jobMost far)
-    by-order (no near) =
-        let inside : length job ≤ jobMost = omega arith in rw (le-ltb jobMost (length job) inside, le-leb (length job) jobMost inside)
-
-pub jobLength-when-short : (job : List ℕ) (long : Bool) → long ≡ jobLength job → long ≡ false → length job ≤ jobMost
-unfolding jobLength
-jobLength-when-short job long same short = by-order (decLt jobMost (length job)) (sym same ∙ short)
-  where
-    by-order : Dec (jobMost < length job) → not (leb (length job) jobMost) ≡ false → length job ≤ jobMost
-    by-order (yes far) fits =
-        let no : not false ≡ false = rw (lt-leb (length job) jobMost far) at fits in
-        let n : _≡_ {A = ℕ} 0 1 = cc in absurd (omega arith)
-    by-order (no near) fits = omega arith
-
 -- what is refused before the first step, one after the other
 module _ (memory file job : List ℕ) (bad : Bool) (of-bad : bad ≡ memorySize (length memory)) where
-  pub run-by-memory : bad ≡ true → left (Answer.Refused Refusal.MemorySize 0 0) memory file ≡ run memory file job
+  pub run-by-memory : bad ≡ true → left (Answer.Refused (Refusal.Blit MemorySize) 0 0) memory file ≡ run memory file job
   unfolding run startRefusal given
   run-by-memory holds = rw (← of-bad, holds)
 
   module _ (taken : bad ≡ false) (fine : Bool) (of-fine : fine ≡ accepted file) where
-    pub run-by-file : not fine ≡ true → left (Answer.Refused Refusal.RegisterFile 0 0) memory file ≡ run memory file job
+    pub run-by-file : not fine ≡ true → left (Answer.Refused (Refusal.Blit RegisterFile) 0 0) memory file ≡ run memory file job
     unfolding run startRefusal given
     run-by-file holds = rw (← of-bad, taken, ← of-fine, holds)
 

@@ -4,17 +4,14 @@ use Prim.Native.Nat.{ℕ, _≤_}
 use native.Mathlib.Omega.{arith}
 use mathlib.Core.Bool.{Bool, true, false, not}
 use mathlib.Core.List.{List, [], _∷_}
-use borrow.Author.Tests.{le-leb, eq-eqb, ne-eqb}
+use borrow.Author.Tests.{eq-eqb, ne-eqb}
 use lib.ListN.{length}
 use Rattle.word.specs.Choice.{_when_, given}
 use Rattle.file.specs.File.{accepted}
-use Rattle.refusal.specs.Refusal.{memorySize}
-use Rattle.runner.specs.Run.{machine, ended, runFrom, jobMost, jobLength, startRefusal, run}
-use Rattle.runner.proofs.RunLaws.{jobLength-when-short}
-
-pub jobLength-is-false : (job : List ℕ) → length job ≤ jobMost → jobLength job ≡ false
-unfolding jobLength
-jobLength-is-false job short = rw (le-leb (length job) jobMost short)
+use Rattle.word.specs.Memory.{memorySize}
+use Rattle.job.specs.Length.{jobMost, jobLength}
+use Rattle.job.proofs.LengthLaws.{jobLength-when-short, jobLength-of-short}
+use Rattle.runner.specs.Run.{machine, ended, runFrom, startRefusal, run}
 
 -- the three rules, by their conditions
 startNumber : (bad fine long : Bool) → ℕ
@@ -108,10 +105,10 @@ module _ (memory file job : List ℕ) where
   startRefusal-of-part part fits none =
       let starts = startRefusal-is-none none in
       let short : length job ≤ jobMost = jobLength-when-short job (jobLength job) refl (starts .2) in
-      rw (starts .0, starts .1, jobLength-is-false part (omega arith))
+      rw (starts .0, starts .1, jobLength-of-short part (omega arith))
 
   pub startRefusal-of-other : (other : List ℕ) → length job ≤ jobMost → length other ≤ jobMost
       → startRefusal memory file job ≡ startRefusal memory file other
   unfolding startRefusal
   startRefusal-of-other other short fits =
-      rw (jobLength-is-false job short, jobLength-is-false other fits)
+      rw (jobLength-of-short job short, jobLength-of-short other fits)

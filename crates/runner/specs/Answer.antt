@@ -1,27 +1,20 @@
 -- Paper 01, "Numbers given back", as paper 02 leaves it: the number and values for each case of an answer.
 use Prim.Native.Nat.{ℕ}
 use mathlib.Core.List.{List}
+use Rattle.refusal.specs.Refusal as blits
 use Rattle.blit.specs.Blit.{Outcome}
+use Rattle.job.specs.Step as jobs
 use Rattle.runner.specs.declared.types.Refusal.{Refusal}
 use Rattle.runner.specs.declared.types.Taken.{Taken}
 use Rattle.runner.specs.declared.types.Answer.{Answer}
 use Rattle.runner.specs.Run.{machine, End, ended}
 
+-- 1, 2 and those of a blit are the blit's own numbers; 4, 5 and 6 are the job's
 abbrev pub refusalNumber : Refusal → ℕ
-refusalNumber Refusal.MemorySize = 1
-refusalNumber Refusal.RegisterFile = 2
+refusalNumber (Refusal.Blit why) = blits.refusalNumber why
 refusalNumber Refusal.JobLength = 3
-refusalNumber Refusal.NoStep = 4
-refusalNumber Refusal.CutOff = 5
-refusalNumber Refusal.OddStore = 6
-refusalNumber Refusal.Line = 7
-refusalNumber Refusal.BothFills = 8
-refusalNumber Refusal.FillUpward = 9
+refusalNumber (Refusal.Step why) = jobs.refusalNumber why
 refusalNumber Refusal.StoreOutside = 10
-refusalNumber Refusal.ALeaves = 14
-refusalNumber Refusal.BLeaves = 15
-refusalNumber Refusal.CLeaves = 16
-refusalNumber Refusal.DLeaves = 17
 
 -- a step's answer: number and count
 abbrev pub takenNumber : Taken → ℕ

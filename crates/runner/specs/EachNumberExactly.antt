@@ -6,19 +6,25 @@ use mathlib.Core.Bool.{true, false}
 use mathlib.Core.List.{List}
 use mathlib.Core.Logic.{_↔_}
 use lib.ListN.{length, take}
-use Rattle.word.specs.Choice.{given}
+use Rattle.word.specs.Choice.{Rule, given}
 use Rattle.file.specs.File.{accepted}
-use Rattle.refusal.specs.Refusal.{memorySize}
+use Rattle.word.specs.Memory.{memorySize}
+use Rattle.job.specs.declared.types.Read.{Read}
 use Rattle.job.specs.Step.{stepAt}
-use Rattle.runner.specs.Run.{jobLength, startRefusal, run}
-use Rattle.runner.specs.Table.{stepRules}
+use Rattle.job.specs.Length.{jobLength}
+use Rattle.runner.specs.Effect.{rulesAt}
+use Rattle.runner.specs.Run.{Machine, startRefusal, run}
+
+-- the rules for what stands at a place, on the machine that it finds
+abbrev pub rulesOn : Machine → Read → List Rule
+rulesOn before read = rulesAt (length (before .memory)) (before .file) read
 
 -- a job is refused at a place with a number: none of 1 to 3 applies; the job cut before that place is done;
--- and for what stands there, on the machine that the done steps leave, the first row that applies has the number
+-- and for what stands there, on the machine that the done steps leave, the first rule that applies has the number
 pub record RefusedAt (memory file job : List ℕ) (place number : ℕ) : Type 0 where
   pub starts : startRefusal memory file job ≡ 0
   pub earlier : run memory file (take place job) .number ≡ 0
-  pub here : given (stepRules (run memory file (take place job) .machine) (stepAt job place)) ≡ number
+  pub here : given (rulesOn (run memory file (take place job) .machine) (stepAt job place)) ≡ number
 
 pub record ExactNumbers (memory file job : List ℕ) : Type 0 where
   -- "N outside 1 to 262,144"

@@ -2,7 +2,6 @@
 pub mod Effect
 pub mod Run
 pub mod Answer
-pub mod Table
 pub mod RunAppend
 pub mod RefusedRunStands
 pub mod EachNumberExactly

@@ -7,9 +7,10 @@ use lib.Dec.{eqb, leb}
 use lib.ListN.{length}
 use Rattle.word.specs.Choice.{if_then_else_, Rule, _when_, given}
 use Rattle.file.specs.File.{accepted}
-use Rattle.refusal.specs.Refusal.{memorySize}
+use Rattle.word.specs.Memory.{memorySize}
 use Rattle.blit.specs.Blit.{Outcome}
 use Rattle.job.specs.declared.types.Read.{Read}
+use Rattle.job.specs.Length.{jobLength}
 use Rattle.job.specs.Steps.{Placed, stepsFrom}
 use Rattle.runner.specs.Effect.{effect}
 
@@ -49,14 +50,6 @@ runSteps (one ∷ rest) before =
 -- the run of words of which the first is word `at` of the job
 abbrev pub runFrom : (at : ℕ) → (words : List ℕ) → Machine → End
 runFrom at words before = runSteps (stepsFrom 0 at words) before
-
--- "A job is a lent run of at most 4,096 16-bit words."
-abbrev pub jobMost : ℕ
-jobMost = 4096
-
--- "job over 4,096 words"
-unfoldable pub jobLength : (job : List ℕ) → Bool
-jobLength job = not (leb (length job) jobMost)
 
 -- "Order: 1, 2, 3; then step by step"
 abbrev pub startRules : (memory file job : List ℕ) → List Rule

@@ -8,20 +8,10 @@ fn refusal_number(why: Refusal) -> u32
     ensures { λ number. ⌜ number ≡ refusalNumber why ⌝ }
 {
     match why {
-        Refusal::MemorySize => 1,
-        Refusal::RegisterFile => 2,
+        Refusal::Blit(reason) => refusal::refusal_number(reason),
         Refusal::JobLength => 3,
-        Refusal::NoStep => 4,
-        Refusal::CutOff => 5,
-        Refusal::OddStore => 6,
-        Refusal::Line => 7,
-        Refusal::BothFills => 8,
-        Refusal::FillUpward => 9,
+        Refusal::Step(reason) => job::number::refusal_number(reason),
         Refusal::StoreOutside => 10,
-        Refusal::ALeaves => 14,
-        Refusal::BLeaves => 15,
-        Refusal::CLeaves => 16,
-        Refusal::DLeaves => 17,
     }
 }
 

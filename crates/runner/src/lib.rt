@@ -1,6 +1,5 @@
 // The runner: takes a job's steps in order over lent memory and a lent register file, by the blit's contract.
 pub mod answer;
-pub mod start;
 mod step;
 mod steps;
 pub mod theorems;
@@ -18,13 +17,13 @@ pub fn run(ram: &mut [u16], file: &mut [u16], job: &[u16]) -> Answer
         left answer (now (ram .exit)) (now (file .exit))
         ≡ run (now (ram .entry)) (now (file .entry)) (now (job .entry)) ⌝ }
 {
-    if refusal::memory_size(ram.len()) {
-        return Answer::Refused(Refusal::MemorySize, 0, 0);
+    if word::memory::memory_size(ram.len()) {
+        return Answer::Refused(Refusal::Blit(refusal::types::Refusal::MemorySize), 0, 0);
     }
     if !file::accepted(file) {
-        return Answer::Refused(Refusal::RegisterFile, 0, 0);
+        return Answer::Refused(Refusal::Blit(refusal::types::Refusal::RegisterFile), 0, 0);
     }
-    if crate::start::job_length(job) {
+    if job::length::job_length(job) {
         return Answer::Refused(Refusal::JobLength, 0, 0);
     }
     crate::steps::run_steps(ram, file, job)

@@ -1,34 +1,17 @@
 // One step taken.
 ghost use mathlib.Core.Path.{_≡_};
-ghost use Rattle.refusal.specs.Refusal as blits;
 ghost use Rattle.blit.specs.Blit.{blitStep};
-ghost use Rattle.runner.specs.Effect.{registerEffect, storeEffect, flagEffect, stepEffect};
-ghost use Rattle.runner.specs.Answer.{refusalNumber, leftByStep};
+ghost use Rattle.job.specs.declared.types.Step as steps;
+ghost use Rattle.runner.specs.Effect.{stepEffect};
+ghost use Rattle.runner.specs.Answer.{leftByStep};
 use crate::types::Refusal;
 use crate::types::Taken;
 use job::types::Step;
 
-// The reason of a refused blit, as the runner gives it.
-fn blit_refusal(why: refusal::types::Refusal) -> Refusal
-    ensures { λ reason. ⌜ refusalNumber reason ≡ blits.refusalNumber why ⌝ }
-{
-    match why {
-        refusal::types::Refusal::MemorySize => Refusal::MemorySize,
-        refusal::types::Refusal::RegisterFile => Refusal::RegisterFile,
-        refusal::types::Refusal::Line => Refusal::Line,
-        refusal::types::Refusal::BothFills => Refusal::BothFills,
-        refusal::types::Refusal::FillUpward => Refusal::FillUpward,
-        refusal::types::Refusal::ALeaves => Refusal::ALeaves,
-        refusal::types::Refusal::BLeaves => Refusal::BLeaves,
-        refusal::types::Refusal::CLeaves => Refusal::CLeaves,
-        refusal::types::Refusal::DLeaves => Refusal::DLeaves,
-    }
-}
-
 fn register_step(ram: &[u16], file: &mut [u16], place: u32, value: u16) -> Taken
     ensures { λ taken. ⌜
         leftByStep taken (now (ram .entry)) (now (file .exit))
-        ≡ registerEffect place value (now (ram .entry)) (now (file .entry)) ⌝ }
+        ≡ stepEffect (steps.Step.Register place value) (now (ram .entry)) (now (file .entry)) ⌝ }
 {
     word::memory::write(file, place, file::kept(place, value));
     Taken::Done(0)
@@ -41,14 +24,14 @@ fn size_step(ram: &mut [u16], file: &mut [u16], size: u16) -> Taken
 {
     match blit::blit_step(ram, file, size) {
         blit::types::Answer::Done(stored) => Taken::Done(stored),
-        blit::types::Answer::Refused(why) => Taken::Refused(blit_refusal(why)),
+        blit::types::Answer::Refused(why) => Taken::Refused(Refusal::Blit(why)),
     }
 }
 
 fn store_step(ram: &mut [u16], file: &[u16], to: u32, value: u16) -> Taken
     ensures { λ taken. ⌜
         leftByStep taken (now (ram .exit)) (now (file .entry))
-        ≡ storeEffect to value (now (ram .entry)) (now (file .entry)) ⌝ }
+        ≡ stepEffect (steps.Step.Store to value) (now (ram .entry)) (now (file .entry)) ⌝ }
 {
     if ram.len() <= to as usize {
         return Taken::Refused(Refusal::StoreOutside);
@@ -60,7 +43,7 @@ fn store_step(ram: &mut [u16], file: &[u16], to: u32, value: u16) -> Taken
 fn flag_step(ram: &[u16], file: &mut [u16], value: u16) -> Taken
     ensures { λ taken. ⌜
         leftByStep taken (now (ram .entry)) (now (file .exit))
-        ≡ flagEffect value (now (ram .entry)) (now (file .entry)) ⌝ }
+        ≡ stepEffect (steps.Step.Flag value) (now (ram .entry)) (now (file .entry)) ⌝ }
 {
     word::memory::write(file, file::FLAG, value);
     Taken::Done(0)

@@ -2,6 +2,7 @@
 ghost use mathlib.Core.Path.{_≡_};
 ghost use Prim.Native.Nat.{_≤_};
 ghost use lib.ListN.{length};
+ghost use Rattle.job.specs.Length.{jobMost};
 ghost use Rattle.runner.specs.Run.{machine, runFrom};
 ghost use Rattle.runner.specs.Answer.{left};
 use crate::types::Answer;
@@ -11,7 +12,7 @@ use job::types::Read;
 
 // Takes the steps in order, to the job's end or to the first refused one.
 pub fn run_steps(ram: &mut [u16], file: &mut [u16], job: &[u16]) -> Answer
-    requires { ⌜ length (now job) ≤ 4096 ⌝ }
+    requires { ⌜ length (now job) ≤ jobMost ⌝ }
     ensures { λ answer. ⌜
         left answer (now (ram .exit)) (now (file .exit))
         ≡ runFrom 0 (now (job .entry)) (machine (now (ram .entry)) (now (file .entry)) 0) ⌝ }
@@ -32,9 +33,7 @@ pub fn run_steps(ram: &mut [u16], file: &mut [u16], job: &[u16]) -> Answer
                 }
             }
             Read::End => return Answer::Done(stored),
-            Read::NoStep => return Answer::Refused(Refusal::NoStep, at, stored),
-            Read::CutOff => return Answer::Refused(Refusal::CutOff, at, stored),
-            Read::OddStore => return Answer::Refused(Refusal::OddStore, at, stored),
+            Read::Refused(why) => return Answer::Refused(Refusal::Step(why), at, stored),
         }
     }
     Answer::Done(stored)

@@ -1,21 +1,12 @@
 // The types that the answers of a run speak of.
 
-// Why a run is refused, in the order of the paper.
+// Why a run is refused: a blit's own reasons, among them memory and register file; a job that is too long; what is no
+// step; a store that doesn't lie in memory.
 pub enum Refusal {
-    MemorySize,
-    RegisterFile,
+    Blit(refusal::types::Refusal),
     JobLength,
-    NoStep,
-    CutOff,
-    OddStore,
-    Line,
-    BothFills,
-    FillUpward,
+    Step(job::types::Refusal),
     StoreOutside,
-    ALeaves,
-    BLeaves,
-    CLeaves,
-    DLeaves,
 }
 
 // What one step answers: done with the count of words that it stored, or refused.

@@ -10,19 +10,21 @@ use Rattle.word.specs.Choice.{given}
 use Rattle.word.specs.Pointer.{pointer, half}
 use Rattle.word.specs.Size.{height, width}
 use Rattle.file.specs.Places.{firstMask, lastMask, pointerD, moduloD, sourceA, sourceB, sourceC}
-use Rattle.area.specs.declared.types.Uses.{Uses}
-use Rattle.area.specs.declared.types.Setup.{Setup}
-use Rattle.area.specs.declared.types.Pointers.{Pointers}
-use Rattle.area.specs.Setup.{con0, con1, uses, function, shifts, carryIn, line, direction, fill, masks, modulos, setup}
+use Rattle.word.specs.declared.types.Uses.{Uses}
+use Rattle.area.specs.Setup.{shifts, direction, fill, masks, modulos, setup}
+use Rattle.file.specs.File.{con0, con1}
+use Rattle.word.specs.Control.{uses, function, carryIn, line}
 use Rattle.area.specs.Flow.{pointerAt, pointers, sources, start}
 use Rattle.refusal.specs.Touch.{touches, leaves, channelLeaves}
-use Rattle.refusal.specs.Refusal.{bothFills, fillUpward, leaving, stepRefusal}
+use Rattle.refusal.specs.declared.types.Plan.{Plan}
+use Rattle.refusal.specs.Refusal.{bothFills, fillUpward, plan, leaving, stepRefusal}
 use Rattle.refusal.proofs.RefusalLaws.{channelNumbered, numbered}
 use Rattle.depends.specs.Depends.{counts}
-use Rattle.settled.specs.Words.{pointerWords, flagWords, settledEnd, settledWords}
-use Rattle.settled.proofs.OnlyDLaws.{OnlyD}
+use Rattle.stores.specs.Stores.{stores, finalD}
+use Rattle.stores.proofs.OnlyDLaws.{OnlyD}
+use Rattle.settled.specs.Words.{settledWords}
 use Rattle.settled.proofs.AlikeLaws.{AlikeSetup, AlikeFlow}
-use Rattle.settled.proofs.AlikeRowsLaws.{blitStores-alike, rows-alike}
+use Rattle.settled.proofs.AlikeRowsLaws.{blitStores-alike}
 
 pub record Agree (this other : List ℕ) : Type 0 where
   pub control0 : con0 this ≡ con0 other
@@ -41,12 +43,12 @@ last-alone : (a b c d x y z w : Bool) → a ≡ false → b ≡ false → c ≡ 
     → channelNumbered (a && x) (b && y) (c && z) (d && w) ≡ channelNumbered false false false w
 last-alone a b c d x y z w no-a no-b no-c yes-d = rw (no-a, no-b, no-c, yes-d)
 
-leaving-of-only-d : (n : ℕ) (set : Setup) (at : Pointers) (size : ℕ) → OnlyD (set .uses)
-    → leaving n set at size
-    ≡ channelNumbered false false false (leaves n (touches (set .direction) (width size) (set .modulos .d) (height size) (at .d)))
+leaving-of-only-d : (n : ℕ) (by : Plan) → OnlyD (by .setup .uses)
+    → leaving n by
+    ≡ channelNumbered false false false (leaves n (touches (by .setup .direction) (by .width) (by .setup .modulos .d) (by .height) (by .pointers .d)))
 unfolding leaving given channelLeaves
-leaving-of-only-d n set at size only =
-    last-alone (set .uses .a) (set .uses .b) (set .uses .c) (set .uses .d) _ _ _ _ (only .a) (only .b) (only .c) (only .d)
+leaving-of-only-d n by only =
+    last-alone (by .setup .uses .a) (by .setup .uses .b) (by .setup .uses .c) (by .setup .uses .d) _ _ _ _ (only .a) (only .b) (only .c) (only .d)
 
 touches-alike : (n wide tall : ℕ) (way way′ : Direction) (modulo modulo′ : ℕ) (at at′ : Pointer) → way ≡ way′ → modulo ≡ modulo′ → at ≡ at′
     → channelNumbered false false false (leaves n (touches way wide modulo tall at))
@@ -82,7 +84,6 @@ module _ (this other : List ℕ) (agree : Agree this other) where
       record {
         d = pointer-alike;
         carry = refl;
-        allzero = refl;
         a = agree .a;
         earlier-a = λ counted. refl;
         b = agree .b;
@@ -106,22 +107,20 @@ module _ (this other : List ℕ) (agree : Agree this other) where
   stepRefusal-alike n size only =
       ap₂ (λ (control channel : ℕ). numbered false false (line control) (bothFills control) (fillUpward control) channel)
       (agree .control1)
-      (leaving-of-only-d n (setup this) (pointers this) size only
+      (leaving-of-only-d n (plan this size) only
       ∙ touches-alike n (width size) (height size) (setup this .direction) (setup other .direction) (setup this .modulos .d) (setup other .modulos .d) (pointers this .d) (pointers other .d)
       (setup-alike .direction) (setup-alike .modulo) pointers-alike
-      ∙ sym (leaving-of-only-d n (setup other) (pointers other) size (uses-alike only)))
+      ∙ sym (leaving-of-only-d n (plan other size) (uses-alike only)))
 
-  end-alike : (size : ℕ) → OnlyD (setup this .uses) → AlikeFlow (function (con0 this)) (settledEnd this size .flow) (settledEnd other size .flow)
-  unfolding settledEnd setup
-  end-alike size only =
-      rows-alike (setup this) (setup other) setup-alike only (uses-alike only) (width size) (height size) (start this) (start other) start-alike
+  pub finalD-alike : (size : ℕ) → finalD this size ≡ finalD other size
+  unfolding finalD
+  finalD-alike size = rw (setup-alike .direction, setup-alike .modulo, pointers-alike)
 
-  pub settledEnd-alike : (size : ℕ) → OnlyD (setup this .uses) → settledEnd this size .flow .pointers .d ≡ settledEnd other size .flow .pointers .d
-  settledEnd-alike size only = end-alike size only .d
+  stores-alike : (size : ℕ) → OnlyD (setup this .uses) → stores this size ≡ stores other size
+  unfolding stores setup
+  stores-alike size only =
+      blitStores-alike (setup this) (setup other) setup-alike only (uses-alike only) (width size) (height size) (start this) (start other) start-alike
 
   pub settledWords-alike : (size : ℕ) → OnlyD (setup this .uses) → settledWords this size ≡ settledWords other size
-  unfolding settledWords setup
-  settledWords-alike size only =
-      ap₂ (λ (stores rest : List ℕ). stores ++ rest)
-      (blitStores-alike (setup this) (setup other) setup-alike only (uses-alike only) (width size) (height size) (start this) (start other) start-alike)
-      (ap₂ (λ (at : Pointer) (allzero : Bool). pointerWords at ++ flagWords allzero) (end-alike size only .d) (end-alike size only .allzero))
+  unfolding settledWords
+  settledWords-alike size only = rw (stores-alike size only, finalD-alike size)

@@ -50,7 +50,6 @@ pub record AlikeSetup (this other : Setup) : Type 0 where
 pub record AlikeFlow (f : ℕ) (this other : Flow) : Type 0 where
   pub d : this .pointers .d ≡ other .pointers .d
   pub carry : this .carry ≡ other .carry
-  pub allzero : this .allzero ≡ other .allzero
   pub a : counts f 4 ≡ true → this .sources .a ≡ other .sources .a
   pub earlier-a : counts f 4 ≡ true → this .earlier .a ≡ other .earlier .a
   pub b : counts f 2 ≡ true → this .sources .b ≡ other .sources .b
@@ -106,7 +105,6 @@ module _ (this other : Setup) (setups : AlikeSetup this other) where
       record {
         d = flows .d;
         carry = ap (λ (made : Filled). made .carry) same;
-        allzero = ap₂ (λ (zero : Bool) (made : Filled). zero && eqb (made .word) 0) (flows .allzero) same;
         a = flows .a;
         earlier-a = maskedA-alike first last flow flow′ flows;
         b = flows .b;

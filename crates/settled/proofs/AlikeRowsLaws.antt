@@ -2,13 +2,13 @@
 use mathlib.Core.Path.{_≡_, refl, sym, ap, ap₂, subst, _∙_}
 use Prim.Native.Nat.{ℕ, zero, suc, _+_}
 use mathlib.Core.Bool.{Bool}
-use mathlib.Core.List.{List, [], _++_}
+use mathlib.Core.List.{List, [], _∷_, _++_}
 use lib.Dec.{eqb}
 use Rattle.word.specs.declared.types.Direction.{Direction}
 use Rattle.word.specs.declared.types.Pointer.{Pointer}
 use Rattle.word.specs.declared.types.Filled.{Filled}
 use Rattle.word.specs.Repeat.{repeated}
-use Rattle.area.specs.declared.types.Uses.{Uses}
+use Rattle.word.specs.declared.types.Uses.{Uses}
 use Rattle.area.specs.declared.types.Setup.{Setup}
 use Rattle.area.specs.declared.types.Flow.{Flow}
 use Rattle.area.specs.declared.types.Finished.{Finished}
@@ -18,22 +18,22 @@ use Rattle.area.specs.Finish.{finish}
 use Rattle.area.specs.Store.{wait, countWith, storePending}
 use Rattle.area.specs.Move.{stepped, moveOn, turned, rowEnd}
 use Rattle.area.specs.Rows.{finishedWord, storedBefore, oneWord, words, rowStart, oneRow, rows}
-use Rattle.settled.specs.Words.{storeWords, rowStores, blitStores}
-use Rattle.settled.proofs.OnlyDLaws.{OnlyD, finishedWord-without-memory, oneWord-of-empty, oneRow-of-empty}
+use Rattle.stores.specs.Stores.{Store, store, rowStores, blitStores}
+use Rattle.stores.proofs.OnlyDLaws.{OnlyD, finishedWord-without-memory, oneWord-of-empty, oneRow-of-empty}
 use Rattle.settled.proofs.AlikeLaws.{AlikeSetup, AlikeFlow, final-alike, finish-alike}
 
 -- the flow after a word of a blit that uses D alone
-oneWord-flow-is : (setup : Setup) → OnlyD (setup .uses) → (width left : ℕ) (flow : Flow)
-    → oneWord setup width left (state [] flow) .flow
+oneWord-flow-is : (setup : Setup) → OnlyD (setup .uses) → (width remaining : ℕ) (flow : Flow)
+    → oneWord setup width remaining (state [] flow) .flow
     ≡ moveOn (setup .direction) (setup .uses)
-    (wait (setup .uses .d) (finish setup (eqb (left + 1) width) (eqb left 0) flow .word)
-    (withStores (countWith (flow .pending) (flow .stored)) nothing (finish setup (eqb (left + 1) width) (eqb left 0) flow .flow)))
+    (wait (setup .uses .d) (finish setup (eqb (remaining + 1) width) (eqb remaining 0) flow .word)
+    (withStores (countWith (flow .pending) (flow .stored)) nothing (finish setup (eqb (remaining + 1) width) (eqb remaining 0) flow .flow)))
 unfolding oneWord storedBefore storePending finish
-oneWord-flow-is setup only width left flow =
+oneWord-flow-is setup only width remaining flow =
     ap (λ (made : Finished).
     moveOn (setup .direction) (setup .uses)
     (wait (setup .uses .d) (made .word) (withStores (countWith (made .flow .pending) (made .flow .stored)) nothing (made .flow))))
-    (finishedWord-without-memory setup only width left [] flow)
+    (finishedWord-without-memory setup only width remaining [] flow)
 
 stepped-alike : (direction direction′ : Direction) (used used′ : Bool) (at at′ : Pointer)
     → direction ≡ direction′ → used ≡ used′ → at ≡ at′ → stepped direction used at ≡ stepped direction′ used′ at′
@@ -56,24 +56,23 @@ module _ (this other : Setup) (setups : AlikeSetup this other) (only : OnlyD (th
   uses-d = ap (λ (uses : Uses). uses .d) (setups .uses)
 
   -- a word
-  word-alike : (left : ℕ) (flow flow′ : Flow) → AlikeFlow (this .function) flow flow′
-      → finishedWord this width left (state [] flow) .word ≡ finishedWord other width left (state [] flow′) .word
+  word-alike : (remaining : ℕ) (flow flow′ : Flow) → AlikeFlow (this .function) flow flow′
+      → finishedWord this width remaining (state [] flow) .word ≡ finishedWord other width remaining (state [] flow′) .word
   unfolding finish
-  word-alike left flow flow′ flows =
-      ap (λ (made : Finished). made .word) (finishedWord-without-memory this only width left [] flow)
-      ∙ ap (λ (made : Filled). made .word) (final-alike this other setups (eqb (left + 1) width) (eqb left 0) flow flow′ flows)
-      ∙ sym (ap (λ (made : Finished). made .word) (finishedWord-without-memory other only′ width left [] flow′))
+  word-alike remaining flow flow′ flows =
+      ap (λ (made : Finished). made .word) (finishedWord-without-memory this only width remaining [] flow)
+      ∙ ap (λ (made : Filled). made .word) (final-alike this other setups (eqb (remaining + 1) width) (eqb remaining 0) flow flow′ flows)
+      ∙ sym (ap (λ (made : Finished). made .word) (finishedWord-without-memory other only′ width remaining [] flow′))
 
-  oneWord-alike : (left : ℕ) (flow flow′ : Flow) → AlikeFlow (this .function) flow flow′
-      → AlikeFlow (this .function) (oneWord this width left (state [] flow) .flow) (oneWord other width left (state [] flow′) .flow)
+  oneWord-alike : (remaining : ℕ) (flow flow′ : Flow) → AlikeFlow (this .function) flow flow′
+      → AlikeFlow (this .function) (oneWord this width remaining (state [] flow) .flow) (oneWord other width remaining (state [] flow′) .flow)
   unfolding moveOn wait
-  oneWord-alike left flow flow′ flows =
-      let done = finish-alike this other setups (eqb (left + 1) width) (eqb left 0) flow flow′ flows in
-      rw (oneWord-flow-is this only width left flow, oneWord-flow-is other only′ width left flow′)
+  oneWord-alike remaining flow flow′ flows =
+      let done = finish-alike this other setups (eqb (remaining + 1) width) (eqb remaining 0) flow flow′ flows in
+      rw (oneWord-flow-is this only width remaining flow, oneWord-flow-is other only′ width remaining flow′)
       (record {
         d = stepped-alike (this .direction) (other .direction) (this .uses .d) (other .uses .d) _ _ (setups .direction) uses-d (done .d);
         carry = done .carry;
-        allzero = done .allzero;
         a = done .a;
         earlier-a = done .earlier-a;
         b = done .b;
@@ -82,24 +81,24 @@ module _ (this other : Setup) (setups : AlikeSetup this other) (only : OnlyD (th
       })
 
   -- the stores of a row, and the flow after it
-  rowStores-alike : (left : ℕ) (flow flow′ : Flow) → AlikeFlow (this .function) flow flow′
-      → rowStores this width left (state [] flow) ≡ rowStores other width left (state [] flow′)
+  rowStores-alike : (remaining : ℕ) (flow flow′ : Flow) → AlikeFlow (this .function) flow flow′
+      → rowStores this width remaining (state [] flow) ≡ rowStores other width remaining (state [] flow′)
   unfolding rowStores
   rowStores-alike zero flow flow′ flows = refl
-  rowStores-alike (suc left) flow flow′ flows =
-      ap₂ (λ (these rest : List ℕ). these ++ rest)
-      (ap₂ storeWords (flows .d) (word-alike left flow flow′ flows))
-      (ap (rowStores this width left) (oneWord-of-empty this only width left [] flow)
-      ∙ rowStores-alike left (oneWord this width left (state [] flow) .flow) (oneWord other width left (state [] flow′) .flow) (oneWord-alike left flow flow′ flows)
-      ∙ sym (ap (rowStores other width left) (oneWord-of-empty other only′ width left [] flow′)))
+  rowStores-alike (suc remaining) flow flow′ flows =
+      ap₂ (λ (one : Store) (rest : List Store). one ∷ rest)
+      (ap₂ store (flows .d) (word-alike remaining flow flow′ flows))
+      (ap (rowStores this width remaining) (oneWord-of-empty this only width remaining [] flow)
+      ∙ rowStores-alike remaining (oneWord this width remaining (state [] flow) .flow) (oneWord other width remaining (state [] flow′) .flow) (oneWord-alike remaining flow flow′ flows)
+      ∙ sym (ap (rowStores other width remaining) (oneWord-of-empty other only′ width remaining [] flow′)))
 
-  words-alike : (left : ℕ) (flow flow′ : Flow) → AlikeFlow (this .function) flow flow′
-      → AlikeFlow (this .function) (words this width left (state [] flow) .flow) (words other width left (state [] flow′) .flow)
+  words-alike : (remaining : ℕ) (flow flow′ : Flow) → AlikeFlow (this .function) flow flow′
+      → AlikeFlow (this .function) (words this width remaining (state [] flow) .flow) (words other width remaining (state [] flow′) .flow)
   unfolding repeated
   words-alike zero flow flow′ flows = flows
-  words-alike (suc left) flow flow′ flows =
-      both-ends (this .function) (words this width left) (words other width left) (oneWord-of-empty this only width left [] flow) (oneWord-of-empty other only′ width left [] flow′)
-      (words-alike left (oneWord this width left (state [] flow) .flow) (oneWord other width left (state [] flow′) .flow) (oneWord-alike left flow flow′ flows))
+  words-alike (suc remaining) flow flow′ flows =
+      both-ends (this .function) (words this width remaining) (words other width remaining) (oneWord-of-empty this only width remaining [] flow) (oneWord-of-empty other only′ width remaining [] flow′)
+      (words-alike remaining (oneWord this width remaining (state [] flow) .flow) (oneWord other width remaining (state [] flow′) .flow) (oneWord-alike remaining flow flow′ flows))
 
   started-alike : (flow flow′ : Flow) → AlikeFlow (this .function) flow flow′
       → AlikeFlow (this .function) (withCarry (this .carry) flow) (withCarry (other .carry) flow′)
@@ -107,7 +106,6 @@ module _ (this other : Setup) (setups : AlikeSetup this other) (only : OnlyD (th
       record {
         d = flows .d;
         carry = setups .carry;
-        allzero = flows .allzero;
         a = flows .a;
         earlier-a = flows .earlier-a;
         b = flows .b;
@@ -123,7 +121,6 @@ module _ (this other : Setup) (setups : AlikeSetup this other) (only : OnlyD (th
       record {
         d = turned-alike (this .direction) (other .direction) (this .uses .d) (other .uses .d) (this .modulos .d) (other .modulos .d) _ _ (setups .direction) uses-d (setups .modulo) (done .d);
         carry = done .carry;
-        allzero = done .allzero;
         a = done .a;
         earlier-a = done .earlier-a;
         b = done .b;
@@ -131,22 +128,14 @@ module _ (this other : Setup) (setups : AlikeSetup this other) (only : OnlyD (th
         c = done .c;
       }
 
-  -- the stores of all rows, and the flow after them
-  pub blitStores-alike : (left : ℕ) (flow flow′ : Flow) → AlikeFlow (this .function) flow flow′
-      → blitStores this width left (state [] flow) ≡ blitStores other width left (state [] flow′)
+  -- the stores of all rows
+  pub blitStores-alike : (remaining : ℕ) (flow flow′ : Flow) → AlikeFlow (this .function) flow flow′
+      → blitStores this width remaining (state [] flow) ≡ blitStores other width remaining (state [] flow′)
   unfolding blitStores rowStart
   blitStores-alike zero flow flow′ flows = refl
-  blitStores-alike (suc left) flow flow′ flows =
-      ap₂ (λ (these rest : List ℕ). these ++ rest)
+  blitStores-alike (suc remaining) flow flow′ flows =
+      ap₂ (λ (these rest : List Store). these ++ rest)
       (rowStores-alike width (withCarry (this .carry) flow) (withCarry (other .carry) flow′) (started-alike flow flow′ flows))
-      (ap (blitStores this width left) (oneRow-of-empty this only width [] flow)
-      ∙ blitStores-alike left (oneRow this width (state [] flow) .flow) (oneRow other width (state [] flow′) .flow) (oneRow-alike flow flow′ flows)
-      ∙ sym (ap (blitStores other width left) (oneRow-of-empty other only′ width [] flow′)))
-
-  pub rows-alike : (left : ℕ) (flow flow′ : Flow) → AlikeFlow (this .function) flow flow′
-      → AlikeFlow (this .function) (rows this width left (state [] flow) .flow) (rows other width left (state [] flow′) .flow)
-  unfolding repeated
-  rows-alike zero flow flow′ flows = flows
-  rows-alike (suc left) flow flow′ flows =
-      both-ends (this .function) (rows this width left) (rows other width left) (oneRow-of-empty this only width [] flow) (oneRow-of-empty other only′ width [] flow′)
-      (rows-alike left (oneRow this width (state [] flow) .flow) (oneRow other width (state [] flow′) .flow) (oneRow-alike flow flow′ flows))
+      (ap (blitStores this width remaining) (oneRow-of-empty this only width [] flow)
+      ∙ blitStores-alike remaining (oneRow this width (state [] flow) .flow) (oneRow other width (state [] flow′) .flow) (oneRow-alike flow flow′ flows)
+      ∙ sym (ap (blitStores other width remaining) (oneRow-of-empty other only′ width [] flow′)))

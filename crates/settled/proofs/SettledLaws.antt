@@ -9,9 +9,11 @@ use lib.ListN.{getD}
 use Rattle.word.specs.Size.{height, width}
 use Rattle.word.proofs.ChoiceLaws.{and-none}
 use Rattle.file.specs.Places.{control0, control1, firstMask, lastMask, pointerD, moduloD, sourceA, sourceB, sourceC}
-use Rattle.area.specs.declared.types.Uses.{Uses}
-use Rattle.area.specs.Setup.{con0, uses, function}
+use Rattle.word.specs.declared.types.Uses.{Uses}
+use Rattle.file.specs.File.{con0}
+use Rattle.word.specs.Control.{uses, function}
 use Rattle.refusal.specs.declared.types.Refusal.{Refusal}
+use Rattle.refusal.specs.declared.types.Plan.{Plan}
 use Rattle.refusal.specs.declared.types.Verdict.{Verdict}
 use Rattle.refusal.specs.Refusal.{stepRefusal, verdictNumber}
 use Rattle.refusal.proofs.RefusalLaws.{refusal-is-some}
@@ -31,22 +33,22 @@ pub onlyDUsed-of-uses : (con0 : ℕ) (used : Uses) → used ≡ uses con0 → (n
 unfolding onlyDUsed
 onlyDUsed-of-uses con0 used same = ap (λ (u : Uses). not (u .a) && not (u .b) && not (u .c) && u .d) same
 
-pub sourcesKnown-of-parts : (function : ℕ) (known : List Known) (on : Depends) (a first last b c : Bool)
-    → on ≡ depends function
+pub sourcesKnown-of-parts : (con0 decoded : ℕ) (known : List Known) (on : Depends) (a first last b c : Bool)
+    → decoded ≡ function con0 → on ≡ depends decoded
     → a ≡ has known sourceA → first ≡ has known firstMask → last ≡ has known lastMask → b ≡ has known sourceB → c ≡ has known sourceC
-    → ((not (on .a) || a && first && last) && (not (on .b) || b) && (not (on .c) || c)) ≡ sourcesKnown function known
+    → ((not (on .a) || a && first && last) && (not (on .b) || b) && (not (on .c) || c)) ≡ sourcesKnown (function con0) known
 unfolding sourcesKnown
-sourcesKnown-of-parts function known on a first last b c same is-a is-first is-last is-b is-c =
+sourcesKnown-of-parts con0 decoded known on a first last b c is-function same is-a is-first is-last is-b is-c =
     rw (is-a, is-first, is-last, is-b, is-c)
-    (ap (λ (d : Depends). (not (d .a) || has known sourceA && has known firstMask && has known lastMask) && (not (d .b) || has known sourceB) && (not (d .c) || has known sourceC)) same)
+    (ap (λ (d : Depends). (not (d .a) || has known sourceA && has known firstMask && has known lastMask) && (not (d .b) || has known sourceB) && (not (d .c) || has known sourceC)) (same ∙ ap depends is-function))
 
 module _ (verdict : Verdict) (number : ℕ) (gives : verdictNumber verdict ≡ number) where
-  pub lawful-when-lawful : verdict ≡ Verdict.Lawful → true ≡ eqb number 0
-  lawful-when-lawful same = sym (eq-eqb number 0 (sym gives ∙ ap verdictNumber same))
+  pub lawful-when-lawful : (by : Plan) → verdict ≡ Verdict.Lawful by → true ≡ eqb number 0
+  lawful-when-lawful by same = sym (eq-eqb number 0 (sym gives ∙ ap verdictNumber same))
 
   pub lawful-when-refused : (why : Refusal) → verdict ≡ Verdict.Refused why → false ≡ eqb number 0
   lawful-when-refused why same =
-      sym (refusal-is-some why) ∙ ap (λ (given : ℕ). eqb given 0) (sym (ap verdictNumber same) ∙ gives)
+      sym (refusal-is-some why) ∙ ap (λ (told : ℕ). eqb told 0) (sym (ap verdictNumber same) ∙ gives)
 
 pub small-of-parts : (size rows words : ℕ) → rows ≡ height size → words ≡ width size
     → leb (rows * words) 64 ≡ leb (height size * width size) 64
@@ -65,12 +67,12 @@ module _ (n size : ℕ) (known : List Known) (few : Bool) (of-few : few ≡ leb 
     settled-when-unknown fails = rw (← of-controls, fails)
 
     module _ (are-known : controls ≡ true) (file : List ℕ) (of-file : file ≡ numbers known) (only : Bool)
-        (of-only : only ≡ onlyDUsed (getD file 0 0)) where
+        (of-only : only ≡ onlyDUsed (getD file control0 0)) where
       pub settled-when-fetching : only ≡ false → false ≡ settled n known size
       unfolding settled
       settled-when-fetching fails = rw (← of-controls, are-known, ← of-file, ← of-only, fails)
 
-      module _ (alone : only ≡ true) (sources : Bool) (of-sources : sources ≡ sourcesKnown (getD file 0 0 % 256) known) where
+      module _ (alone : only ≡ true) (sources : Bool) (of-sources : sources ≡ sourcesKnown (function (getD file control0 0)) known) where
         pub settled-when-sourceless : sources ≡ false → false ≡ settled n known size
         unfolding settled
         settled-when-sourceless fails =

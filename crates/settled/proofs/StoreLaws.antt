@@ -8,7 +8,7 @@ use mathlib.Core.List.{List, _∷_, _++_}
 use borrow.Author.Tests.{ne-eqb, lt-leb}
 use lib.ListN.{length, set}
 use Rattle.word.specs.declared.types.Pointer.{Pointer}
-use Rattle.word.specs.Choice.{if_then_else_}
+use Rattle.word.specs.Choice.{if_then_else_, given}
 use Rattle.word.specs.Pointer.{pointerEnd, pointer, high, low}
 use Rattle.file.specs.File.{registers, placeIn, place, isRegister, keptBits, kept}
 use Rattle.file.specs.Places.{pointerD, flag}
@@ -17,8 +17,8 @@ use Rattle.job.specs.declared.types.Kind.{Kind}
 use Rattle.job.specs.declared.types.Step.{Step}
 use Rattle.job.specs.Kind.{kind}
 use Rattle.job.specs.Step.{operands, found, begun, front}
-use Rattle.job.specs.Steps.{placed, following, stepsFrom}
-use Rattle.runner.specs.Effect.{registerEffect, storeEffect, flagEffect, stepEffect, effect}
+use Rattle.job.specs.Steps.{placed, behind, stepsFrom}
+use Rattle.runner.specs.Effect.{storeOutside, ownRules, taken, answered, stepEffect, effect}
 use Rattle.runner.specs.Run.{machine, runSteps, runFrom}
 use Rattle.settled.specs.Words.{storeWords, pointerWords, flagWords}
 
@@ -51,7 +51,7 @@ pub run-of-store : (at value : ℕ) (to : Pointer) (more memory file : List ℕ)
     → to .word < pointerEnd → to .word < length memory
     → runFrom at (storeWords to value ++ more) (machine memory file stored)
     ≡ runFrom (at + 1 + 1 + 1) more (machine (set memory (to .word) value) file (stored + 1))
-unfolding stepsFrom runSteps found following operands effect stepEffect storeEffect
+unfolding stepsFrom runSteps found behind operands effect stepEffect answered taken storeOutside ownRules given
 run-of-store at value to more memory file stored small inside =
     rw (front-of-store at value to more small, lt-leb (length memory) (to .word) inside)
 
@@ -83,7 +83,7 @@ pub run-of-end : (at : ℕ) (to : Pointer) (allzero : Bool) (more memory file : 
     → runFrom at ((pointerWords to ++ flagWords allzero) ++ more) (machine memory file stored)
     ≡ runFrom (at + 1 + 1 + 1 + 1 + 1) more
     (machine memory (set (set (set file pointerD (high to)) (pointerD + 1) (low to)) flag (if allzero then 1 else 0)) stored)
-unfolding stepsFrom runSteps found following operands effect stepEffect registerEffect flagEffect
+unfolding stepsFrom runSteps found behind operands effect stepEffect answered taken storeOutside ownRules given
 run-of-end at to allzero more memory file stored =
     rw (front-of-high at (high to) (0x0056 ∷ low to ∷ (if allzero then 0xC001 else 0xC000) ∷ more))
     (rw (front-of-low (at + 1 + 1) (low to) ((if allzero then 0xC001 else 0xC000) ∷ more))
@@ -93,7 +93,7 @@ run-of-end at to allzero more memory file stored =
 -- the steps of a store's words, and of the words that end a settled blit
 pub steps-of-store : (at value : ℕ) (to : Pointer) (more : List ℕ) → to .word < pointerEnd
     → stepsFrom 0 at (storeWords to value ++ more) ≡ placed at (found at (Step.Store (to .word) value)) ∷ stepsFrom 0 (at + 1 + 1 + 1) more
-unfolding stepsFrom found following operands
+unfolding stepsFrom found behind operands
 steps-of-store at value to more small = rw (front-of-store at value to more small)
 
 pub steps-of-end : (at : ℕ) (to : Pointer) (allzero : Bool) (more : List ℕ)
@@ -102,7 +102,7 @@ pub steps-of-end : (at : ℕ) (to : Pointer) (allzero : Bool) (more : List ℕ)
     ∷ placed (at + 1 + 1) (found (at + 1 + 1) (Step.Register (pointerD + 1) (low to)))
     ∷ placed (at + 1 + 1 + 1 + 1) (found (at + 1 + 1 + 1 + 1) (Step.Flag (if allzero then 1 else 0)))
     ∷ stepsFrom 0 (at + 1 + 1 + 1 + 1 + 1) more
-unfolding stepsFrom found following operands
+unfolding stepsFrom found behind operands
 steps-of-end at to allzero more =
     rw (front-of-high at (high to) (0x0056 ∷ low to ∷ (if allzero then 0xC001 else 0xC000) ∷ more))
     (rw (front-of-low (at + 1 + 1) (low to) ((if allzero then 0xC001 else 0xC000) ∷ more))

@@ -5,7 +5,8 @@ use mathlib.Core.List.{List}
 use lib.Dec.{eqb, leb}
 use Rattle.word.specs.Size.{height, width}
 use Rattle.file.specs.Places.{control0, control1, firstMask, lastMask, pointerD, moduloD, sourceA, sourceB, sourceC}
-use Rattle.area.specs.Setup.{con0, uses, function}
+use Rattle.file.specs.File.{con0}
+use Rattle.word.specs.Control.{uses, function}
 use Rattle.refusal.specs.Refusal.{stepRefusal}
 use Rattle.depends.specs.Depends.{counts}
 use Rattle.knowledge.specs.declared.types.Known.{Known}

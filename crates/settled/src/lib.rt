@@ -1,3 +1,2 @@
-// Whether a blit is settled, and the words that a settled blit becomes.
+// Whether a blit is settled.
 pub mod settle;
-pub mod words;

@@ -3,6 +3,7 @@ ghost use mathlib.Core.Path.{_≡_};
 ghost use Prim.Native.Nat.{_*_};
 ghost use lib.Dec.{eqb, leb};
 ghost use Rattle.word.specs.Size.{height, width};
+ghost use Rattle.word.specs.Control.{function};
 ghost use Rattle.refusal.specs.Refusal.{stepRefusal};
 ghost use Rattle.knowledge.specs.Knowledge.{listed, numbers};
 ghost use Rattle.settled.specs.Settled.{controlsKnown, onlyDUsed, sourcesKnown, settled};
@@ -27,14 +28,14 @@ fn controls_known(known: Knowledge) -> bool
 fn only_d_used(con0: u16) -> bool
     ensures { λ only. ⌜ only ≡ onlyDUsed con0 ⌝ }
 {
-    let uses = area::setup::uses(con0);
+    let uses = word::control::uses(con0);
     !uses.a & !uses.b & !uses.c & uses.d
 }
 
-fn sources_known(function: u16, known: Knowledge) -> bool
-    ensures { λ told. ⌜ told ≡ sourcesKnown function (listed known) ⌝ }
+fn sources_known(con0: u16, known: Knowledge) -> bool
+    ensures { λ told. ⌜ told ≡ sourcesKnown (function con0) (listed known) ⌝ }
 {
-    let depends = depends::depends::depends(function);
+    let depends = depends::depends::depends(word::control::function(con0));
     let controls = known.controls;
     let first = controls.afwm;
     let last = controls.alwm;
@@ -52,7 +53,7 @@ fn lawful(n: usize, file: &[u16], size: u16) -> bool
     ensures { λ done. ⌜ done ≡ eqb (stepRefusal n (now (file .entry)) size) 0 ⌝ }
 {
     match refusal::step_refusal(n, file, size) {
-        Verdict::Lawful => true,
+        Verdict::Lawful(_) => true,
         Verdict::Refused(_) => false,
     }
 }
@@ -74,11 +75,11 @@ pub fn settled(n: usize, known: Knowledge, size: u16) -> bool
         return false;
     }
     let file = known.numbers();
-    let con0 = file[0];
+    let con0 = file[file::CONTROL_0 as usize];
     if !only_d_used(con0) {
         return false;
     }
-    if !sources_known(con0 % 256, known) {
+    if !sources_known(con0, known) {
         return false;
     }
     lawful(n, &file, size)

@@ -74,37 +74,37 @@ still-nought true any word = or-nought any word
 still-nought false any word = refl
 
 -- a word of a straight row, its sources given: it waits, all before it stored
-module _ (setup : Setup) (width left : ℕ) (base : Flow) (i : ℕ) (memory : List ℕ) (line : Line) (sources : Sources)
+module _ (setup : Setup) (width remaining : ℕ) (base : Flow) (i : ℕ) (memory : List ℕ) (line : Line) (sources : Sources)
     (gives-a : fetched (setup .uses .a) memory (gone (setup .direction) (setup .uses .a) i (base .pointers .a)) (line .sources .a) ≡ sources .a)
     (gives-b : fetched (setup .uses .b) memory (gone (setup .direction) (setup .uses .b) i (base .pointers .b)) (line .sources .b) ≡ sources .b)
     (gives-c : fetched (setup .uses .c) memory (gone (setup .direction) (setup .uses .c) i (base .pointers .c)) (line .sources .c) ≡ sources .c) where
   abbrev waiting : Flow
   waiting =
       record {
-        pointers = along setup base (suc i) (nextLine setup (eqb (left + 1) width) (eqb left 0) sources line) .pointers;
+        pointers = along setup base (suc i) (nextLine setup (eqb (remaining + 1) width) (eqb remaining 0) sources line) .pointers;
         sources = sources;
-        earlier = nextLine setup (eqb (left + 1) width) (eqb left 0) sources line .earlier;
-        carry = nextLine setup (eqb (left + 1) width) (eqb left 0) sources line .carry;
-        allzero = base .allzero && eqb (nextLine setup (eqb (left + 1) width) (eqb left 0) sources line .any) 0;
+        earlier = nextLine setup (eqb (remaining + 1) width) (eqb remaining 0) sources line .earlier;
+        carry = nextLine setup (eqb (remaining + 1) width) (eqb remaining 0) sources line .carry;
+        allzero = base .allzero && eqb (nextLine setup (eqb (remaining + 1) width) (eqb remaining 0) sources line .any) 0;
         stored = base .stored + i;
         pending =
             record {
               waits = setup .uses .d;
               place = gone (setup .direction) (setup .uses .d) i (base .pointers .d) .word;
-              word = finalOf setup (eqb (left + 1) width) (eqb left 0) sources line .word;
+              word = finalOf setup (eqb (remaining + 1) width) (eqb remaining 0) sources line .word;
             };
       }
 
-  along-waits : oneWord setup width left (state memory (along setup base i line)) ≡ state memory waiting
+  along-waits : oneWord setup width remaining (state memory (along setup base i line)) ≡ state memory waiting
   unfolding oneWord storedBefore storePending finishedWord wait moveOn finish final result maskedA fetch memoryWith countWith along gone nextLine finalOf
-  along-waits = rw (gives-a, gives-b, gives-c, still-nought (base .allzero) (line .any) (finalOf setup (eqb (left + 1) width) (eqb left 0) sources line .word))
+  along-waits = rw (gives-a, gives-b, gives-c, still-nought (base .allzero) (line .any) (finalOf setup (eqb (remaining + 1) width) (eqb remaining 0) sources line .word))
 
   -- stored at once, where D is used
   along-stores : setup .uses .d ≡ true
-      → storePending (oneWord setup width left (state memory (along setup base i line)))
+      → storePending (oneWord setup width remaining (state memory (along setup base i line)))
       ≡ state
-      (set memory (gone (setup .direction) (setup .uses .d) i (base .pointers .d) .word) (finalOf setup (eqb (left + 1) width) (eqb left 0) sources line .word))
-      (along setup base (suc i) (nextLine setup (eqb (left + 1) width) (eqb left 0) sources line))
+      (set memory (gone (setup .direction) (setup .uses .d) i (base .pointers .d) .word) (finalOf setup (eqb (remaining + 1) width) (eqb remaining 0) sources line .word))
+      (along setup base (suc i) (nextLine setup (eqb (remaining + 1) width) (eqb remaining 0) sources line))
   unfolding storePending memoryWith countWith along nextLine
   along-stores uses = ap storePending along-waits ∙ rw (uses, more (base .stored) i)
     where
@@ -147,10 +147,10 @@ differs x y apart = none (eqb x y) (λ is. apart (eqb→eq x y is))
     none true not = absurd (not tt)
     none false not = refl
 
-more-words : (setup : Setup) (width left : ℕ) (now : State) → 0 < left → Clear (setup .uses) (now .flow .pending) (now .flow .pointers)
-    → words setup width left (storePending now) ≡ words setup width left now
+more-words : (setup : Setup) (width remaining : ℕ) (now : State) → 0 < remaining → Clear (setup .uses) (now .flow .pending) (now .flow .pointers)
+    → words setup width remaining (storePending now) ≡ words setup width remaining now
 more-words setup width zero now more clear = absurd (omega arith)
-more-words setup width (suc left) now more clear = words-early setup width left now clear
+more-words setup width (suc remaining) now more clear = words-early setup width remaining now clear
 
 -- a turn of a straight loop, not the row's last: the word is stored at once, and the row goes on as it would
 module _ (n width i : ℕ) (setup : Setup) (base : Flow) (memory : List ℕ) (line after : Line) (a b c word : ℕ) (first : Bool)
@@ -161,8 +161,8 @@ module _ (n width i : ℕ) (setup : Setup) (base : Flow) (memory : List ℕ) (li
     (is-first : eqb (width - i) width ≡ first)
     (finishes : word ≡ finalOf setup first false (record { a = a; b = b; c = c }) line .word)
     (hands : after ≡ nextLine setup first false (record { a = a; b = b; c = c }) line) where
-  abbrev left : ℕ
-  left = width - suc i
+  abbrev remaining : ℕ
+  remaining = width - suc i
 
   abbrev sources : Sources
   sources = record { a = a; b = b; c = c }
@@ -182,16 +182,16 @@ module _ (n width i : ℕ) (setup : Setup) (base : Flow) (memory : List ℕ) (li
   unfolding Fits SourcesFit
   fetches-c = given-at (setup .direction) (setup .uses .c) width n i (base .pointers .d .word) memory (base .pointers .c) (line .sources .c) (fits .3 .2) (fits .0) (omega arith) ∙ sym gives-c
 
-  stores : storePending (oneWord setup width left (state memory (along setup base i line))) ≡ stored
+  stores : storePending (oneWord setup width remaining (state memory (along setup base i line))) ≡ stored
   unfolding Fits
   stores =
-      let is : eqb (left + 1) width ≡ first = ap (λ (words : ℕ). eqb words width) (omega arith) ∙ is-first in
-      let not-last : eqb left 0 ≡ false = differs left 0 (λ none. absurd (omega arith)) in
-      along-stores setup width left base i memory line sources fetches-a fetches-b fetches-c (fits .1)
+      let is : eqb (remaining + 1) width ≡ first = ap (λ (words : ℕ). eqb words width) (omega arith) ∙ is-first in
+      let not-last : eqb remaining 0 ≡ false = differs remaining 0 (λ none. absurd (omega arith)) in
+      along-stores setup width remaining base i memory line sources fetches-a fetches-b fetches-c (fits .1)
       ∙ rw (is, not-last, finishes, hands, place-at (setup .direction) (setup .uses .d) width n i (base .pointers .d) (fits .1) (fits .2) (fits .0) (omega arith))
 
   abbrev waits : Flow
-  waits = waiting setup width left base i memory line sources fetches-a fetches-b fetches-c
+  waits = waiting setup width remaining base i memory line sources fetches-a fetches-b fetches-c
 
   waits-clear : Clear (setup .uses) (waits .pending) (waits .pointers)
   unfolding Fits SourcesFit Clear along
@@ -201,15 +201,15 @@ module _ (n width i : ℕ) (setup : Setup) (base : Flow) (memory : List ℕ) (li
     next-clear (setup .direction) (setup .uses .d) (setup .uses .c) width n i (waits .pending .word) (base .pointers .d) (base .pointers .c) (fits .1) (fits .2) (fits .3 .2) (fits .0) more,
   )
 
-  turned : words setup width left stored ≡ words setup width (suc left) (state memory (along setup base i line))
+  turned : words setup width remaining stored ≡ words setup width (suc remaining) (state memory (along setup base i line))
   unfolding repeated
   turned =
-      let one : oneWord setup width left (state memory (along setup base i line)) ≡ state memory waits =
-      along-waits setup width left base i memory line sources fetches-a fetches-b fetches-c in
-      sym (ap (words setup width left) stores)
-      ∙ ap (λ (now : State). words setup width left (storePending now)) one
-      ∙ more-words setup width left (state memory waits) (omega arith) waits-clear
-      ∙ sym (ap (words setup width left) one)
+      let one : oneWord setup width remaining (state memory (along setup base i line)) ≡ state memory waits =
+      along-waits setup width remaining base i memory line sources fetches-a fetches-b fetches-c in
+      sym (ap (words setup width remaining) stores)
+      ∙ ap (λ (now : State). words setup width remaining (storePending now)) one
+      ∙ more-words setup width remaining (state memory waits) (omega arith) waits-clear
+      ∙ sym (ap (words setup width remaining) one)
 
   pub straight-turn : words setup width (width - suc i) (state (set memory (place (setup .direction) (base .pointers .d .word) i) word) (along setup base (suc i) after))
       ≡ words setup width (width - i) (state memory (along setup base i line))
@@ -223,16 +223,16 @@ pub one-left : (setup : Setup) (base : Flow) (memory : List ℕ) (line : Line) (
     → words setup (last + 1) 1 (state memory (along setup base last line)) ≡ whole
 one-left setup base memory line last i whole most least here =
     let all : last ≡ i = omega arith in
-    let left : 1 ≡ last + 1 - i = omega arith in
-    ap (λ (left : ℕ). words setup (last + 1) left (state memory (along setup base last line))) left
+    let remaining : 1 ≡ last + 1 - i = omega arith in
+    ap (λ (remaining : ℕ). words setup (last + 1) remaining (state memory (along setup base last line))) remaining
     ∙ ap (λ (done : ℕ). words setup (last + 1) (last + 1 - i) (state memory (along setup base done line))) all
     ∙ here
 
 -- the first word is done
 pub one-done : (setup : Setup) (now : State) (last : ℕ) → words setup (last + 1) (last + 1 - 1) now ≡ words setup (last + 1) last now
 one-done setup now last =
-    let left : last + 1 - 1 ≡ last = omega arith in
-    rw left
+    let remaining : last + 1 - 1 ≡ last = omega arith in
+    rw remaining
 
 -- a source that is used, or not
 pub given-used : (used : Bool) (memory : List ℕ) (place source : ℕ) → used ≡ true → getD memory place 0 ≡ given used memory place source
@@ -306,10 +306,10 @@ module _ (n last : ℕ) (setup : Setup) (base : Flow) (memory : List ℕ) (sourc
       straight-turn n (last + 1) 0 setup base memory (opened base) (end .line) (sources .a) (sources .b) (sources .c) (end .word) true fits (omega arith)
       (rw at-a gives-a) (rw at-b gives-b) (rw at-c gives-c) first
       (ap (λ (end : Ended). end .word) ends) (ap (λ (end : Ended). end .line) ends) in
-      ap (λ (left : ℕ). words setup (last + 1) left (state (set memory (base .pointers .d .word) (end .word)) (along setup base 1 (end .line)))) (sym one)
+      ap (λ (remaining : ℕ). words setup (last + 1) remaining (state (set memory (base .pointers .d .word) (end .word)) (along setup base 1 (end .line)))) (sym one)
       ∙ ap (λ (at : ℕ). words setup (last + 1) (last + 1 - 1) (state (set memory at (end .word)) (along setup base 1 (end .line)))) (sym (place-first (setup .direction) (base .pointers .d .word)))
       ∙ turn
-      ∙ ap (λ (left : ℕ). words setup (last + 1) left (state memory (along setup base 0 (opened base)))) all
+      ∙ ap (λ (remaining : ℕ). words setup (last + 1) remaining (state memory (along setup base 0 (opened base)))) all
       ∙ ap (λ (flow : Flow). words setup (last + 1) (last + 1) (state memory flow)) (opening setup base none)
     where
       same : (x : ℕ) → eqb x x ≡ true

@@ -31,10 +31,10 @@ fetched-early true false place word memory pointer source clear = refl
 fetched-early false waits place word memory pointer source clear = refl
 
 -- the word that waits, stored before the next is fetched
-pub oneWord-early : (setup : Setup) (width left : ℕ) (now : State) → Clear (setup .uses) (now .flow .pending) (now .flow .pointers)
-    → oneWord setup width left (storePending now) ≡ oneWord setup width left now
+pub oneWord-early : (setup : Setup) (width remaining : ℕ) (now : State) → Clear (setup .uses) (now .flow .pending) (now .flow .pointers)
+    → oneWord setup width remaining (storePending now) ≡ oneWord setup width remaining now
 unfolding oneWord storedBefore storePending finishedWord wait moveOn finish final result maskedA fetch memoryWith countWith Clear
-oneWord-early setup width left now clear =
+oneWord-early setup width remaining now clear =
     let pending : Pending = now .flow .pending in
     rw (
       fetched-early (setup .uses .a) (pending .waits) (pending .place) (pending .word) (now .memory) (now .flow .pointers .a) (now .flow .sources .a) (clear .0),
@@ -42,7 +42,7 @@ oneWord-early setup width left now clear =
       fetched-early (setup .uses .c) (pending .waits) (pending .place) (pending .word) (now .memory) (now .flow .pointers .c) (now .flow .sources .c) (clear .2),
     )
 
-pub words-early : (setup : Setup) (width left : ℕ) (now : State) → Clear (setup .uses) (now .flow .pending) (now .flow .pointers)
-    → words setup width (suc left) (storePending now) ≡ words setup width (suc left) now
+pub words-early : (setup : Setup) (width remaining : ℕ) (now : State) → Clear (setup .uses) (now .flow .pending) (now .flow .pointers)
+    → words setup width (suc remaining) (storePending now) ≡ words setup width (suc remaining) now
 unfolding repeated
-words-early setup width left now clear = ap (words setup width left) (oneWord-early setup width left now clear)
+words-early setup width remaining now clear = ap (words setup width remaining) (oneWord-early setup width remaining now clear)

@@ -5,8 +5,9 @@ use native.Mathlib.Nat.{not-suc-le-zero, add-zero, add-suc}
 use native.Mathlib.Numerals.{add-one}
 use native.Mathlib.Decide.{decLt}
 use native.Mathlib.Omega.{arith}
-use mathlib.Core.Bool.{Bool, true, false, _&&_, _||_}
-use lib.Dec.{T}
+use mathlib.Core.Bool.{Bool, true, false, not, _&&_, _||_}
+use borrow.Author.Tests.{lt-ltb, le-ltb, le-leb, lt-leb}
+use lib.Dec.{T, leb, ltb}
 use Rattle.word.specs.Choice.{if_then_else_, every}
 
 -- what a choice gives, by its test
@@ -52,6 +53,23 @@ or-left false b neither = refl
 pub or-right : (a b : Bool) → (a || b) ≡ false → b ≡ false
 or-right true b neither = let n : _≡_ {A = ℕ} 0 1 = cc in absurd (omega arith)
 or-right false b neither = neither
+
+-- the far end tested the other way round, and what passing it tells
+pub beyond-is-not-within : (most n : ℕ) → ltb most n ≡ not (leb n most)
+beyond-is-not-within most n = by-order (decLt most n)
+  where
+    by-order : Dec (most < n) → ltb most n ≡ not (leb n most)
+    by-order (yes far) = rw (lt-ltb most n far, lt-leb n most far)
+    by-order (no near) = let inside : n ≤ most = omega arith in rw (le-ltb most n inside, le-leb n most inside)
+
+pub within-when-passed : (n most : ℕ) → not (leb n most) ≡ false → n ≤ most
+within-when-passed n most fits = by-order (decLt most n)
+  where
+    by-order : Dec (most < n) → n ≤ most
+    by-order (yes far) =
+        let no : not false ≡ false = rw (lt-leb n most far) at fits in
+        let n : _≡_ {A = ℕ} 0 1 = cc in absurd (omega arith)
+    by-order (no near) = omega arith
 
 -- a test that was computed at every number below n holds at each
 pub every-at : (test : ℕ → Bool) (n : ℕ) → T (every test n) → (k : ℕ) → k < n → T (test k)

@@ -10,8 +10,8 @@ use Rattle.word.specs.declared.types.Direction.{Direction}
 use Rattle.word.specs.declared.types.Direction.the-variants.{Ascending, Descending}
 use Rattle.word.specs.declared.types.Pointer.{Pointer}
 use Rattle.word.specs.Repeat.{repeated}
-use Rattle.word.specs.Pointer.{pointerEnd}
-use Rattle.word.specs.Even.{nextRow, RowInside, RowsInside, SpanInside}
+use Rattle.word.specs.Pointer.{pointerEnd, nextRow}
+use Rattle.word.specs.Inner.Even.{RowInside, RowsInside, SpanInside}
 use Rattle.word.proofs.ChoiceLaws.{and-left, and-right}
 use Rattle.word.proofs.StrideLaws.{origin, rows-lt, rows-upward, rows-downward}
 

@@ -4,6 +4,7 @@ pub mod RepeatLaws
 pub mod WordLaws
 pub mod LaidLaws
 pub mod PointerLaws
+pub mod MemoryLaws
 pub mod StrideLaws
 pub mod EvenLaws
 pub mod SizeLaws

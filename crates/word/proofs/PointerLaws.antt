@@ -1,13 +1,13 @@
 -- Laws of pointers: their moves, and that moves of one word are one move of so many.
 use mathlib.Core.Path.{_≡_, sym, ap, _∙_}
-use Prim.Native.Nat.{ℕ, zero, suc, _+_, _-_, _%_, _<_}
+use Prim.Native.Nat.{ℕ, zero, suc, _+_, _-_, _%_, _<_, _≤_}
 use native.Mathlib.Nat.{mod-eq-of-lt}
 use native.Mathlib.Omega.{arith}
 use Rattle.word.specs.declared.types.Direction.{Direction}
 use Rattle.word.specs.declared.types.Direction.the-variants.{Ascending, Descending}
 use Rattle.word.specs.declared.types.Pointer.{Pointer}
 use Rattle.word.specs.Repeat.{repeated}
-use Rattle.word.specs.Pointer.{pointerEnd, pointer, up, down, plus, minus, moved, passed}
+use Rattle.word.specs.Pointer.{pointerEnd, pointer, up, down, plus, minus, moved, passed, nextRow}
 
 -- a word number may be bounded before it is moved
 pub sum-of-remainder : (word by : ℕ) → (word % pointerEnd + by) % pointerEnd ≡ (word + by) % pointerEnd
@@ -34,12 +34,12 @@ unfolding passed
 passed-when-descending direction words from next way same = rw way same
 
 -- one word and so many more, upward and downward
-up-and-on : (word left : ℕ) → (word + suc left) % pointerEnd ≡ ((word + 1) % pointerEnd + left) % pointerEnd
-up-and-on word left = omega arith
+up-and-on : (word remaining : ℕ) → (word + suc remaining) % pointerEnd ≡ ((word + 1) % pointerEnd + remaining) % pointerEnd
+up-and-on word remaining = omega arith
 
-down-and-on : (word left : ℕ) → word < pointerEnd → suc left < pointerEnd
-    → (word + (pointerEnd - suc left)) % pointerEnd ≡ ((word + (pointerEnd - 1)) % pointerEnd + (pointerEnd - left)) % pointerEnd
-down-and-on word left small few = omega arith
+down-and-on : (word remaining : ℕ) → word < pointerEnd → suc remaining < pointerEnd
+    → (word + (pointerEnd - suc remaining)) % pointerEnd ≡ ((word + (pointerEnd - 1)) % pointerEnd + (pointerEnd - remaining)) % pointerEnd
+down-and-on word remaining small few = omega arith
 
 -- width moves of one word are one move of width words
 pub moves-are-one : (direction : Direction) (width : ℕ) (pointer : Pointer) → pointer .word < pointerEnd → width < pointerEnd
@@ -73,3 +73,15 @@ pub moved-lt : (direction : Direction) (pointer : Pointer) → moved direction p
 unfolding moved
 moved-lt Ascending pointer = omega arith
 moved-lt Descending pointer = omega arith
+
+-- a row, and the modulo after it
+pub nextRow-lt : (direction : Direction) (width modulo : ℕ) (pointer : Pointer) → nextRow direction width modulo pointer .word < pointerEnd
+unfolding nextRow
+nextRow-lt direction width modulo pointer = passed-lt direction modulo (repeated (λ _. moved direction) width pointer)
+
+pub nextRow-of-moves : (direction : Direction) (width modulo : ℕ) (pointer end next : Pointer) → pointer .word < pointerEnd → width ≤ 64
+    → end ≡ passed direction width pointer → next ≡ passed direction modulo end
+    → (next ≡ nextRow direction width modulo pointer) × (next .word < pointerEnd)
+unfolding nextRow
+nextRow-of-moves direction width modulo pointer end next small narrow row turn =
+    (turn ∙ ap (passed direction modulo) (row ∙ moves-are-one direction width pointer small (omega arith)), rw turn (passed-lt direction modulo end))

@@ -19,7 +19,7 @@ repeated-done step (suc n) now whole none same = absurd (omega arith)
 
 -- what holds after a step if it held before holds after all the steps
 pub repeated-holds : {State : Type 0} (step : ℕ → State → State) (Holds : State → Type 0)
-    → ((left : ℕ) (state : State) → Holds state → Holds (step left state))
+    → ((remaining : ℕ) (state : State) → Holds state → Holds (step remaining state))
     → (n : ℕ) (state : State) → Holds state → Holds (repeated step n state)
 unfolding repeated
 repeated-holds step Holds again zero state holds = holds
@@ -27,7 +27,7 @@ repeated-holds step Holds again (suc n) state holds = repeated-holds step Holds 
 
 -- what every step keeps, all the steps keep
 pub repeated-keeps : {State Part : Type 0} (step : ℕ → State → State) (part : State → Part)
-    → ((left : ℕ) (state : State) → part (step left state) ≡ part state)
+    → ((remaining : ℕ) (state : State) → part (step remaining state) ≡ part state)
     → (n : ℕ) (state : State) → part (repeated step n state) ≡ part state
 repeated-keeps step part keeps n state =
-    repeated-holds step (λ now. part now ≡ part state) (λ left now same. keeps left now ∙ same) n state refl
+    repeated-holds step (λ now. part now ≡ part state) (λ remaining now same. keeps remaining now ∙ same) n state refl

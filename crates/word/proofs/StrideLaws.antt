@@ -9,23 +9,12 @@ use Rattle.word.specs.declared.types.Direction.{Direction}
 use Rattle.word.specs.declared.types.Direction.the-variants.{Ascending, Descending}
 use Rattle.word.specs.declared.types.Pointer.{Pointer}
 use Rattle.word.specs.Repeat.{repeated}
-use Rattle.word.specs.Pointer.{pointerEnd, moved, passed}
-use Rattle.word.specs.Even.{nextRow}
-use Rattle.word.proofs.PointerLaws.{sum-of-remainder, moves-are-one, passed-lt}
+use Rattle.word.specs.Pointer.{pointerEnd, passed, nextRow}
+use Rattle.word.proofs.PointerLaws.{sum-of-remainder, nextRow-lt, nextRow-of-moves}
 
 -- the start of memory, from which a stride is measured
 abbrev pub origin : Pointer
 origin = record { word = 0 }
-
-pub nextRow-lt : (direction : Direction) (width modulo : ℕ) (pointer : Pointer) → nextRow direction width modulo pointer .word < pointerEnd
-unfolding nextRow
-nextRow-lt direction width modulo pointer = passed-lt direction modulo (repeated (λ _. moved direction) width pointer)
-
-pub nextRow-of-moves : (direction : Direction) (width modulo : ℕ) (pointer end next : Pointer) → pointer .word < pointerEnd → width ≤ 64
-    → end ≡ passed direction width pointer → next ≡ passed direction modulo end → next ≡ nextRow direction width modulo pointer
-unfolding nextRow
-nextRow-of-moves direction width modulo pointer end next small narrow row turn =
-    turn ∙ ap (passed direction modulo) (row ∙ moves-are-one direction width pointer small (omega arith))
 
 sum-with-remainder : (word by : ℕ) → (word + by % pointerEnd) % pointerEnd ≡ (word + by) % pointerEnd
 sum-with-remainder word by = omega arith
@@ -52,19 +41,10 @@ pub nextRow-evenly : (direction : Direction) (width modulo : ℕ) (pointer : Poi
     → nextRow direction width modulo pointer .word ≡ (pointer .word + nextRow direction width modulo origin .word) % pointerEnd
 nextRow-evenly direction width modulo pointer small narrow =
     rw (
-      ← nextRow-of-moves direction width modulo pointer _ _ small narrow refl refl,
-      ← nextRow-of-moves direction width modulo origin _ _ (omega arith) narrow refl refl,
+      ← nextRow-of-moves direction width modulo pointer _ _ small narrow refl refl .0,
+      ← nextRow-of-moves direction width modulo origin _ _ (omega arith) narrow refl refl .0,
     )
     (passed-evenly direction width modulo pointer)
-
-pub stride-of-moves : (direction : Direction) (width modulo : ℕ) (start end next : Pointer) → start ≡ origin → width ≤ 64
-    → end ≡ passed direction width start → next ≡ passed direction modulo end
-    → (next .word ≡ nextRow direction width modulo origin .word) × (next .word < pointerEnd)
-stride-of-moves direction width modulo start end next nought narrow row turn = (
-  ap (λ (pointer : Pointer). pointer .word)
-      (nextRow-of-moves direction width modulo origin end next (omega arith) narrow (row ∙ ap (passed direction width) nought) turn),
-  rw turn (passed-lt direction modulo end),
-)
 
 -- so k rows on a pointer has gone k strides up or down, as long as it doesn't go round
 module _ (direction : Direction) (width modulo : ℕ) where

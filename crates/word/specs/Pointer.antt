@@ -5,6 +5,7 @@ use Prim.Native.Nat.{ℕ, _+_, _-_, _*_, _/_, _%_}
 use Rattle.word.specs.declared.types.Direction.{Direction}
 use Rattle.word.specs.declared.types.Direction.the-variants.{Ascending, Descending}
 use Rattle.word.specs.declared.types.Pointer.{Pointer}
+use Rattle.word.specs.Repeat.{repeated}
 use Rattle.word.specs.Word.{bit}
 
 abbrev pub pointerEnd : ℕ
@@ -48,3 +49,7 @@ moved Descending pointer = down pointer
 unfoldable pub passed : Direction → (words : ℕ) → Pointer → Pointer
 passed Ascending words pointer = plus words pointer
 passed Descending words pointer = minus words pointer
+
+-- the pointer of a used channel after a row of so many words, and the modulo
+unfoldable pub nextRow : Direction → (width modulo : ℕ) → Pointer → Pointer
+nextRow direction width modulo pointer = passed direction modulo (repeated (λ _. moved direction) width pointer)

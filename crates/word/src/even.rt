@@ -2,28 +2,29 @@
 ghost use mathlib.Core.Path.{_≡_};
 ghost use mathlib.Core.Bool.{true};
 ghost use Prim.Native.Nat.{_-_, _*_, _<_, _≤_};
-ghost use Rattle.word.specs.Even.{nextRow, RowsInside, SpanInside};
+ghost use Rattle.word.specs.Pointer.{pointerEnd, nextRow};
+ghost use Rattle.word.specs.Inner.Even.{RowsInside, SpanInside};
+use crate::pointer::POINTER_END;
 use crate::types::Direction;
 use crate::types::Pointer;
 
 // The words of memory that a pointer reaches.
 fn reached(n: usize) -> u32
-    ensures { λ words. ⌜ (words ≤ n) × (words ≤ 262144) ⌝ }
+    ensures { λ words. ⌜ (words ≤ n) × (words ≤ pointerEnd) ⌝ }
 {
-    if n < 262144 {
+    if n < (POINTER_END as usize) {
         return n as u32;
     }
-    262144
+    POINTER_END
 }
 
 // How far above a row's start the next row starts, modulo 262,144; it is the same for every row.
 pub fn stride(direction: Direction, width: u32, modulo: u32) -> u32
     requires { ⌜ width ≤ 64 ⌝ }
-    ensures { λ words. ⌜ (words ≡ nextRow direction width modulo (record { word = 0 }) .word) × (words < 262144) ⌝ }
+    ensures { λ words. ⌜ (words ≡ nextRow direction width modulo (record { word = 0 }) .word) × (words < pointerEnd) ⌝ }
 {
     let start = Pointer { word: 0 };
-    let end = start.passed(direction, width);
-    let next = end.passed(direction, modulo);
+    let next = start.next_row(direction, width, modulo);
     next.word
 }
 
@@ -37,7 +38,7 @@ fn distance(rows: u32, words: u32) -> u32
 
 // A row ascending ends above its start, a row descending below it.
 fn span_inside(n: u32, direction: Direction, width: u32, lowest: u32, highest: u32) -> bool
-    requires { ⌜ (width ≤ 64) × (lowest < 262144) × (highest ≤ 134348800) ⌝ }
+    requires { ⌜ (width ≤ 64) × (lowest < pointerEnd) × (highest ≤ 134348800) ⌝ }
     ensures { λ inside. ⌜ (inside ≡ true → SpanInside n direction width lowest highest) ⌝ }
 {
     match direction {
@@ -61,10 +62,10 @@ pub fn evenly_inside(
     rows: u32,
     pointer: Pointer,
 ) -> bool
-    requires { ⌜ (pointer .word < 262144) × (1 ≤ width) × (width ≤ 64) ⌝ }
+    requires { ⌜ (pointer .word < pointerEnd) × (1 ≤ width) × (width ≤ 64) ⌝ }
     ensures { λ inside. ⌜ (inside ≡ true → RowsInside n direction width modulo rows pointer) ⌝ }
 {
-    if (262144 <= n) & (width == 1) {
+    if ((POINTER_END as usize) <= n) & (width == 1) {
         return true;
     }
     if rows < 1 {
@@ -80,7 +81,7 @@ pub fn evenly_inside(
         let far = distance(rows, words);
         return span_inside(end, direction, width, start, start + far);
     }
-    let far = distance(rows, 262144 - words);
+    let far = distance(rows, POINTER_END - words);
     if start < far {
         return false;
     }

@@ -1,5 +1,6 @@
-// The leaves of the area blit: the moved pointer, a blit's size, and the mask, shift, logic function and fill of one
-// word.
+// One word: memory and pointers, what the control and size registers say, and the mask, shift, logic function and fill
+// of a blit's word.
+pub mod control;
 pub mod even;
 pub mod fill;
 pub mod logic;

@@ -1,15 +1,20 @@
 // Pointers: made of two registers, moved by one and by a modulo, each modulo 262,144.
 ghost use mathlib.Core.Path.{_≡_};
-ghost use Rattle.word.specs.Pointer.{pointer, high, low, up, down, half, plus, minus, moved, passed};
+ghost use Prim.Native.Nat.{_<_, _≤_};
+ghost use Rattle.word.specs.Pointer.{pointerEnd, pointer, high, low, up, down, half, plus, minus};
+ghost use Rattle.word.specs.Pointer.{moved, passed, nextRow};
 use crate::types::Direction;
 use crate::types::Pointer;
+
+// The words that a pointer reaches.
+pub const POINTER_END: u32 = 262144;
 
 // The pointer of two registers.
 pub fn pointer(high: u16, low: u16) -> Pointer
     ensures { λ made. ⌜ made ≡ pointer high low ⌝ }
 {
     Pointer {
-        word: ((high as u32) * 65536 + (low as u32)) / 2 % 262144,
+        word: ((high as u32) * 65536 + (low as u32)) / 2 % POINTER_END,
     }
 }
 
@@ -18,7 +23,7 @@ pub fn half(modulo: u16) -> u32
     ensures { λ words. ⌜ words ≡ half modulo ⌝ }
 {
     let bytes = modulo as u32;
-    bytes / 2 % 32768 + bytes / 32768 % 2 * 229376
+    bytes / 2 % 32768 + bytes / 32768 % 2 * (POINTER_END - 32768)
 }
 
 impl Pointer {
@@ -40,7 +45,7 @@ impl Pointer {
         ensures { λ next. ⌜ next ≡ up self ⌝ }
     {
         Pointer {
-            word: (self.word % 262144 + 1) % 262144,
+            word: (self.word % POINTER_END + 1) % POINTER_END,
         }
     }
 
@@ -48,7 +53,7 @@ impl Pointer {
         ensures { λ next. ⌜ next ≡ down self ⌝ }
     {
         Pointer {
-            word: (self.word % 262144 + 262143) % 262144,
+            word: (self.word % POINTER_END + (POINTER_END - 1)) % POINTER_END,
         }
     }
 
@@ -57,7 +62,7 @@ impl Pointer {
         ensures { λ next. ⌜ next ≡ plus words self ⌝ }
     {
         Pointer {
-            word: (self.word % 262144 + words % 262144) % 262144,
+            word: (self.word % POINTER_END + words % POINTER_END) % POINTER_END,
         }
     }
 
@@ -65,7 +70,7 @@ impl Pointer {
         ensures { λ next. ⌜ next ≡ minus words self ⌝ }
     {
         Pointer {
-            word: (self.word % 262144 + (262144 - words % 262144)) % 262144,
+            word: (self.word % POINTER_END + (POINTER_END - words % POINTER_END)) % POINTER_END,
         }
     }
 
@@ -87,5 +92,14 @@ impl Pointer {
             Direction::Ascending => self.plus(words),
             Direction::Descending => self.minus(words),
         }
+    }
+
+    // The pointer after a row of so many words, and the modulo.
+    pub fn next_row(self, direction: Direction, width: u32, modulo: u32) -> Pointer
+        requires { ⌜ (self .word < pointerEnd) × (width ≤ 64) ⌝ }
+        ensures { λ next. ⌜ (next ≡ nextRow direction width modulo self) × (next .word < pointerEnd) ⌝ }
+    {
+        let end = self.passed(direction, width);
+        end.passed(direction, modulo)
     }
 }

@@ -23,3 +23,11 @@ pub struct Filled {
     pub word: u16,
     pub carry: u16,
 }
+
+// The channels in use.
+pub struct Uses {
+    pub a: bool,
+    pub b: bool,
+    pub c: bool,
+    pub d: bool,
+}

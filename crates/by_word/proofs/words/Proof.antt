@@ -11,11 +11,11 @@ use Rattle.by_word.proofs.words.Statement.{statement}
 use Rattle.by_word.proofs.words.Tie as tie
 
 abbrev Inv-loop : tie.InvT-loop
-Inv-loop ram₀ setup width here₀ left₀ ram here left = (words setup width left (state ram here) ≡ words setup width left₀ (state ram₀ here₀))
-    × (here .stored + left < 4294967296) × (left ≤ width) × (length ram ≡ length ram₀)
+Inv-loop ram₀ setup width here₀ remaining₀ ram here remaining = (words setup width remaining (state ram here) ≡ words setup width remaining₀ (state ram₀ here₀))
+    × (here .stored + remaining < 4294967296) × (remaining ≤ width) × (length ram ≡ length ram₀)
 
 abbrev μ-loop : tie.MeasureT-loop
-μ-loop ram₀ setup width here₀ left₀ ram here left = left
+μ-loop ram₀ setup width here₀ remaining₀ ram here remaining = remaining
 
 loop-holds : tie.Need-loop-holds Inv-loop μ-loop
 loop-holds c = search needs
@@ -26,8 +26,8 @@ sub-one-word c = search needs
 one-word-requires : tie.Need-one-word-requires Inv-loop μ-loop
 one-word-requires c κs = search needs
 
-sub-left : tie.Need-sub-left Inv-loop μ-loop
-sub-left c = search needs
+sub-remaining : tie.Need-sub-remaining Inv-loop μ-loop
+sub-remaining c = search needs
 
 loop-less : tie.Need-loop-less Inv-loop μ-loop
 loop-less c = search needs
@@ -50,7 +50,7 @@ words-spec =
     loop-holds
     sub-one-word
     one-word-requires
-    sub-left
+    sub-remaining
     loop-less
     loop-again
     same-length

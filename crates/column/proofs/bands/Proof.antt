@@ -2,7 +2,7 @@
 use Prim.Native.Nat.{_<_, _≤_}
 use mathlib.Core.Path.{_≡_, refl}
 use lib.ListN.{length}
-use Rattle.word.specs.Even.{RowsInside}
+use Rattle.word.specs.Inner.Even.{RowsInside}
 use Rattle.column.specs.Column.{Goes}
 use Rattle.column.proofs.ColumnLaws.{goes-start, goes-turn, goes-end, inside-turn, inside-now, place-inside, round-lt}
 use borrow.Author.Needs.{needs}
@@ -10,13 +10,13 @@ use Rattle.column.proofs.bands.Statement.{statement}
 use Rattle.column.proofs.bands.Tie as tie
 
 abbrev Inv-loop : tie.InvT-loop
-Inv-loop ram₀ setup two rows far-a far-d band₀ left₀ ram band left = (left ≤ left₀) × (length ram ≡ length ram₀) × (band .a < 262144) × (band .d < 262144) × (band .place < length ram₀)
-    × RowsInside (length ram₀) (setup .direction) 1 (setup .modulos .a) left (record { word = band .a })
-    × RowsInside (length ram₀) (setup .direction) 1 (setup .modulos .d) left (record { word = band .d })
-    × Goes setup two left ram band left₀ ram₀ band₀
+Inv-loop ram₀ setup two rows far-a far-d band₀ remaining₀ ram band remaining = (remaining ≤ remaining₀) × (length ram ≡ length ram₀) × (band .a < 262144) × (band .d < 262144) × (band .place < length ram₀)
+    × RowsInside (length ram₀) (setup .direction) 1 (setup .modulos .a) remaining (record { word = band .a })
+    × RowsInside (length ram₀) (setup .direction) 1 (setup .modulos .d) remaining (record { word = band .d })
+    × Goes setup two remaining ram band remaining₀ ram₀ band₀
 
 abbrev μ-loop : tie.MeasureT-loop
-μ-loop ram₀ setup two rows far-a far-d band₀ left₀ ram band left = left
+μ-loop ram₀ setup two rows far-a far-d band₀ remaining₀ ram band remaining = remaining
 
 stride-requires : tie.Need-stride-requires Inv-loop μ-loop
 stride-requires c κs = search needs
@@ -48,8 +48,8 @@ slice-write-ram c = search needs
 next-requires : tie.Need-next-requires Inv-loop μ-loop
 next-requires c κs = search needs
 
-sub-left : tie.Need-sub-left Inv-loop μ-loop
-sub-left c = search needs
+sub-remaining : tie.Need-sub-remaining Inv-loop μ-loop
+sub-remaining c = search needs
 
 loop-less : tie.Need-loop-less Inv-loop μ-loop
 loop-less c = search needs
@@ -89,7 +89,7 @@ bands-spec =
     mul-ram
     slice-write-ram
     next-requires
-    sub-left
+    sub-remaining
     loop-less
     loop-again
     same-length

@@ -7,6 +7,12 @@ use Rattle.file.proofs.accepted.Tie as tie
 returns : tie.Need-returns
 returns c = search accepted-of-length
 
+cast-flag : tie.Need-cast-flag
+cast-flag c = search needs
+
+mul-flag : tie.Need-mul-flag
+mul-flag c = search needs
+
 shared-slice-read-flag : tie.Need-shared-slice-read-flag
 shared-slice-read-flag c = search needs
 
@@ -27,6 +33,8 @@ accepted-spec =
     tie.close
     (tie.spec
     returns
+    cast-flag
+    mul-flag
     shared-slice-read-flag
     kept-requires
     colours-keep-requires

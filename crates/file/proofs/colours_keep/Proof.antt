@@ -36,6 +36,9 @@ abbrev μ-loop : tie.MeasureT-loop
 loop-holds : tie.Need-loop-holds Inv-loop μ-loop
 loop-holds c = (refl, search needs)
 
+cast-value : tie.Need-cast-value Inv-loop μ-loop
+cast-value c = search needs
+
 add-value : tie.Need-add-value Inv-loop μ-loop
 add-value c = search needs
 
@@ -64,6 +67,7 @@ colours-keep-spec =
     Inv-loop
     μ-loop
     loop-holds
+    cast-value
     add-value
     mul-value
     shared-slice-read-value

@@ -1,5 +1,5 @@
 -- `folder::fold` meets its contract: what the measure answers, and the folded job laid into the output only when it is done.
-use Rattle.runner.proofs.RunLaws.{jobLength-when-short}
+use Rattle.job.proofs.LengthLaws.{jobLength-when-short}
 use Rattle.folder.proofs.FoldingLaws.{folding-by-memory, folding-by-length, folding-by-refused, folding-by-done, lawful-when-done, few-when-done}
 use borrow.Author.Needs.{needs}
 use Rattle.folder.proofs.fold.Statement.{statement}

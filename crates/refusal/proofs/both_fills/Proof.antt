@@ -1,12 +1,19 @@
 -- `refusal::both_fills` meets its contract: the two bits.
 use mathlib.Core.Path.{refl}
 use Rattle.refusal.specs.Refusal.{bothFills}
+use borrow.Author.Needs.{needs}
 use Rattle.refusal.proofs.both_fills.Statement.{statement}
 use Rattle.refusal.proofs.both_fills.Tie as tie
 
+exclusive-fill-requires : tie.Need-exclusive-fill-requires
+exclusive-fill-requires c κs = search needs
+
+inclusive-fill-requires : tie.Need-inclusive-fill-requires
+inclusive-fill-requires c κs = search needs
+
 returns : tie.Need-returns
 unfolding bothFills
-returns c = refl
+returns c = rw (c .inclusive-fill .ensures, c .before .exclusive-fill .ensures) refl
 
 pub both-fills-spec : {M : Type 1} → statement M
-both-fills-spec = tie.close (tie.spec returns)
+both-fills-spec = tie.close (tie.spec exclusive-fill-requires inclusive-fill-requires returns)

@@ -1,12 +1,24 @@
 -- `refusal::fill_upward` meets its contract: the three bits.
 use mathlib.Core.Path.{refl}
 use Rattle.refusal.specs.Refusal.{fillUpward}
+use borrow.Author.Needs.{needs}
 use Rattle.refusal.proofs.fill_upward.Statement.{statement}
 use Rattle.refusal.proofs.fill_upward.Tie as tie
 
+exclusive-fill-requires : tie.Need-exclusive-fill-requires
+exclusive-fill-requires c κs = search needs
+
+inclusive-fill-requires : tie.Need-inclusive-fill-requires
+inclusive-fill-requires c κs = search needs
+
+descending-requires : tie.Need-descending-requires
+descending-requires c κs = search needs
+
 returns : tie.Need-returns
 unfolding fillUpward
-returns c = refl
+returns c = rw (c .descending .ensures, c .before .inclusive-fill .ensures, c .before .before .exclusive-fill .ensures) refl
 
 pub fill-upward-spec : {M : Type 1} → statement M
-fill-upward-spec = tie.close (tie.spec returns)
+fill-upward-spec =
+    tie.close
+    (tie.spec exclusive-fill-requires inclusive-fill-requires descending-requires returns)

@@ -1,4 +1,5 @@
 -- `refusal::refusal` meets its contract: memory and file are tried first, then the rules of the blit.
+use mathlib.Core.Path.{refl}
 use Rattle.refusal.proofs.RefusalLaws.{refused-by-memory, refused-by-file, refused-by-blit}
 use borrow.Author.Needs.{needs}
 use Rattle.refusal.proofs.refusal.Statement.{statement}
@@ -8,19 +9,19 @@ memory-size-requires : tie.Need-memory-size-requires
 memory-size-requires c κs = search needs
 
 returns : tie.Need-returns
-returns c = search refused-by-memory
+returns c = (search refused-by-memory, refl)
 
 accepted-requires : tie.Need-accepted-requires
 accepted-requires c κs = search needs
 
 returns-2 : tie.Need-returns-2
-returns-2 c = search refused-by-file
+returns-2 c = (search refused-by-file, refl)
 
 step-refusal-requires : tie.Need-step-refusal-requires
 step-refusal-requires c κs = search needs
 
 returns-3 : tie.Need-returns-3
-returns-3 c = search refused-by-blit
+returns-3 c = (search refused-by-blit, search needs)
 
 pub refusal-spec : {M : Type 1} → statement M
 refusal-spec =

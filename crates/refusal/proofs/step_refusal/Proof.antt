@@ -1,5 +1,6 @@
 -- `refusal::step_refusal` meets its contract: each test is a rule of the list, in the list's order.
-use Rattle.refusal.proofs.RefusalLaws.{pointers-lt-a, pointers-lt-b, pointers-lt-c, pointers-lt-d, refused-by-line, refused-by-both-fills, refused-by-fill-upward, refused-by-leaving}
+use mathlib.Core.Path.{refl}
+use Rattle.refusal.proofs.RefusalLaws.{plan-lt-a, plan-lt-b, plan-lt-c, plan-lt-d, plan-is-some, plan-is-few, handed-of-plan, refused-by-line, refused-by-both-fills, refused-by-fill-upward, refused-by-leaving}
 use borrow.Author.Needs.{needs}
 use Rattle.refusal.proofs.step_refusal.Statement.{statement}
 use Rattle.refusal.proofs.step_refusal.Tie as tie
@@ -7,44 +8,44 @@ use Rattle.refusal.proofs.step_refusal.Tie as tie
 read-requires : tie.Need-read-requires
 read-requires c κs = search needs
 
+line-requires : tie.Need-line-requires
+line-requires c κs = search needs
+
 returns : tie.Need-returns
-returns c = search refused-by-line
+returns c = (search refused-by-line, refl)
 
 both-fills-requires : tie.Need-both-fills-requires
 both-fills-requires c κs = search needs
 
 returns-2 : tie.Need-returns-2
-returns-2 c = search refused-by-both-fills
+returns-2 c = (search refused-by-both-fills, refl)
 
 fill-upward-requires : tie.Need-fill-upward-requires
 fill-upward-requires c κs = search needs
 
 returns-3 : tie.Need-returns-3
-returns-3 c = search refused-by-fill-upward
+returns-3 c = (search refused-by-fill-upward, refl)
 
-setup-requires : tie.Need-setup-requires
-setup-requires c κs = search needs
-
-pointers-requires : tie.Need-pointers-requires
-pointers-requires c κs = search needs
+plan-requires : tie.Need-plan-requires
+plan-requires c κs = search needs
 
 leaving-requires : tie.Need-leaving-requires
-leaving-requires c κs = search (needs, pointers-lt-a, pointers-lt-b, pointers-lt-c, pointers-lt-d)
+leaving-requires c κs = search (plan-lt-a, plan-lt-b, plan-lt-c, plan-lt-d, plan-is-some, plan-is-few)
 
 returns-4 : tie.Need-returns-4
-returns-4 c = search refused-by-leaving
+returns-4 c = (search refused-by-leaving, search handed-of-plan)
 
 pub step-refusal-spec : {M : Type 1} → statement M
 step-refusal-spec =
     tie.close
     (tie.spec
     read-requires
+    line-requires
     returns
     both-fills-requires
     returns-2
     fill-upward-requires
     returns-3
-    setup-requires
-    pointers-requires
+    plan-requires
     leaving-requires
     returns-4)

@@ -1,5 +1,6 @@
 -- `runner::run` meets its contract: the tests before the first step are the rules of the list, in the list's order.
-use Rattle.runner.proofs.RunLaws.{jobLength-when-short, run-by-memory, run-by-file, run-by-length, run-by-steps}
+use Rattle.runner.proofs.RunLaws.{run-by-memory, run-by-file, run-by-length, run-by-steps}
+use Rattle.job.proofs.LengthLaws.{jobLength-when-short}
 use borrow.Author.Needs.{needs}
 use Rattle.runner.proofs.run.Statement.{statement}
 use Rattle.runner.proofs.run.Tie as tie

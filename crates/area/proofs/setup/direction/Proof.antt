@@ -1,18 +1,17 @@
 -- `area::setup::direction` meets its contract: the test is the bit's.
-use borrow.Author.Tests.{eq-eqb, ne-eqb}
-use Rattle.word.proofs.ChoiceLaws.{if-when-true, if-when-false}
-use Rattle.area.specs.Setup.{direction}
+use Rattle.area.proofs.SetupLaws.{direction-when-down, direction-when-up}
 use borrow.Author.Needs.{needs}
 use Rattle.area.proofs.setup.direction.Statement.{statement}
 use Rattle.area.proofs.setup.direction.Tie as tie
 
+descending-requires : tie.Need-descending-requires
+descending-requires c κs = search needs
+
 returns : tie.Need-returns
-unfolding direction
-returns c = search (needs, if-when-true, eq-eqb)
+returns c = search direction-when-down
 
 returns-2 : tie.Need-returns-2
-unfolding direction
-returns-2 c = search (needs, if-when-false, ne-eqb)
+returns-2 c = search direction-when-up
 
 pub direction-spec : {M : Type 1} → statement M
-direction-spec = tie.close (tie.spec returns returns-2)
+direction-spec = tie.close (tie.spec descending-requires returns returns-2)

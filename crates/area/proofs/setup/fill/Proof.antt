@@ -1,22 +1,25 @@
 -- `area::setup::fill` meets its contract: the tests are the bits', in the definition's order.
-use borrow.Author.Tests.{eq-eqb, ne-eqb}
-use Rattle.word.proofs.ChoiceLaws.{if-when-true, if-when-false}
-use Rattle.area.specs.Setup.{fill}
+use Rattle.area.proofs.SetupLaws.{fill-when-exclusive, fill-when-inclusive, fill-when-off}
 use borrow.Author.Needs.{needs}
 use Rattle.area.proofs.setup.fill.Statement.{statement}
 use Rattle.area.proofs.setup.fill.Tie as tie
 
+exclusive-fill-requires : tie.Need-exclusive-fill-requires
+exclusive-fill-requires c κs = search needs
+
 returns : tie.Need-returns
-unfolding fill
-returns c = search (needs, if-when-true, eq-eqb)
+returns c = search fill-when-exclusive
+
+inclusive-fill-requires : tie.Need-inclusive-fill-requires
+inclusive-fill-requires c κs = search needs
 
 returns-2 : tie.Need-returns-2
-unfolding fill
-returns-2 c = search (needs, if-when-true, if-when-false, eq-eqb, ne-eqb)
+returns-2 c = search fill-when-inclusive
 
 returns-3 : tie.Need-returns-3
-unfolding fill
-returns-3 c = search (needs, if-when-false, ne-eqb)
+returns-3 c = search fill-when-off
 
 pub fill-spec : {M : Type 1} → statement M
-fill-spec = tie.close (tie.spec returns returns-2 returns-3)
+fill-spec =
+    tie.close
+    (tie.spec exclusive-fill-requires returns inclusive-fill-requires returns-2 returns-3)

@@ -29,18 +29,26 @@ direction-requires c κs = search needs
 fill-requires : tie.Need-fill-requires
 fill-requires c κs = search needs
 
+function-requires : tie.Need-function-requires
+function-requires c κs = search needs
+
+carry-in-requires : tie.Need-carry-in-requires
+carry-in-requires c κs = search needs
+
 returns : tie.Need-returns
 unfolding setup
 returns c =
     rw (
-      c .fill .ensures,
-      c .before .direction .ensures,
-      c .before .before .shifts .ensures,
-      c .before .before .before .masks .ensures,
-      c .before .before .before .before .modulos .ensures,
-      c .before .before .before .before .before .uses .ensures,
-      c .before .before .before .before .before .before .read2 .ensures,
-      c .before .before .before .before .before .before .before .read .ensures,
+      c .carry-in .ensures,
+      c .before .function .ensures,
+      c .before .before .fill .ensures,
+      c .before .before .before .direction .ensures,
+      c .before .before .before .before .shifts .ensures,
+      c .before .before .before .before .before .masks .ensures,
+      c .before .before .before .before .before .before .modulos .ensures,
+      c .before .before .before .before .before .before .before .uses .ensures,
+      c .before .before .before .before .before .before .before .before .read2 .ensures,
+      c .before .before .before .before .before .before .before .before .before .read .ensures,
     ) refl
 
 pub setup-spec : {M : Type 1} → statement M
@@ -55,4 +63,6 @@ setup-spec =
     shifts-requires
     direction-requires
     fill-requires
+    function-requires
+    carry-in-requires
     returns)

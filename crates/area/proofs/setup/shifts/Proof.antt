@@ -5,15 +5,15 @@ use borrow.Author.Needs.{needs}
 use Rattle.area.proofs.setup.shifts.Statement.{statement}
 use Rattle.area.proofs.setup.shifts.Tie as tie
 
-cast-t5 : tie.Need-cast-t5
-cast-t5 c = search needs
+shift-requires : tie.Need-shift-requires
+shift-requires c κs = search needs
 
-cast-t8 : tie.Need-cast-t8
-cast-t8 c = search needs
+shift-requires-2 : tie.Need-shift-requires-2
+shift-requires-2 c κs = search needs
 
 returns : tie.Need-returns
 unfolding shifts
-returns c = refl
+returns c = rw (c .shift2 .ensures, c .before .shift .ensures) refl
 
 pub shifts-spec : {M : Type 1} → statement M
-shifts-spec = tie.close (tie.spec cast-t5 cast-t8 returns)
+shifts-spec = tie.close (tie.spec shift-requires shift-requires-2 returns)

@@ -1,5 +1,5 @@
 -- `blit::done::answered` meets its contract: a refused blit changes nothing, any other is done.
-use Rattle.blit.proofs.BlitLaws.{answered-when-done, answered-when-refused}
+use Rattle.blit.proofs.BlitLaws.{plan-of-verdict, answered-when-done, answered-when-refused}
 use borrow.Author.Needs.{needs}
 use Rattle.blit.proofs.done.answered.Statement.{statement}
 use Rattle.blit.proofs.done.answered.Tie as tie
@@ -7,11 +7,11 @@ use Rattle.blit.proofs.done.answered.Tie as tie
 enum-known-verdict : tie.Need-enum-known-verdict
 enum-known-verdict c = search needs
 
-enum-told : tie.Need-enum-told
-enum-told c = search needs
+enum-known-verdict-2 : tie.Need-enum-known-verdict-2
+enum-known-verdict-2 c = search needs
 
 done-requires : tie.Need-done-requires
-done-requires c κs = search needs
+done-requires c κs = search plan-of-verdict
 
 returns : tie.Need-returns
 returns c = search answered-when-refused
@@ -30,7 +30,7 @@ answered-spec =
     tie.close
     (tie.spec
     enum-known-verdict
-    enum-told
+    enum-known-verdict-2
     done-requires
     returns
     same-length

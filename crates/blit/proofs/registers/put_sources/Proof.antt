@@ -3,7 +3,7 @@ use Prim.Native.Nat.{ℕ}
 use mathlib.Core.Path.{_≡_, refl}
 use mathlib.Core.List.{List}
 use Rattle.file.specs.Places.{sourceA, sourceB, sourceC}
-use Rattle.area.specs.declared.types.Uses.{Uses}
+use Rattle.word.specs.declared.types.Uses.{Uses}
 use Rattle.area.specs.declared.types.Sources.{Sources}
 use Rattle.blit.specs.WriteBack.{putSource, putSources}
 use borrow.Author.Needs.{needs}

@@ -11,11 +11,11 @@ use Rattle.engine.proofs.rows.rows.Statement.{statement}
 use Rattle.engine.proofs.rows.rows.Tie as tie
 
 abbrev Inv-loop : tie.InvT-loop
-Inv-loop ram₀ setup width height known here₀ left₀ ram here left = (rows setup width left (state ram here) ≡ rows setup width left₀ (state ram₀ here₀))
-    × (here .stored + left * 64 < 4294967296) × (length ram ≡ length ram₀)
+Inv-loop ram₀ setup width height known here₀ remaining₀ ram here remaining = (rows setup width remaining (state ram here) ≡ rows setup width remaining₀ (state ram₀ here₀))
+    × (here .stored + remaining * 64 < 4294967296) × (length ram ≡ length ram₀)
 
 abbrev μ-loop : tie.MeasureT-loop
-μ-loop ram₀ setup width height known here₀ left₀ ram here left = left
+μ-loop ram₀ setup width height known here₀ remaining₀ ram here remaining = remaining
 
 known-requires : tie.Need-known-requires Inv-loop μ-loop
 known-requires c κs = search needs

@@ -13,11 +13,11 @@ use Rattle.engine.proofs.rows.straight_rows.Statement.{statement}
 use Rattle.engine.proofs.rows.straight_rows.Tie as tie
 
 abbrev Inv-loop : tie.InvT-loop
-Inv-loop ram₀ setup two width left here₀ more₀ ram here more = (rows setup width more (state ram here) ≡ rows setup width more₀ (state ram₀ here₀))
+Inv-loop ram₀ setup two width remaining here₀ more₀ ram here more = (rows setup width more (state ram here) ≡ rows setup width more₀ (state ram₀ here₀))
     × (here .stored + more * 64 < 4294967296) × (more ≤ more₀) × (length ram ≡ length ram₀) × Ready setup two here
 
 abbrev μ-loop : tie.MeasureT-loop
-μ-loop ram₀ setup two width left here₀ more₀ ram here more = more
+μ-loop ram₀ setup two width remaining here₀ more₀ ram here more = more
 
 loop-holds : tie.Need-loop-holds Inv-loop μ-loop
 loop-holds c = search needs

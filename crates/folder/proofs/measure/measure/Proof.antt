@@ -4,11 +4,11 @@ use mathlib.Core.Path.{_≡_, refl}
 use Prim.Native.Nat.{_+_, _*_, _-_, _≤_}
 use lib.ListN.{length}
 use Rattle.job.specs.Steps.{steps}
-use Rattle.runner.proofs.RunLaws.{runAt-falls, runAt-inside}
+use Rattle.job.proofs.StepLaws.{read-falls, read-inside}
 use Rattle.knowledge.specs.Knowledge.{listed}
 use Rattle.folder.specs.Fold.{foldSteps, fold}
 use Rattle.folder.specs.Folding.{byStep}
-use Rattle.folder.proofs.MeasureLaws.{stepsAt, measure-at-end, measure-of-end, measure-of-nothing, measure-of-cut, measure-of-odd, byStep-turn, count-turn, count-le, count-fits, count-start}
+use Rattle.folder.proofs.MeasureLaws.{stepsAt, measure-at-end, measure-of-end, measure-of-fault, byStep-turn, count-turn, count-le, count-fits, count-start}
 use borrow.Author.Needs.{needs}
 use Rattle.folder.proofs.measure.measure.Statement.{statement}
 use Rattle.folder.proofs.measure.measure.Tie as tie
@@ -44,7 +44,7 @@ add-words c =
     search (count-fits, match .match .keys1, match .before .read-at .ensures, match .before .before .before .loop .inv, c .before .step-piece .ensures)
 
 loop-less : tie.Need-loop-less Inv-loop μ-loop
-loop-less c = search (needs, runAt-falls)
+loop-less c = search (needs, read-falls)
 
 loop-again : tie.Need-loop-again Inv-loop μ-loop
 loop-again c =
@@ -56,7 +56,7 @@ loop-again c =
       search (byStep-turn, steps, reads, inv .0),
       search (count-turn, steps, reads, inv .1, piece .0, piece .1),
       search (count-le, steps, reads, inv .2, piece .0, piece .1),
-      search (runAt-inside, steps, reads),
+      search (read-inside, steps, reads),
     )
 
 enum-told : tie.Need-enum-told Inv-loop μ-loop
@@ -68,29 +68,17 @@ ended-requires c κs = search needs
 returns : tie.Need-returns Inv-loop μ-loop
 returns c = search measure-of-end
 
-enum-told-2 : tie.Need-enum-told-2 Inv-loop μ-loop
-enum-told-2 c = search needs
+enum-known-why : tie.Need-enum-known-why Inv-loop μ-loop
+enum-known-why c = search needs
 
 returns-2 : tie.Need-returns-2 Inv-loop μ-loop
-returns-2 c = search measure-of-nothing
-
-enum-told-3 : tie.Need-enum-told-3 Inv-loop μ-loop
-enum-told-3 c = search needs
-
-returns-3 : tie.Need-returns-3 Inv-loop μ-loop
-returns-3 c = search measure-of-cut
-
-enum-told-4 : tie.Need-enum-told-4 Inv-loop μ-loop
-enum-told-4 c = search needs
-
-returns-4 : tie.Need-returns-4 Inv-loop μ-loop
-returns-4 c = search measure-of-odd
+returns-2 c = search measure-of-fault
 
 ended-requires-2 : tie.Need-ended-requires-2 Inv-loop μ-loop
 ended-requires-2 c κs = search needs
 
-returns-5 : tie.Need-returns-5 Inv-loop μ-loop
-returns-5 c = search measure-at-end
+returns-3 : tie.Need-returns-3 Inv-loop μ-loop
+returns-3 c = search measure-at-end
 
 pub measure-spec : {M : Type 1} → statement M
 measure-spec =
@@ -109,11 +97,7 @@ measure-spec =
     enum-told
     ended-requires
     returns
-    enum-told-2
+    enum-known-why
     returns-2
-    enum-told-3
-    returns-3
-    enum-told-4
-    returns-4
     ended-requires-2
-    returns-5)
+    returns-3)

@@ -1,4 +1,4 @@
--- `folder::piece::settled_known` meets its contract: the D pointer of the blit's end.
+-- `folder::piece::settled_known` meets its contract: where the blit leaves D's pointer.
 use Rattle.folder.proofs.PieceLaws.{settled-known-of-parts}
 use borrow.Author.Needs.{needs}
 use Rattle.folder.proofs.piece.settled_known.Statement.{statement}
@@ -7,11 +7,11 @@ use Rattle.folder.proofs.piece.settled_known.Tie as tie
 numbers-requires : tie.Need-numbers-requires
 numbers-requires c κs = search needs
 
-slice-aggregate-settled-end : tie.Need-slice-aggregate-settled-end
-slice-aggregate-settled-end c = search needs
+slice-aggregate-final-d : tie.Need-slice-aggregate-final-d
+slice-aggregate-final-d c = search needs
 
-settled-end-requires : tie.Need-settled-end-requires
-settled-end-requires c κs = search needs
+final-d-requires : tie.Need-final-d-requires
+final-d-requires c κs = search needs
 
 moved-d-requires : tie.Need-moved-d-requires
 moved-d-requires c κs = search needs
@@ -24,7 +24,7 @@ settled-known-spec =
     tie.close
     (tie.spec
     numbers-requires
-    slice-aggregate-settled-end
-    settled-end-requires
+    slice-aggregate-final-d
+    final-d-requires
     moved-d-requires
     returns)

@@ -1,7 +1,6 @@
 -- `folder::piece::settled_length` meets its contract: the numbers fit.
 use Rattle.word.proofs.SizeLaws.{words-fit}
-use Rattle.output.proofs.StoresLaws.{settledLength-fits}
-use Rattle.folder.proofs.PieceLaws.{settledLength-fits-all, settledLength-of-parts}
+use Rattle.folder.proofs.PieceLaws.{settledLength-fits, settledLength-fits-all, settledLength-of-parts}
 use borrow.Author.Needs.{needs}
 use Rattle.folder.proofs.piece.settled_length.Statement.{statement}
 use Rattle.folder.proofs.piece.settled_length.Tie as tie

@@ -1,4 +1,4 @@
--- `folder::write::put_blit` meets its contract: the words of the known numbers' file, and the D pointer of the blit's end.
+-- `folder::write::put_blit` meets its contract: the words of the known numbers' file, and where the blit leaves D's pointer.
 use Rattle.folder.proofs.PieceLaws.{settled-known-of-parts}
 use Rattle.folder.proofs.WriteLaws.{put-blit-of-parts}
 use borrow.Author.Needs.{needs}

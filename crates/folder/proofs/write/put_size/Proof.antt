@@ -1,6 +1,6 @@
 -- `folder::write::put_size` meets its contract, settled or kept.
 use Rattle.folder.proofs.PieceLaws.{pieceLength-when-settled, learned-when-settled, pieceLength-when-kept, learned-when-kept}
-use Rattle.folder.proofs.WriteLaws.{put-when-settled, put-when-kept}
+use Rattle.folder.proofs.WriteLaws.{few-when-settled, put-when-settled, put-when-kept}
 use borrow.Author.Needs.{needs}
 use Rattle.folder.proofs.write.put_size.Statement.{statement}
 use Rattle.folder.proofs.write.put_size.Tie as tie
@@ -9,7 +9,7 @@ settled-requires : tie.Need-settled-requires
 settled-requires c κs = search needs
 
 put-blit-requires : tie.Need-put-blit-requires
-put-blit-requires c κs = search needs
+put-blit-requires c κs = search (needs, few-when-settled)
 
 settled-length-requires : tie.Need-settled-length-requires
 settled-length-requires c κs = search needs

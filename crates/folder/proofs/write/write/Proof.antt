@@ -4,14 +4,14 @@ use mathlib.Core.Path.{_≡_, refl}
 use Prim.Native.Nat.{_+_, _-_, _≤_}
 use lib.ListN.{length}
 use Rattle.job.specs.Steps.{steps}
-use Rattle.runner.proofs.RunLaws.{runAt-falls, runAt-inside}
+use Rattle.job.proofs.StepLaws.{read-falls, read-inside}
 use Rattle.knowledge.specs.Knowledge.{listed}
 use Rattle.folder.specs.Fold.{foldSteps, fold}
 use Rattle.folder.specs.Folding.{byStep}
 use Rattle.word.specs.Laid.{laid}
 use Rattle.folder.proofs.MeasureLaws.{stepsAt, byStep-turn, count-turn, count-start}
 use Rattle.word.proofs.LaidLaws.{laid-as-long}
-use Rattle.folder.proofs.WriteLaws.{write-at-end, write-of-end, write-of-nothing, write-of-cut, write-of-odd, step-inside, write-turn, at-fits, at-room, write-start}
+use Rattle.folder.proofs.WriteLaws.{write-at-end, write-of-end, write-of-fault, step-inside, write-turn, at-fits, at-room, write-start}
 use borrow.Author.Needs.{needs}
 use Rattle.folder.proofs.write.write.Statement.{statement}
 use Rattle.folder.proofs.write.write.Tie as tie
@@ -50,7 +50,7 @@ add-at c =
     search (at-fits, match .match .keys1, match .before .read-at .ensures, put .1, put .2, match .before .before .before .loop .inv .1, pre .1)
 
 loop-less : tie.Need-loop-less Inv-loop μ-loop
-loop-less c = search (needs, runAt-falls)
+loop-less c = search (needs, read-falls)
 
 loop-again : tie.Need-loop-again Inv-loop μ-loop
 loop-again c =
@@ -62,7 +62,7 @@ loop-again c =
       search (write-turn, steps, reads, put .0, put .1, put .2, inv .0),
       search (count-turn, steps, reads, put .1, put .2, inv .1),
       search (byStep-turn, steps, reads, inv .2),
-      search (runAt-inside, steps, reads),
+      search (read-inside, steps, reads),
       search (laid-as-long, put .0, inv .4),
     )
 
@@ -82,31 +82,13 @@ same-length-2 : tie.Need-same-length-2 Inv-loop μ-loop
 same-length-2 c = search needs
 
 returns-2 : tie.Need-returns-2 Inv-loop μ-loop
-returns-2 c = search write-of-nothing
-
-enum-told-3 : tie.Need-enum-told-3 Inv-loop μ-loop
-enum-told-3 c = search needs
+returns-2 c = search write-of-fault
 
 same-length-3 : tie.Need-same-length-3 Inv-loop μ-loop
 same-length-3 c = search needs
 
 returns-3 : tie.Need-returns-3 Inv-loop μ-loop
-returns-3 c = search write-of-cut
-
-enum-told-4 : tie.Need-enum-told-4 Inv-loop μ-loop
-enum-told-4 c = search needs
-
-same-length-4 : tie.Need-same-length-4 Inv-loop μ-loop
-same-length-4 c = search needs
-
-returns-4 : tie.Need-returns-4 Inv-loop μ-loop
-returns-4 c = search write-of-odd
-
-same-length-5 : tie.Need-same-length-5 Inv-loop μ-loop
-same-length-5 c = search needs
-
-returns-5 : tie.Need-returns-5 Inv-loop μ-loop
-returns-5 c = search write-at-end
+returns-3 c = search write-at-end
 
 pub write-spec : {M : Type 1} → statement M
 write-spec =
@@ -128,11 +110,5 @@ write-spec =
     enum-told-2
     same-length-2
     returns-2
-    enum-told-3
     same-length-3
-    returns-3
-    enum-told-4
-    same-length-4
-    returns-4
-    same-length-5
-    returns-5)
+    returns-3)

@@ -29,8 +29,8 @@ add-word-at-2 c = search needs
 word-at-requires-2 : tie.Need-word-at-requires-2
 word-at-requires-2 c κs = search needs
 
-add-t11 : tie.Need-add-t11
-add-t11 c = search needs
+add-t13 : tie.Need-add-t13
+add-t13 c = search needs
 
 returns-3 : tie.Need-returns-3
 returns-3 c = search begun-of-store
@@ -47,5 +47,5 @@ store-at-spec =
     pointer-requires
     add-word-at-2
     word-at-requires-2
-    add-t11
+    add-t13
     returns-3)

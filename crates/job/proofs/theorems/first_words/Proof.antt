@@ -1,5 +1,6 @@
 -- The examples are computed.
 use mathlib.Core.Path.{refl}
+use Rattle.word.specs.Choice.{given}
 use Rattle.word.specs.Pointer.{pointer}
 use Rattle.file.specs.File.{registers, placeIn, place, isRegister}
 use Rattle.job.specs.Kind.{kind}
@@ -9,7 +10,7 @@ use Rattle.job.proofs.theorems.first_words.Statement.{statement}
 use Rattle.job.proofs.theorems.first_words.Tie as tie
 
 returns : tie.Need-returns
-unfolding examples readNumber stepAt front begun found operands kind isRegister place placeIn registers pointer
+unfolding examples readNumber given stepAt front begun found operands kind isRegister place placeIn registers pointer
 returns c = refl
 
 pub first-words-spec : {M : Type 1} → statement M

@@ -9,14 +9,14 @@ use Rattle.output.proofs.put.put_copied.Statement.{statement}
 use Rattle.output.proofs.put.put_copied.Tie as tie
 
 abbrev Inv-loop : tie.InvT-loop
-Inv-loop out₀ at job from count left₀ to₀ here₀ out left to here =
-    (laid (take left (drop here job)) to out ≡ laid (take count (drop from job)) at out₀)
-    × (to + left < 4294967000)
-    × (here + left ≤ length job)
+Inv-loop out₀ at job from count remaining₀ to₀ here₀ out remaining to here =
+    (laid (take remaining (drop here job)) to out ≡ laid (take count (drop from job)) at out₀)
+    × (to + remaining < 4294967000)
+    × (here + remaining ≤ length job)
     × (length out ≡ length out₀)
 
 abbrev μ-loop : tie.MeasureT-loop
-μ-loop out₀ at job from count left₀ to₀ here₀ out left to here = left
+μ-loop out₀ at job from count remaining₀ to₀ here₀ out remaining to here = remaining
 
 loop-holds : tie.Need-loop-holds Inv-loop μ-loop
 loop-holds c = search needs
@@ -36,8 +36,8 @@ add-to c = search needs
 add-here : tie.Need-add-here Inv-loop μ-loop
 add-here c = search needs
 
-sub-left : tie.Need-sub-left Inv-loop μ-loop
-sub-left c = search needs
+sub-remaining : tie.Need-sub-remaining Inv-loop μ-loop
+sub-remaining c = search needs
 
 loop-less : tie.Need-loop-less Inv-loop μ-loop
 loop-less c = search needs
@@ -63,7 +63,7 @@ put-copied-spec =
     write-requires
     add-to
     add-here
-    sub-left
+    sub-remaining
     loop-less
     loop-again
     same-length

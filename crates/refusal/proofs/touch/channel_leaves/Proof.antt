@@ -5,6 +5,9 @@ use borrow.Author.Needs.{needs}
 use Rattle.refusal.proofs.touch.channel_leaves.Statement.{statement}
 use Rattle.refusal.proofs.touch.channel_leaves.Tie as tie
 
+cast-if2 : tie.Need-cast-if2
+cast-if2 c = search needs
+
 evenly-inside-requires : tie.Need-evenly-inside-requires
 evenly-inside-requires c κs = search needs
 
@@ -30,6 +33,7 @@ pub channel-leaves-spec : {M : Type 1} → statement M
 channel-leaves-spec =
     tie.close
     (tie.spec
+    cast-if2
     evenly-inside-requires
     returns
     cast-rows-leave

@@ -8,10 +8,10 @@ use Rattle.refusal.proofs.touch.rows_leave.Statement.{statement}
 use Rattle.refusal.proofs.touch.rows_leave.Tie as tie
 
 abbrev Inv-loop : tie.InvT-loop
-Inv-loop n direction width modulo rows here₀ left₀ here left = (leaves n (touches direction width modulo left here) ≡ leaves n (touches direction width modulo left₀ here₀)) × (here .word < 262144)
+Inv-loop n direction width modulo rows here₀ remaining₀ here remaining = (leaves n (touches direction width modulo remaining here) ≡ leaves n (touches direction width modulo remaining₀ here₀)) × (here .word < 262144)
 
 abbrev μ-loop : tie.MeasureT-loop
-μ-loop n direction width modulo rows here₀ left₀ here left = left
+μ-loop n direction width modulo rows here₀ remaining₀ here remaining = remaining
 
 loop-holds : tie.Need-loop-holds Inv-loop μ-loop
 loop-holds c = search needs
@@ -22,11 +22,11 @@ row-leaves-requires c κs = search needs
 returns : tie.Need-returns Inv-loop μ-loop
 returns c = search touches-when-row-leaves
 
-after-row-requires : tie.Need-after-row-requires Inv-loop μ-loop
-after-row-requires c κs = search needs
+next-row-requires : tie.Need-next-row-requires Inv-loop μ-loop
+next-row-requires c κs = search needs
 
-sub-left : tie.Need-sub-left Inv-loop μ-loop
-sub-left c = search needs
+sub-remaining : tie.Need-sub-remaining Inv-loop μ-loop
+sub-remaining c = search needs
 
 loop-less : tie.Need-loop-less Inv-loop μ-loop
 loop-less c = search needs
@@ -46,8 +46,8 @@ rows-leave-spec =
     loop-holds
     row-leaves-requires
     returns
-    after-row-requires
-    sub-left
+    next-row-requires
+    sub-remaining
     loop-less
     loop-again
     returns-2)

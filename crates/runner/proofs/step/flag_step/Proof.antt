@@ -1,5 +1,5 @@
 -- `runner::step::flag_step` meets its contract: the flag is written to its place.
-use Rattle.runner.proofs.EffectLaws.{flagEffect-of-write}
+use Rattle.runner.proofs.EffectLaws.{stepEffect-of-flag}
 use borrow.Author.Needs.{needs}
 use Rattle.runner.proofs.step.flag_step.Statement.{statement}
 use Rattle.runner.proofs.step.flag_step.Tie as tie
@@ -11,7 +11,7 @@ same-length : tie.Need-same-length
 same-length c = search needs
 
 returns : tie.Need-returns
-returns c = search flagEffect-of-write
+returns c = search stepEffect-of-flag
 
 pub flag-step-spec : {M : Type 1} → statement M
 flag-step-spec = tie.close (tie.spec write-requires same-length returns)

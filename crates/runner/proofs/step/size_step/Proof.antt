@@ -13,9 +13,6 @@ enum-known-stored c = search needs
 enum-known-why : tie.Need-enum-known-why
 enum-known-why c = search needs
 
-blit-refusal-requires : tie.Need-blit-refusal-requires
-blit-refusal-requires c κs = search needs
-
 same-length : tie.Need-same-length
 same-length c = search needs
 
@@ -41,7 +38,6 @@ size-step-spec =
     blit-step-requires
     enum-known-stored
     enum-known-why
-    blit-refusal-requires
     same-length
     same-length-2
     returns

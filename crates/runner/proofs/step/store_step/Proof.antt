@@ -1,11 +1,11 @@
 -- `runner::step::store_step` meets its contract: the one test is the definition's.
-use Rattle.runner.proofs.EffectLaws.{storeEffect-when-outside, storeEffect-when-inside}
+use Rattle.runner.proofs.EffectLaws.{stepEffect-when-outside, stepEffect-when-inside}
 use borrow.Author.Needs.{needs}
 use Rattle.runner.proofs.step.store_step.Statement.{statement}
 use Rattle.runner.proofs.step.store_step.Tie as tie
 
 returns : tie.Need-returns
-returns c = search storeEffect-when-outside
+returns c = search stepEffect-when-outside
 
 write-requires : tie.Need-write-requires
 write-requires c κs = search needs
@@ -14,7 +14,7 @@ same-length : tie.Need-same-length
 same-length c = search needs
 
 returns-2 : tie.Need-returns-2
-returns-2 c = search storeEffect-when-inside
+returns-2 c = search stepEffect-when-inside
 
 pub store-step-spec : {M : Type 1} → statement M
 store-step-spec = tie.close (tie.spec returns write-requires same-length returns-2)

@@ -1,5 +1,5 @@
 -- `runner::step::take` meets its contract: each kind of step has its own function.
-use Rattle.runner.proofs.EffectLaws.{stepEffect-of-register, stepEffect-of-size, stepEffect-of-store, stepEffect-of-flag}
+use Rattle.runner.proofs.EffectLaws.{stepEffect-of-kind, stepEffect-of-size}
 use borrow.Author.Needs.{needs}
 use Rattle.runner.proofs.step.take.Statement.{statement}
 use Rattle.runner.proofs.step.take.Tie as tie
@@ -35,7 +35,7 @@ same-length-2 : tie.Need-same-length-2
 same-length-2 c = search needs
 
 returns : tie.Need-returns
-returns c = search stepEffect-of-register
+returns c = search stepEffect-of-kind
 
 same-length-3 : tie.Need-same-length-3
 same-length-3 c = search needs
@@ -53,7 +53,7 @@ same-length-6 : tie.Need-same-length-6
 same-length-6 c = search needs
 
 returns-3 : tie.Need-returns-3
-returns-3 c = search stepEffect-of-store
+returns-3 c = search stepEffect-of-kind
 
 same-length-7 : tie.Need-same-length-7
 same-length-7 c = search needs
@@ -62,7 +62,7 @@ same-length-8 : tie.Need-same-length-8
 same-length-8 c = search needs
 
 returns-4 : tie.Need-returns-4
-returns-4 c = search stepEffect-of-flag
+returns-4 c = search stepEffect-of-kind
 
 pub take-spec : {M : Type 1} → statement M
 take-spec =

@@ -3,7 +3,8 @@ use mathlib.Core.Path.{_≡_}
 use Prim.Native.Nat.{_*_, _-_, _≤_}
 use lib.ListN.{length}
 use Rattle.runner.specs.Run.{machine, runFrom}
-use Rattle.runner.proofs.RunLaws.{runAt, runAt-at-end, runAt-of-end, runAt-of-nothing, runAt-of-cut, runAt-of-odd, runAt-turn, runAt-of-refused, runAt-falls, runAt-inside, stored-le, stored-fits}
+use Rattle.runner.proofs.RunLaws.{runAt, runAt-at-end, runAt-of-end, runAt-of-fault, runAt-turn, runAt-of-refused, stored-le, stored-fits}
+use Rattle.job.proofs.StepLaws.{read-falls, read-inside}
 use borrow.Author.Needs.{needs}
 use Rattle.runner.proofs.steps.run_steps.Statement.{statement}
 use Rattle.runner.proofs.steps.run_steps.Tie as tie
@@ -38,10 +39,10 @@ add-stored : tie.Need-add-stored Inv-loop μ-loop
 add-stored c = search stored-fits
 
 loop-less : tie.Need-loop-less Inv-loop μ-loop
-loop-less c = search (needs, runAt-falls)
+loop-less c = search (needs, read-falls)
 
 loop-again : tie.Need-loop-again Inv-loop μ-loop
-loop-again c = (search runAt-turn, search stored-le, search runAt-inside, search needs, search needs)
+loop-again c = (search runAt-turn, search stored-le, search read-inside, search needs, search needs)
 
 enum-known-taken-2 : tie.Need-enum-known-taken-2 Inv-loop μ-loop
 enum-known-taken-2 c = search needs
@@ -67,8 +68,8 @@ same-length-4 c = search needs
 returns-2 : tie.Need-returns-2 Inv-loop μ-loop
 returns-2 c = search runAt-of-end
 
-enum-told-2 : tie.Need-enum-told-2 Inv-loop μ-loop
-enum-told-2 c = search needs
+enum-known-read-2 : tie.Need-enum-known-read-2 Inv-loop μ-loop
+enum-known-read-2 c = search needs
 
 same-length-5 : tie.Need-same-length-5 Inv-loop μ-loop
 same-length-5 c = search needs
@@ -77,10 +78,7 @@ same-length-6 : tie.Need-same-length-6 Inv-loop μ-loop
 same-length-6 c = search needs
 
 returns-3 : tie.Need-returns-3 Inv-loop μ-loop
-returns-3 c = search runAt-of-nothing
-
-enum-told-3 : tie.Need-enum-told-3 Inv-loop μ-loop
-enum-told-3 c = search needs
+returns-3 c = search runAt-of-fault
 
 same-length-7 : tie.Need-same-length-7 Inv-loop μ-loop
 same-length-7 c = search needs
@@ -89,28 +87,7 @@ same-length-8 : tie.Need-same-length-8 Inv-loop μ-loop
 same-length-8 c = search needs
 
 returns-4 : tie.Need-returns-4 Inv-loop μ-loop
-returns-4 c = search runAt-of-cut
-
-enum-told-4 : tie.Need-enum-told-4 Inv-loop μ-loop
-enum-told-4 c = search needs
-
-same-length-9 : tie.Need-same-length-9 Inv-loop μ-loop
-same-length-9 c = search needs
-
-same-length-10 : tie.Need-same-length-10 Inv-loop μ-loop
-same-length-10 c = search needs
-
-returns-5 : tie.Need-returns-5 Inv-loop μ-loop
-returns-5 c = search runAt-of-odd
-
-same-length-11 : tie.Need-same-length-11 Inv-loop μ-loop
-same-length-11 c = search needs
-
-same-length-12 : tie.Need-same-length-12 Inv-loop μ-loop
-same-length-12 c = search needs
-
-returns-6 : tie.Need-returns-6 Inv-loop μ-loop
-returns-6 c = search runAt-at-end
+returns-4 c = search runAt-at-end
 
 pub run-steps-spec : {M : Type 1} → statement M
 run-steps-spec =
@@ -134,18 +111,10 @@ run-steps-spec =
     same-length-3
     same-length-4
     returns-2
-    enum-told-2
+    enum-known-read-2
     same-length-5
     same-length-6
     returns-3
-    enum-told-3
     same-length-7
     same-length-8
-    returns-4
-    enum-told-4
-    same-length-9
-    same-length-10
-    returns-5
-    same-length-11
-    same-length-12
-    returns-6)
+    returns-4)

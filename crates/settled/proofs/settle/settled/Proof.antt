@@ -20,6 +20,12 @@ returns-2 c = search (settled-when-unknown, not-true, not-false)
 numbers-requires : tie.Need-numbers-requires
 numbers-requires c κs = search needs
 
+cast-con0 : tie.Need-cast-con0
+cast-con0 c = search needs
+
+mul-con0 : tie.Need-mul-con0
+mul-con0 c = search needs
+
 array-read-con0 : tie.Need-array-read-con0
 array-read-con0 c = search needs
 
@@ -53,6 +59,8 @@ settled-spec =
     controls-known-requires
     returns-2
     numbers-requires
+    cast-con0
+    mul-con0
     array-read-con0
     only-d-used-requires
     returns-3

@@ -4,6 +4,9 @@ use borrow.Author.Needs.{needs}
 use Rattle.settled.proofs.settle.sources_known.Statement.{statement}
 use Rattle.settled.proofs.settle.sources_known.Tie as tie
 
+function-requires : tie.Need-function-requires
+function-requires c κs = search needs
+
 depends-requires : tie.Need-depends-requires
 depends-requires c κs = search needs
 
@@ -29,6 +32,7 @@ pub sources-known-spec : {M : Type 1} → statement M
 sources-known-spec =
     tie.close
     (tie.spec
+    function-requires
     depends-requires
     is-known-requires
     is-known-requires-2

@@ -4,6 +4,9 @@ use borrow.Author.Needs.{needs}
 use Rattle.word.proofs.even.evenly_inside.Statement.{statement}
 use Rattle.word.proofs.even.evenly_inside.Tie as tie
 
+cast-if1 : tie.Need-cast-if1
+cast-if1 c = search needs
+
 returns : tie.Need-returns
 returns c = λ _. search (needs, RowsInside-of-columns)
 
@@ -54,6 +57,7 @@ pub evenly-inside-spec : {M : Type 1} → statement M
 evenly-inside-spec =
     tie.close
     (tie.spec
+    cast-if1
     returns
     returns-2
     returns-3

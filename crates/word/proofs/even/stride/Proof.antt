@@ -1,18 +1,15 @@
--- `word::even::stride` meets its contract: a row's moves are one move, and its modulo another.
-use mathlib.Core.Path.{refl}
-use Rattle.word.proofs.StrideLaws.{stride-of-moves}
+-- `word::even::stride` meets its contract: the next row of one that starts at the start of memory.
+use mathlib.Core.Path.{ap}
+use Rattle.word.specs.declared.types.Pointer.{Pointer}
 use borrow.Author.Needs.{needs}
 use Rattle.word.proofs.even.stride.Statement.{statement}
 use Rattle.word.proofs.even.stride.Tie as tie
 
-passed-requires : tie.Need-passed-requires
-passed-requires c κs = search needs
-
-passed-requires-2 : tie.Need-passed-requires-2
-passed-requires-2 c κs = search needs
+next-row-requires : tie.Need-next-row-requires
+next-row-requires c κs = search needs
 
 returns : tie.Need-returns
-returns c = stride-of-moves _ _ _ _ _ _ refl (search needs) (c .before .passed .ensures) (c .passed2 .ensures)
+returns c = (ap (λ (pointer : Pointer). pointer .word) (c .next-row .ensures .0), c .next-row .ensures .1)
 
 pub stride-spec : {M : Type 1} → statement M
-stride-spec = tie.close (tie.spec passed-requires passed-requires-2 returns)
+stride-spec = tie.close (tie.spec next-row-requires returns)

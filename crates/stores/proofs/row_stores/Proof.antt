@@ -1,0 +1,92 @@
+-- `stores::row_stores` meets its contract: what remains of the row from here gives what the whole gives.
+-- The facts of a step are named by their paths: the structs hold more records than a search looks into.
+use mathlib.Core.Path.{_≡_}
+use mathlib.Core.List.{[]}
+use Prim.Native.Nat.{_+_, _<_, _≤_}
+use lib.ListN.{length}
+use Rattle.word.specs.Laid.{laid}
+use Rattle.word.proofs.RepeatLaws.{repeated-turn, repeated-done}
+use Rattle.area.specs.Flow.{state}
+use Rattle.area.specs.Rows.{words}
+use Rattle.area.proofs.RowsLaws.{words-room}
+use Rattle.stores.specs.Stores as specs
+use Rattle.stores.specs.Stores.{Store, rowStores}
+use Rattle.stores.proofs.LaidLaws.{row-turn, row-done}
+use borrow.Author.Needs.{needs}
+use Rattle.stores.proofs.row_stores.Statement.{statement}
+use Rattle.stores.proofs.row_stores.Tie as tie
+
+abbrev Inv-loop : tie.InvT-loop
+Inv-loop places₀ values₀ at setup width here₀ to₀ remaining₀ places values here to remaining =
+    (laid (specs.places (rowStores setup width remaining (state [] here))) to places
+    ≡ laid (specs.places (rowStores setup width width (state [] here₀))) at places₀)
+    × (laid (specs.values (rowStores setup width remaining (state [] here))) to values
+    ≡ laid (specs.values (rowStores setup width width (state [] here₀))) at values₀)
+    × (words setup width remaining (state [] here) ≡ words setup width width (state [] here₀))
+    × (here .stored + remaining < 4294967296)
+    × (to + remaining < 4294967296)
+    × (remaining ≤ width)
+    × (length places ≡ length places₀)
+    × (length values ≡ length values₀)
+
+abbrev μ-loop : tie.MeasureT-loop
+μ-loop places₀ values₀ at setup width here₀ to₀ remaining₀ places values here to remaining = remaining
+
+loop-holds : tie.Need-loop-holds Inv-loop μ-loop
+loop-holds c = search needs
+
+sub-one-store : tie.Need-sub-one-store Inv-loop μ-loop
+sub-one-store c = search needs
+
+one-store-requires : tie.Need-one-store-requires Inv-loop μ-loop
+one-store-requires c κs = search needs
+
+add-to : tie.Need-add-to Inv-loop μ-loop
+add-to c = search needs
+
+sub-remaining : tie.Need-sub-remaining Inv-loop μ-loop
+sub-remaining c = search needs
+
+loop-less : tie.Need-loop-less Inv-loop μ-loop
+loop-less c = search needs
+
+loop-again : tie.Need-loop-again Inv-loop μ-loop
+loop-again c =
+    let word = c .before .before .before .before .one-store .ensures in
+    let more = c .before .before .before .before .before .before .before .loop-test .taken in
+    let inv = c .before .before .before .before .before .before .before .before .loop .inv in (
+      row-turn (λ (one : Store). one .to .word) _ _ _ _ _ _ _ _ _ more (word .0) (word .2) (inv .0),
+      row-turn (λ (one : Store). one .value) _ _ _ _ _ _ _ _ _ more (word .1) (word .2) (inv .1),
+      search (repeated-turn, more, word .2, inv .2),
+      search (words-room, more, word .2, inv .3),
+      search needs,
+      search needs,
+      search needs,
+      search needs,
+    )
+
+same-length : tie.Need-same-length Inv-loop μ-loop
+same-length c = search needs
+
+same-length-2 : tie.Need-same-length-2 Inv-loop μ-loop
+same-length-2 c = search needs
+
+returns : tie.Need-returns Inv-loop μ-loop
+returns c = (search row-done, search row-done, search repeated-done)
+
+pub row-stores-spec : {M : Type 1} → statement M
+row-stores-spec =
+    tie.close
+    (tie.spec
+    Inv-loop
+    μ-loop
+    loop-holds
+    sub-one-store
+    one-store-requires
+    add-to
+    sub-remaining
+    loop-less
+    loop-again
+    same-length
+    same-length-2
+    returns)

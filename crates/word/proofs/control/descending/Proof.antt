@@ -1,0 +1,10 @@
+-- `word::control::descending` meets its contract: bit 1.
+use mathlib.Core.Path.{refl}
+use Rattle.word.proofs.control.descending.Statement.{statement}
+use Rattle.word.proofs.control.descending.Tie as tie
+
+returns : tie.Need-returns
+returns c = refl
+
+pub descending-spec : {M : Type 1} → statement M
+descending-spec = tie.close (tie.spec returns)

@@ -1,0 +1,10 @@
+-- `word::control::line` meets its contract: bit 0.
+use mathlib.Core.Path.{refl}
+use Rattle.word.proofs.control.line.Statement.{statement}
+use Rattle.word.proofs.control.line.Tie as tie
+
+returns : tie.Need-returns
+returns c = refl
+
+pub line-spec : {M : Type 1} → statement M
+line-spec = tie.close (tie.spec returns)

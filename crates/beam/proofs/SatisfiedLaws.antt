@@ -7,7 +7,7 @@ use borrow.Author.Tests.{lt-leb, leb-false, ltb-true}
 use lib.Dec.{ltb, leb}
 use lib.Bits.{bitAnd, and-block, and-lt}
 use Rattle.beam.specs.Beam.{line, position}
-use Rattle.beam.specs.LineBelow.{lineBelow}
+use Rattle.beam.specs.Inner.LineBelow.{lineBelow}
 use Rattle.beam.specs.Satisfied.{mask, compared, satisfied}
 
 pub satisfied-of-parts : (first second place bits number : ℕ) → bits ≡ mask second → number ≡ compared place

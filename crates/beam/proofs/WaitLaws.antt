@@ -6,7 +6,7 @@ use native.Mathlib.Omega.{arith}
 use mathlib.Core.Bool.{Bool, true, false}
 use lib.Bits.{bitAnd}
 use Rattle.beam.specs.Beam.{frameEnd, line, position}
-use Rattle.beam.specs.LineBelow.{lineBelow}
+use Rattle.beam.specs.Inner.LineBelow.{lineBelow}
 use Rattle.beam.specs.Satisfied.{mask, satisfied}
 use Rattle.beam.specs.Wait.{firstSatisfied, waited}
 use Rattle.beam.proofs.SatisfiedLaws.{satisfied-on-line-below, satisfied-on-line-of}

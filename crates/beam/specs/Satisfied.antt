@@ -1,5 +1,5 @@
--- Paper 01, "Copper": "Satisfied means that (line modulo 256) × 256 + position is at least the first word, both ANDed with
--- the second with its bit 15 set and bit 0 clear."
+-- Paper 01, "Copper": "Satisfied means that (line modulo 256) × 256 + position is at least the first word, both ANDed
+-- with the second with its bit 15 set and bit 0 clear."
 use Prim.Native.Nat.{ℕ, _+_, _*_, _%_}
 use mathlib.Core.Bool.{Bool}
 use lib.Dec.{leb}

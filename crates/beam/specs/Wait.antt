@@ -11,7 +11,7 @@ firstSatisfied first second (suc many) place =
     if satisfied first second place then place else
     firstSatisfied first second many (suc place)
 
--- where a WAIT takes the beam: six positions on, then to the first place of the frame where it is satisfied; one that is
--- never satisfied takes it past the frame
+-- where a WAIT takes the beam: six positions on, then to the first place of the frame where it is satisfied; one that
+-- is never satisfied takes it past the frame
 unfoldable pub waited : (first second beam : ℕ) → ℕ
 waited first second beam = firstSatisfied first second (frameEnd - (beam + 6)) (beam + 6)

@@ -5,7 +5,7 @@ ghost use Prim.Native.Nat.{_-_, _<_, _≤_};
 ghost use Rattle.beam.specs.Beam.{frameEnd, line};
 ghost use Rattle.beam.specs.Satisfied.{mask, compared, satisfied};
 ghost use Rattle.beam.specs.Wait.{firstSatisfied, waited};
-ghost use Rattle.beam.specs.LineBelow.{lineBelow};
+ghost use Rattle.beam.specs.Inner.LineBelow.{lineBelow};
 
 // The first place past the frame.
 pub const END: u32 = 59474;
@@ -40,8 +40,8 @@ fn line_below(first: u16, second: u16, place: u32) -> bool
     place / 227 % 256 & bits < (first as u32) / 256 & bits
 }
 
-// The place to try after one that isn't satisfied. A line that lies below is passed whole; on any other the position's byte
-// decides.
+// The place to try after one that isn't satisfied. A line that lies below is passed whole; on any other the position's
+// byte decides.
 fn next_tried(first: u16, second: u16, place: u32) -> u32
     requires { ⌜ (place < frameEnd) × (satisfied first second place ≡ false) ⌝ }
     ensures { λ next. ⌜ (place < next) × (next ≤ frameEnd)

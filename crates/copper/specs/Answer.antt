@@ -1,8 +1,8 @@
 -- Paper 02, W8: the number and values for each case of a frame's answer.
 use Prim.Native.Nat.{ℕ}
 use mathlib.Core.List.{List}
-use Rattle.instruction.specs.Effect.{machine}
-use Rattle.instruction.specs.Taken.{refusalNumber}
+use Rattle.instruction.specs.Effect.{moment}
+use Rattle.instruction.specs.Refusal.{refusalNumber}
 use Rattle.copper.specs.declared.types.Why.{Why}
 use Rattle.copper.specs.declared.types.Answer.{Answer}
 use Rattle.copper.specs.Frame.{endOfFrame, usedUp, refusal, Frame, stopped}
@@ -22,4 +22,4 @@ answerNumber (Why.Refused reason) = refusalNumber reason
 abbrev pub left : Answer → (memory file : List ℕ) → Frame
 left answer memory file =
     stopped (whyNumber (answer .why)) (answerNumber (answer .why)) (answer .done)
-    (machine memory file (answer .beam) (answer .word))
+    (moment memory file (answer .beam) (answer .word))

@@ -1,3 +1,3 @@
--- What a reader must believe of the Copper.
+-- What a reader must believe of a frame.
 pub mod Frame
 pub mod Answer

@@ -1,4 +1,4 @@
-// The Copper: a list run for one frame over lent memory and a lent register file, by the blit's contract.
+// The Copper: a list run for one frame over lent memory and a lent register file, by the contract of one instruction.
 pub mod answer;
 mod onward;
 pub mod types;

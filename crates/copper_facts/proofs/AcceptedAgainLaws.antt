@@ -1,5 +1,5 @@
--- What an instruction and a frame leave is accepted again: a blit leaves what is accepted, a register keeps its bits, and nothing
--- else changes memory or register file.
+-- What an instruction and a frame leave is accepted again: a blit leaves what is accepted, a register keeps its bits,
+-- and nothing else changes memory or register file.
 use mathlib.Core.Path.{_≡_}
 use Prim.Native.Nat.{ℕ, zero, suc}
 use mathlib.Core.List.{List}
@@ -9,17 +9,17 @@ use Rattle.file.specs.File.{kept}
 use Rattle.file.proofs.FileLaws.{kept-again, accepted-of-set}
 use Rattle.blit.specs.AcceptedAgain.{Ready}
 use Rattle.blit.proofs.AcceptedAgain as blits
-use Rattle.instruction.specs.Effect.{Machine, machine, Step, waitEffect, skipEffect, effect}
+use Rattle.instruction.specs.Effect.{Moment, moment, Turn, afterInstruction, effect}
 use Rattle.instruction.proofs.EffectLaws.{effect-either}
 use Rattle.copper.specs.Frame.{refusal, Frame, stopped, onward, startRefusal, frameFrom}
 use Rattle.copper_facts.specs.Course.{after}
 use Rattle.copper_facts.specs.AcceptedAgain.{ReadyAt, AcceptedAgain}
 use Rattle.copper_facts.proofs.CourseLaws.{onward-wherever}
 
-effect-ready : (n : ℕ) (here : Machine) → ReadyAt n here → ReadyAt n (effect here .machine)
-unfolding waitEffect skipEffect
+effect-ready : (n : ℕ) (here : Moment) → ReadyAt n here → ReadyAt n (effect here .moment)
+unfolding afterInstruction
 effect-ready n here ready =
-    effect-either (λ (taken : Step). ReadyAt n (taken .machine)) here
+    effect-either (λ (taken : Turn). ReadyAt n (taken .moment)) here
     (λ number some. ready)
     (λ size. blits.accepted-again .step n (here .memory) (here .file) size ready)
     (λ place value. record {
@@ -31,14 +31,14 @@ effect-ready n here ready =
     (λ first second. ready)
 
 -- instruction after instruction, to wherever a frame stops
-pub after-ready : (n many : ℕ) (here : Machine) → ReadyAt n here → ReadyAt n (after many here)
+pub after-ready : (n many : ℕ) (here : Moment) → ReadyAt n here → ReadyAt n (after many here)
 unfolding after
 after-ready n zero here ready = ready
-after-ready n (suc many) here ready = after-ready n many (effect here .machine) (effect-ready n here ready)
+after-ready n (suc many) here ready = after-ready n many (effect here .moment) (effect-ready n here ready)
 
-onward-ready : (n lent : ℕ) (here : Machine) → ReadyAt n here → ReadyAt n (onward lent 0 here .machine)
+onward-ready : (n lent : ℕ) (here : Moment) → ReadyAt n here → ReadyAt n (onward lent 0 here .moment)
 onward-ready n lent here ready =
-    onward-wherever (λ (end : Frame). ReadyAt n (end .machine)) lent 0 here
+    onward-wherever (λ (end : Frame). ReadyAt n (end .moment)) lent 0 here
     (λ many few all past. after-ready n many here ready)
     (λ all within. after-ready n lent here ready)
     (λ many few all within some. after-ready n many here ready)
@@ -49,7 +49,7 @@ accepted-again =
     record {
       instruction = effect-ready;
       frame = λ n memory file beam start lent ready.
-          if-either (λ (end : Frame). ReadyAt n (end .machine)) (eqb (startRefusal memory file) 0) (onward lent 0 (machine memory file beam start))
-          (stopped refusal (startRefusal memory file) 0 (machine memory file beam 0))
-          (onward-ready n lent (machine memory file beam start) ready) ready;
+          if-either (λ (end : Frame). ReadyAt n (end .moment)) (eqb (startRefusal memory file) 0) (onward lent 0 (moment memory file beam start))
+          (stopped refusal (startRefusal memory file) 0 (moment memory file beam 0))
+          (onward-ready n lent (moment memory file beam start) ready) ready;
     }

@@ -6,7 +6,7 @@ use Rattle.word.proofs.ChoiceLaws.{if-either}
 use Rattle.beam.specs.Beam.{frameEnd}
 use Rattle.beam.specs.Satisfied.{satisfied}
 use Rattle.beam.specs.Wait.{firstSatisfied, waited}
-use Rattle.instruction.specs.Effect.{Machine, Step, waitEffect, skipEffect, effect}
+use Rattle.instruction.specs.Effect.{Moment, Turn, afterInstruction, effect}
 use Rattle.instruction.proofs.EffectLaws.{effect-either}
 use Rattle.copper_facts.specs.BeamGoesForward.{BeamGoesForward}
 
@@ -22,10 +22,10 @@ unfolding waited
 waited-ge first second beam = firstSatisfied-ge first second (frameEnd - (beam + 6)) (beam + 6)
 
 -- one that is done takes the beam four places on at least
-pub effect-forward : (here : Machine) → effect here .number ≡ 0 → here .beam + 4 ≤ effect here .machine .beam
-unfolding waitEffect skipEffect
+pub effect-forward : (here : Moment) → effect here .number ≡ 0 → here .beam + 4 ≤ effect here .moment .beam
+unfolding afterInstruction
 effect-forward here =
-    effect-either (λ (taken : Step). taken .number ≡ 0 → here .beam + 4 ≤ taken .machine .beam) here
+    effect-either (λ (taken : Turn). taken .number ≡ 0 → here .beam + 4 ≤ taken .moment .beam) here
     (λ number some none. absurd (some none)) (λ size none. omega arith) (λ place value none. omega arith)
     (λ first second none. omega (arith, waited-ge first second (here .beam))) (λ first second none. omega arith)
 

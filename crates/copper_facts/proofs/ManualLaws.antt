@@ -1,4 +1,5 @@
--- Where the sample list's WAITs end. A line that lies below the first word's is passed whole, of any other each position is tried.
+-- Where the sample list's WAITs end. A line that lies below the first word's is passed whole, of any other each
+-- position is tried.
 use mathlib.Core.Path.{_≡_, refl, ap, _∙_}
 use Prim.Native.Nat.{ℕ, _+_, _-_, _*_, _/_, _%_, _<_, _≤_}
 use native.Mathlib.Omega.{arith}
@@ -9,7 +10,7 @@ use Rattle.word.specs.Choice.{every}
 use Rattle.word.proofs.ChoiceLaws.{every-at}
 use Rattle.beam.specs.Beam.{frameEnd, line}
 use Rattle.beam.specs.Satisfied.{satisfied}
-use Rattle.beam.specs.LineBelow.{lineBelow}
+use Rattle.beam.specs.Inner.LineBelow.{lineBelow}
 use Rattle.beam.specs.Wait.{firstSatisfied, waited}
 use Rattle.beam.proofs.SatisfiedLaws.{satisfied-on-line-below}
 use Rattle.beam.proofs.WaitLaws.{firstSatisfied-passes}
@@ -52,7 +53,7 @@ module _ (first second : ℕ) where
   waited-past many beam all early few =
       let split : frameEnd - (beam + 6) ≡ (many * 227 - (beam + 6)) + (frameEnd - many * 227) = omega (arith, early, few) in
       let end : beam + 6 + (many * 227 - (beam + 6)) ≡ many * 227 = omega (arith, early) in
-      ap (λ (left : ℕ). firstSatisfied first second left (beam + 6)) split
+      ap (λ (places : ℕ). firstSatisfied first second places (beam + 6)) split
       ∙ firstSatisfied-passes first second (many * 227 - (beam + 6)) (frameEnd - many * 227) (beam + 6)
       (λ k near. satisfied-fails-below many all (beam + 6 + k) (omega (arith, near, early)))
       ∙ ap (firstSatisfied first second (frameEnd - many * 227)) end

@@ -9,7 +9,7 @@ use Rattle.instruction.specs.declared.types.Refusal.{Refusal}
 use Rattle.copper.specs.declared.types.Why.{Why}
 use Rattle.copper.specs.declared.types.Answer.{Answer}
 use Rattle.copper.specs.Frame.{Frame}
-use Rattle.instruction.specs.Taken.{refusalNumber}
+use Rattle.instruction.specs.Refusal.{refusalNumber}
 use Rattle.copper.specs.Answer.{whyNumber, answerNumber}
 use Rattle.copper_facts.specs.OneAnswer.{OneAnswer}
 
@@ -55,7 +55,7 @@ one-answer memory file beam start lent first second promise again =
     let whys : first .answer .why ≡ second .answer .why =
     sym (why-tells (first .answer .why)) ∙ ap (λ (end : Frame). told (end .why) (end .number)) same ∙ why-tells (second .answer .why) in
     λ i. record {
-      answer = record { why = whys i; done = same i .done; word = same i .machine .word; beam = same i .machine .beam };
-      memory = same i .machine .memory;
-      file = same i .machine .file;
+      answer = record { why = whys i; done = same i .done; word = same i .moment .word; beam = same i .moment .beam };
+      memory = same i .moment .memory;
+      file = same i .moment .file;
     }

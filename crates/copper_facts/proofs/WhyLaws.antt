@@ -4,20 +4,20 @@ use Prim.Native.Nat.{ℕ, _+_, _<_, _≤_}
 use native.Mathlib.Nat.{add-zero}
 use native.Mathlib.Omega.{arith}
 use mathlib.Core.Bool.{true, false}
-use Rattle.instruction.specs.Effect.{Machine, machine, effect}
+use Rattle.instruction.specs.Effect.{Moment, moment, effect}
 use Rattle.copper.specs.Frame.{endOfFrame, usedUp, refusal, Frame, stopped, over, onward}
 use Rattle.copper_facts.specs.Course.{after, goes}
 use Rattle.copper_facts.specs.WhyExactly.{ExactWhy, WhyExactly}
 use Rattle.copper_facts.proofs.CourseLaws.{onward-wherever, onward-stops-over, onward-stops-used-up, onward-stops-refused}
 use Rattle.copper_facts.proofs.CutLaws.{frameFrom-when-started}
 
-module _ (lent : ℕ) (here : Machine) where
+module _ (lent : ℕ) (here : Moment) where
   -- a count from 0 on
   from-none : (why number many : ℕ) → stopped why number (many + 0) (after many here) ≡ stopped why number many (after many here)
   from-none why number many = ap (λ (done : ℕ). stopped why number done (after many here)) (add-zero many)
 
   -- the count that an answer tells
-  same-count : (why number many other reason done : ℕ) (one two : Machine)
+  same-count : (why number many other reason done : ℕ) (one two : Moment)
       → stopped why number (many + 0) one ≡ stopped reason other done two → many ≡ done
   same-count why number many other reason done one two same = sym (add-zero many) ∙ ap (λ (end : Frame). end .done) same
 
@@ -71,10 +71,10 @@ module _ (lent : ℕ) (here : Machine) where
           refused-told done number,
           λ so. onward-stops-refused done 0 here (so .1) (so .2) lent (so .0) (λ none. so .4 (sym (so .3) ∙ none))
               ∙ from-none refusal (effect (after done here) .number) done
-              ∙ ap (λ (given : ℕ). stopped refusal given done (after done here)) (so .3),
+              ∙ ap (λ (this : ℕ). stopped refusal this done (after done here)) (so .3),
         );
       }
 
 pub why-exactly : WhyExactly
 why-exactly memory file beam start lent starts =
-    rw (frameFrom-when-started memory file beam start lent starts) (onward-exactly lent (machine memory file beam start))
+    rw (frameFrom-when-started memory file beam start lent starts) (onward-exactly lent (moment memory file beam start))

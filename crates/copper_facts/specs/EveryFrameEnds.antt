@@ -1,6 +1,6 @@
 -- Paper 02, W8: one frame ends whatever the list, also one that a blit rewrites for ever. A frame has room for 14,869
--- instructions of four positions, so that no more are done, and who lends as many never finds them used up; the rest of a
--- frame, from any place of the beam on, has room for no more.
+-- instructions of four positions, so that no more are done, and who lends as many never finds them used up; the rest of
+-- a frame, from any place of the beam on, has room for no more.
 use Prim.Native.Nat.{ℕ, _≤_}
 use mathlib.Core.Path.{_≡_}
 use mathlib.Core.List.{List}

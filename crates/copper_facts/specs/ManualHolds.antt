@@ -1,6 +1,7 @@
--- The manual's chapter 2: its comparisons, as the lines of a frame on which they hold at a position, or the positions at
--- which they hold on a line, the highest first; and the colour part of its sample list, as the beam's line and position and
--- colours 0 to 3 after each instruction. One list, computed on the left, what the manual's text comes to on the right.
+-- The manual's chapter 2: its comparisons, as the lines of a frame on which they hold at a position, or the positions
+-- at which they hold on a line, the highest first; and the colour part of its sample list, as the beam's line and
+-- position and colours 0 to 3 after each instruction. One list, computed on the left, what the manual's text comes to
+-- on the right.
 use Prim.Native.Nat.{ℕ, zero, suc, _+_, _-_, _*_}
 use mathlib.Core.Path.{_≡_}
 use mathlib.Core.Bool.{Bool}
@@ -11,7 +12,7 @@ use Rattle.file.specs.Places.{fileLength, colour0}
 use Rattle.beam.specs.Beam.{lines, positions, frameEnd, line, position}
 use Rattle.beam.specs.Satisfied.{satisfied}
 use Rattle.beam.specs.Wait.{firstSatisfied}
-use Rattle.instruction.specs.Effect.{Machine, machine}
+use Rattle.instruction.specs.Effect.{Moment, moment}
 use Rattle.copper_facts.specs.Course.{after}
 
 pub record Example : Type 0 where
@@ -81,7 +82,7 @@ sample =
     ∷ 0xFFFF ∷ 0xFFFE ∷ []
 
 -- the beam's line and position, and colours 0 to 3
-abbrev pub seen : Machine → List ℕ
+abbrev pub seen : Moment → List ℕ
 seen here =
     line (here .beam) ∷ position (here .beam)
     ∷ getD (here .file) colour0 0 ∷ getD (here .file) (colour0 + 1) 0
@@ -89,7 +90,7 @@ seen here =
 
 -- what is seen after so many instructions of the sample list, from a file of zeros
 abbrev pub sampleAfter : (many : ℕ) → List ℕ
-sampleAfter many = seen (after many (machine sample (replicate fileLength 0) 0 0))
+sampleAfter many = seen (after many (moment sample (replicate fileLength 0) 0 0))
 
 abbrev pub sampleList : List Example
 sampleList =

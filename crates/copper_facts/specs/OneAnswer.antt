@@ -1,4 +1,5 @@
--- Paper 01, "What each answer commits to": "Show that two answers meeting it are equal". Of a frame and of the rest of one.
+-- Paper 01, "What each answer commits to": "Show that two answers meeting it are equal". Of a frame and of the rest of
+-- one.
 use Prim.Native.Nat.{ℕ}
 use mathlib.Core.Path.{_≡_}
 use mathlib.Core.List.{List}

@@ -1,17 +1,17 @@
--- Paper 02, W8: "why it stopped (end of frame, else number used up, else refusal)": each exactly when it is so before the next
--- instruction and none before it in this order is, all earlier instructions being done.
+-- Paper 02, W8: "why it stopped (end of frame, else number used up, else refusal)": each exactly when it is so before
+-- the next instruction and none before it in this order is, all earlier instructions being done.
 use Prim.Native.Nat.{ℕ, _<_, _≤_}
 use mathlib.Core.Path.{_≡_}
 use mathlib.Core.Bool.{true, false}
 use mathlib.Core.List.{List}
 use mathlib.Core.Logic.{_↔_}
-use Rattle.instruction.specs.Effect.{Machine, machine, effect}
+use Rattle.instruction.specs.Effect.{Moment, moment, effect}
 use Rattle.copper.specs.Frame as frames
 use Rattle.copper.specs.Frame.{Frame, stopped, over, startRefusal, frameFrom}
 use Rattle.copper_facts.specs.Course.{after, goes}
 
--- a frame that starts at a machine, with so many instructions lent
-pub record ExactWhy (here : Machine) (lent : ℕ) (end : Frame) : Type 0 where
+-- a frame that starts at a moment, with so many instructions lent
+pub record ExactWhy (here : Moment) (lent : ℕ) (end : Frame) : Type 0 where
   -- "end of frame"
   pub endOfFrame : (done : ℕ)
       → end ≡ stopped frames.endOfFrame 0 done (after done here)
@@ -31,4 +31,4 @@ abbrev pub WhyExactly : Type 0
 WhyExactly =
     (memory file : List ℕ) (beam start lent : ℕ)
     → startRefusal memory file ≡ 0
-    → ExactWhy (machine memory file beam start) lent (frameFrom memory file beam start lent)
+    → ExactWhy (moment memory file beam start) lent (frameFrom memory file beam start lent)

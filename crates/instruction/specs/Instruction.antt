@@ -1,5 +1,5 @@
--- Paper 01, "Copper": "a first word that is even is a MOVE of the second to the offset in bits 8-1; odd, a WAIT, or a SKIP if
--- the second is odd too."
+-- Paper 01, "Copper": "a first word that is even is a MOVE of the second to the offset in bits 8-1; odd, a WAIT, or a
+-- SKIP if the second is odd too."
 use Prim.Native.Nat.{ℕ, _%_}
 use lib.Dec.{eqb}
 use lib.Bits.{bitAnd}

@@ -1,5 +1,6 @@
--- What a reader must believe of an instruction.
+-- What a reader must believe of an instruction; in Inner, what only contracts inside speak of.
 pub mod Instruction
 pub mod Permitted
+pub mod Refusal
 pub mod Effect
-pub mod Taken
+pub mod Inner

@@ -7,17 +7,18 @@ pub mod types;
 ghost use mathlib.Core.Path.{_≡_};
 ghost use Prim.Native.Nat.{_+_, _<_, _≤_};
 ghost use lib.ListN.{length};
+ghost use Rattle.word.specs.Pointer.{pointerEnd};
 ghost use Rattle.beam.specs.Beam.{frameEnd};
-ghost use Rattle.blit.specs.Blit.{blitStep};
-ghost use Rattle.instruction.specs.Effect.{machine, blitted, moveEffect, skipped, instructionEffect, effect};
-ghost use Rattle.instruction.specs.Taken.{left};
+ghost use Rattle.instruction.specs.Effect.{moment, skipped, instructionEffect, effect};
+ghost use Rattle.instruction.specs.Inner.Blitted.{blitted};
+ghost use Rattle.instruction.specs.Inner.Taken.{left};
 use crate::types::Instruction;
 use crate::types::Refusal;
 use crate::types::Taken;
 
 // A MOVE that is done: four positions on, with the next instruction behind it.
-fn moved(beam: u32, word: u32) -> Taken
-    requires { ⌜ (beam < frameEnd) × (word < 262144) ⌝ }
+fn after_move(beam: u32, word: u32) -> Taken
+    requires { ⌜ (beam < frameEnd) × (word < pointerEnd) ⌝ }
     ensures { λ taken. ⌜ taken ≡ Taken.Done (beam + 4) (word + 2) ⌝ }
 {
     let place = beam + 4;
@@ -27,15 +28,14 @@ fn moved(beam: u32, word: u32) -> Taken
 
 // Runs the blit of a size.
 fn blitted(ram: &mut [u16], file: &mut [u16], size: u16, beam: u32, word: u32) -> Taken
-    requires { ⌜ (beam < frameEnd) × (word < 262144) ⌝ }
+    requires { ⌜ (beam < frameEnd) × (word < pointerEnd) ⌝ }
     ensures { λ taken. ⌜
         left taken beam word (now (ram .exit)) (now (file .exit))
-        ≡ blitted (blitStep (now (ram .entry)) (now (file .entry)) size)
-        (machine (now (ram .entry)) (now (file .entry)) beam word) ⌝ }
+        ≡ blitted size (moment (now (ram .entry)) (now (file .entry)) beam word) ⌝ }
 {
     let answer = blit::blit_step(ram, file, size);
     match answer {
-        blit::types::Answer::Done(_) => moved(beam, word),
+        blit::types::Answer::Done(_) => after_move(beam, word),
         blit::types::Answer::Refused(why) => Taken::Refused(Refusal::Blit(why)),
     }
 }
@@ -49,10 +49,11 @@ fn move_effect(
     beam: u32,
     word: u32,
 ) -> Taken
-    requires { ⌜ (beam < frameEnd) × (word < 262144) ⌝ }
+    requires { ⌜ (beam < frameEnd) × (word + 1 < length (now ram)) × (length (now ram) ≤ pointerEnd) ⌝ }
     ensures { λ taken. ⌜
         left taken beam word (now (ram .exit)) (now (file .exit))
-        ≡ moveEffect offset value (machine (now (ram .entry)) (now (file .entry)) beam word) ⌝ }
+        ≡ instructionEffect (Instruction.Move offset value)
+        (moment (now (ram .entry)) (now (file .entry)) beam word) ⌝ }
 {
     let place = file::place(offset);
     let may = crate::permitted::permitted(file, offset);
@@ -63,16 +64,16 @@ fn move_effect(
     if !known {
         return Taken::Refused(Refusal::NotModelled);
     }
-    if offset == 0x058 {
+    if offset == crate::permitted::SIZE_OFFSET {
         return blitted(ram, file, value, beam, word);
     }
     word::memory::write(file, place, file::kept(place, value));
-    moved(beam, word)
+    after_move(beam, word)
 }
 
 // The word after a SKIP: the instruction after a satisfied one is passed over.
 fn skipped(first: u16, second: u16, beam: u32, word: u32) -> u32
-    requires { ⌜ word < 262144 ⌝ }
+    requires { ⌜ word < pointerEnd ⌝ }
     ensures { λ next. ⌜ next ≡ skipped first second beam word ⌝ }
 {
     if beam::satisfied(first, second, beam) {
@@ -89,10 +90,10 @@ fn instruction_effect(
     beam: u32,
     word: u32,
 ) -> Taken
-    requires { ⌜ (beam < frameEnd) × (word < 262144) ⌝ }
+    requires { ⌜ (beam < frameEnd) × (word + 1 < length (now ram)) × (length (now ram) ≤ pointerEnd) ⌝ }
     ensures { λ taken. ⌜
         left taken beam word (now (ram .exit)) (now (file .exit))
-        ≡ instructionEffect instruction (machine (now (ram .entry)) (now (file .entry)) beam word) ⌝ }
+        ≡ instructionEffect instruction (moment (now (ram .entry)) (now (file .entry)) beam word) ⌝ }
 {
     match instruction {
         Instruction::Move(offset, value) => move_effect(ram, file, offset, value, beam, word),
@@ -111,10 +112,10 @@ fn instruction_effect(
 
 // Reads the instruction at a word, as memory stands, and does it.
 pub fn effect(ram: &mut [u16], file: &mut [u16], beam: u32, word: u32) -> Taken
-    requires { ⌜ (beam < frameEnd) × (length (now ram) ≤ 262144) ⌝ }
+    requires { ⌜ (beam < frameEnd) × (length (now ram) ≤ pointerEnd) ⌝ }
     ensures { λ taken. ⌜
         left taken beam word (now (ram .exit)) (now (file .exit))
-        ≡ effect (machine (now (ram .entry)) (now (file .entry)) beam word) ⌝ }
+        ≡ effect (moment (now (ram .entry)) (now (file .entry)) beam word) ⌝ }
 {
     if ram.len() <= word as usize + 1 {
         return Taken::Refused(Refusal::Outside);

@@ -1,6 +1,6 @@
 // The papers' number of a refusal.
 ghost use mathlib.Core.Path.{_≡_};
-ghost use Rattle.instruction.specs.Taken.{refusalNumber};
+ghost use Rattle.instruction.specs.Refusal.{refusalNumber};
 use crate::types::Refusal;
 
 pub fn refusal_number(why: Refusal) -> u32

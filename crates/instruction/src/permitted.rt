@@ -3,6 +3,9 @@ ghost use mathlib.Core.Path.{_≡_};
 ghost use Rattle.file.specs.File.{place};
 ghost use Rattle.instruction.specs.Permitted.{danger, permitted, modelled};
 
+// The size register's offset.
+pub const SIZE_OFFSET: u16 = 0x058;
+
 // The danger bit: bit 1 of COPCON.
 fn danger(file: &[u16]) -> bool
     ensures { λ set. ⌜ set ≡ danger (now (file .entry)) ⌝ }
@@ -21,5 +24,5 @@ pub fn modelled(offset: u16, found: u32) -> bool
     requires { ⌜ found ≡ place offset ⌝ }
     ensures { λ known. ⌜ known ≡ modelled offset ⌝ }
 {
-    (offset == 0x058) | (found < file::FLAG)
+    (offset == SIZE_OFFSET) | (found < file::FLAG)
 }

@@ -6,12 +6,14 @@ use native.Mathlib.Omega.{arith}
 use mathlib.Core.Bool.{Bool, true, false, _&&_}
 use borrow.Author.Tests.{eqb-true}
 use lib.Dec.{eqb}
+use Rattle.word.specs.Choice.{given}
 use Rattle.word.proofs.ChoiceLaws.{and-left, and-right}
 use Rattle.file.specs.File.{registers, placeIn, place, isRegister, keptBits, kept}
 use Rattle.beam.specs.Satisfied.{satisfied}
 use Rattle.instruction.specs.Instruction.{instruction}
 use Rattle.instruction.specs.Permitted.{danger, permitted, modelled}
-use Rattle.instruction.specs.Effect.{moveEffect, waitEffect, instructionEffect, effect}
+use Rattle.instruction.specs.Refusal.{outside, forbidden, notModelled, ownRules, instructionRefusal}
+use Rattle.instruction.specs.Effect.{afterInstruction, decided, instructionEffect, effect}
 use Rattle.copper_facts.specs.Course.{after}
 use Rattle.copper_facts.specs.ManualHolds.{Example, numbersBefore, down, comparisons, never, sampleList}
 use Rattle.copper_facts.proofs.ManualLaws.{waited-for-150, waited-for-never, firstSatisfied-never}
@@ -25,7 +27,7 @@ abbrev allSay : List Example → List (List ℕ)
 allSay examples = map (λ (example : Example). example .says) examples
 
 sample-holds : allGive sampleList ≡ allSay sampleList
-unfolding after effect instructionEffect waitEffect moveEffect instruction permitted danger modelled isRegister place placeIn registers keptBits kept
+unfolding after effect instructionEffect decided instructionRefusal given outside forbidden notModelled ownRules afterInstruction instruction permitted danger modelled isRegister place placeIn registers keptBits kept
 sample-holds = rw (waited-for-150, waited-for-never)
 
 -- the numbers of two lists compared one by one

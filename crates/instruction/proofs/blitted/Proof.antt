@@ -10,8 +10,8 @@ blit-step-requires c κs = search needs
 enum-told : tie.Need-enum-told
 enum-told c = search needs
 
-moved-requires : tie.Need-moved-requires
-moved-requires c κs = search needs
+after-move-requires : tie.Need-after-move-requires
+after-move-requires c κs = search needs
 
 enum-known-answer : tie.Need-enum-known-answer
 enum-known-answer c = search needs
@@ -40,7 +40,7 @@ blitted-spec =
     (tie.spec
     blit-step-requires
     enum-told
-    moved-requires
+    after-move-requires
     enum-known-answer
     same-length
     same-length-2

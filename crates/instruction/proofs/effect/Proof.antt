@@ -1,4 +1,5 @@
 -- `instruction::effect` meets its contract: 23 comes first, then the instruction that stands there.
+use native.Mathlib.Omega.{arith}
 use Rattle.instruction.proofs.EffectLaws.{effect-when-outside, effect-when-inside}
 use borrow.Author.Needs.{needs}
 use Rattle.instruction.proofs.effect.Statement.{statement}
@@ -8,7 +9,7 @@ add-if1 : tie.Need-add-if1
 add-if1 c = search needs
 
 returns : tie.Need-returns
-returns c = search effect-when-outside
+returns c = effect-when-outside _ _ _ _ (omega arith)
 
 read-requires : tie.Need-read-requires
 read-requires c κs = search needs

@@ -1,5 +1,5 @@
 -- `instruction::move_effect` meets its contract: 21, then 22, then the blit or the register.
-use Rattle.instruction.proofs.EffectLaws.{moveEffect-when-forbidden, moveEffect-when-not-modelled, moveEffect-of-size, moveEffect-of-register}
+use Rattle.instruction.proofs.EffectLaws.{instructionEffect-when-forbidden, instructionEffect-when-not-modelled, instructionEffect-of-size, instructionEffect-of-register}
 use borrow.Author.Needs.{needs}
 use Rattle.instruction.proofs.move_effect.Statement.{statement}
 use Rattle.instruction.proofs.move_effect.Tie as tie
@@ -17,13 +17,13 @@ same-length : tie.Need-same-length
 same-length c = search needs
 
 returns : tie.Need-returns
-returns c = search moveEffect-when-forbidden
+returns c = search instructionEffect-when-forbidden
 
 same-length-2 : tie.Need-same-length-2
 same-length-2 c = search needs
 
 returns-2 : tie.Need-returns-2
-returns-2 c = search moveEffect-when-not-modelled
+returns-2 c = search instructionEffect-when-not-modelled
 
 blitted-requires : tie.Need-blitted-requires
 blitted-requires c κs = search needs
@@ -35,7 +35,7 @@ same-length-4 : tie.Need-same-length-4
 same-length-4 c = search needs
 
 returns-3 : tie.Need-returns-3
-returns-3 c = search moveEffect-of-size
+returns-3 c = search instructionEffect-of-size
 
 kept-requires : tie.Need-kept-requires
 kept-requires c κs = search needs
@@ -43,14 +43,14 @@ kept-requires c κs = search needs
 write-requires : tie.Need-write-requires
 write-requires c κs = search needs
 
-moved-requires : tie.Need-moved-requires
-moved-requires c κs = search needs
+after-move-requires : tie.Need-after-move-requires
+after-move-requires c κs = search needs
 
 same-length-5 : tie.Need-same-length-5
 same-length-5 c = search needs
 
 returns-4 : tie.Need-returns-4
-returns-4 c = search moveEffect-of-register
+returns-4 c = search instructionEffect-of-register
 
 pub move-effect-spec : {M : Type 1} → statement M
 move-effect-spec =
@@ -69,6 +69,6 @@ move-effect-spec =
     returns-3
     kept-requires
     write-requires
-    moved-requires
+    after-move-requires
     same-length-5
     returns-4)

@@ -2,7 +2,7 @@
 use mathlib.Core.Path.{_≡_}
 use Prim.Native.Nat.{_-_, _≤_}
 use lib.ListN.{length}
-use Rattle.instruction.specs.Effect.{machine}
+use Rattle.instruction.specs.Effect.{moment}
 use Rattle.copper.specs.Frame.{onward}
 use Rattle.copper.proofs.FrameLaws.{onward-at-start, onward-at-end, onward-at-last, onward-turn, onward-of-refused}
 use borrow.Author.Needs.{needs}
@@ -11,7 +11,7 @@ use Rattle.copper.proofs.onward.onward.Tie as tie
 
 abbrev Inv-loop : tie.InvT-loop
 Inv-loop ram₀ file₀ beam start lent place₀ word₀ done₀ ram file place word done =
-    (onward (lent - done) done (machine ram file place word) ≡ onward lent 0 (machine ram₀ file₀ beam start))
+    (onward (lent - done) done (moment ram file place word) ≡ onward lent 0 (moment ram₀ file₀ beam start))
     × (done ≤ lent)
     × (length ram ≡ length ram₀)
     × (length file ≡ length file₀)

@@ -1,5 +1,5 @@
--- What the search for a WAIT's place goes by; no definition rests on it. A line lies, masked, below the first word's line:
--- nowhere on it is the comparison satisfied.
+-- A line lies, masked, below the first word's line: nowhere on it is the comparison satisfied. The search for a WAIT's
+-- place goes by it.
 use Prim.Native.Nat.{ℕ, _/_, _%_}
 use mathlib.Core.Bool.{Bool}
 use lib.Dec.{ltb}

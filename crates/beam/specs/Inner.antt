@@ -1,0 +1,2 @@
+-- What only contracts inside speak of; no promise to people rests on it.
+pub mod LineBelow

@@ -8,8 +8,6 @@ use borrow.Author.Tests.{le-leb, lt-leb, leb-true, eqb-false, ne-eqb, not-false}
 use lib.Dec.{eqb, leb}
 use lib.ListN.{length}
 use Rattle.word.specs.Choice.{given}
-use Rattle.word.specs.Pointer.{pointerEnd}
-use Rattle.word.proofs.ChoiceLaws.{or-right}
 use Rattle.file.specs.File.{accepted}
 use Rattle.beam.specs.Beam.{frameEnd}
 use Rattle.refusal.specs.declared.types.Refusal as blits
@@ -123,12 +121,6 @@ module _ (memory file : List ℕ) (beam start lent : ℕ) (bad : Bool) (of-bad :
         → left answer next end ≡ frameFrom memory file beam start lent
     unfolding frameFrom startRefusal given
     frameFrom-onward answer next end accepts gives = rw (← of-bad, taken, ← of-fine, accepts) gives
-
--- memory that isn't refused is no longer than a pointer reaches
-pub memorySize-when-taken : (n : ℕ) (bad : Bool) → bad ≡ memorySize n → bad ≡ false → n ≤ pointerEnd
-unfolding memorySize
-memorySize-when-taken n bad is good =
-    leb-true n pointerEnd (not-false (leb n pointerEnd) (or-right (eqb n 0) (not (leb n pointerEnd)) (sym is ∙ good)))
 
 -- the loop's start: nothing is done
 pub onward-at-start : (lent : ℕ) (here : Moment) → onward (lent - 0) 0 here ≡ onward lent 0 here

@@ -3,11 +3,10 @@ use mathlib.Core.Path.{_≡_, refl, sym, ap, _∙_}
 use Prim.Native.Nat.{ℕ}
 use lib.Dec.{eqb}
 use Rattle.word.specs.Choice.{if_then_else_}
-use Rattle.refusal.specs.declared.types.Refusal.the-variants.{MemorySize, RegisterFile, Line, BothFills, FillUpward, ALeaves, BLeaves, CLeaves, DLeaves}
-use Rattle.refusal.proofs.OneAnswerLaws.{refusalOf}
+use Rattle.refusal.proofs.OneAnswerLaws.{refusalOf, isOwn}
+use Rattle.refusal.proofs.OneAnswerLaws as blits
 use Rattle.instruction.specs.declared.types.Refusal.{Refusal}
 use Rattle.copper.specs.declared.types.Why.{Why}
-use Rattle.copper.specs.declared.types.Answer.{Answer}
 use Rattle.copper.specs.Frame.{Frame}
 use Rattle.instruction.specs.Refusal.{refusalNumber}
 use Rattle.copper.specs.Answer.{whyNumber, answerNumber}
@@ -16,22 +15,14 @@ use Rattle.copper_facts.specs.OneAnswer.{OneAnswer}
 -- the refusal with a number
 numbered : ℕ → Refusal
 numbered number =
+    if isOwn number then Refusal.Blit (refusalOf number) else
     if eqb number 21 then Refusal.Forbidden else
     if eqb number 22 then Refusal.NotModelled else
-    if eqb number 23 then Refusal.Outside else
-    Refusal.Blit (refusalOf number)
+    Refusal.Outside
 
 refusalNumber-tells : (why : Refusal) → numbered (refusalNumber why) ≡ why
 unfolding numbered refusalOf
-refusalNumber-tells (Refusal.Blit MemorySize) = refl
-refusalNumber-tells (Refusal.Blit RegisterFile) = refl
-refusalNumber-tells (Refusal.Blit Line) = refl
-refusalNumber-tells (Refusal.Blit BothFills) = refl
-refusalNumber-tells (Refusal.Blit FillUpward) = refl
-refusalNumber-tells (Refusal.Blit ALeaves) = refl
-refusalNumber-tells (Refusal.Blit BLeaves) = refl
-refusalNumber-tells (Refusal.Blit CLeaves) = refl
-refusalNumber-tells (Refusal.Blit DLeaves) = refl
+refusalNumber-tells (Refusal.Blit why) = rw (blits.refusalNumber-is-own why) (ap Refusal.Blit (blits.refusalNumber-tells why))
 refusalNumber-tells Refusal.Forbidden = refl
 refusalNumber-tells Refusal.NotModelled = refl
 refusalNumber-tells Refusal.Outside = refl

@@ -7,6 +7,7 @@ use mathlib.Core.Path.{_≡_}
 use mathlib.Core.Bool.{Bool}
 use mathlib.Core.List.{List, [], _∷_, _++_, map}
 use lib.ListN.{getD, replicate}
+use Rattle.word.specs.Example.{Example, _is_}
 use Rattle.word.specs.Choice.{if_then_else_}
 use Rattle.file.specs.Places.{fileLength, colour0}
 use Rattle.beam.specs.Beam.{lines, positions, frameEnd, line, position}
@@ -14,14 +15,6 @@ use Rattle.beam.specs.Satisfied.{satisfied}
 use Rattle.beam.specs.Wait.{firstSatisfied}
 use Rattle.instruction.specs.Effect.{Moment, moment}
 use Rattle.copper_facts.specs.Course.{after}
-
-pub record Example : Type 0 where
-  pub gives : List ℕ
-  pub says : List ℕ
-
-infix 70 _is_
-abbrev pub _is_ : (gives says : List ℕ) → Example
-gives is says = record { gives = gives; says = says }
 
 -- the numbers before one at which a test holds, the highest first
 unfoldable pub numbersBefore : (test : ℕ → Bool) → (end : ℕ) → List ℕ

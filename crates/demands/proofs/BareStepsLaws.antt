@@ -9,7 +9,7 @@ use lib.ListN.{length, drop, drop-of-length-le}
 use Rattle.job.specs.declared.types.Step.{Step}
 use Rattle.job.specs.declared.types.Read.{Read}
 use Rattle.job.specs.Step.{operands, found, front}
-use Rattle.job.specs.Steps.{Placed, placed, following, stepsFrom, steps}
+use Rattle.job.specs.Steps.{Placed, placed, behind, stepsFrom, steps}
 use Rattle.job.proofs.StepLaws.{front-le}
 use Rattle.job.proofs.StepsLaws.{stepsFrom-of-step}
 use Rattle.job.proofs.WellCutLaws.{isStep, faultless, wellCut, faultless-anywhere, steps-of-append}
@@ -19,21 +19,21 @@ use Rattle.demands.proofs.GoodStepLaws.{front-elsewhere}
 -- whole steps, read at one place, stand one after the other at any other
 stepsFrom-is-placedFrom : (skip at to : ℕ) (words : List ℕ) → skip ≤ length words → faultless (stepsFrom skip at words) ≡ true
     → stepsFrom skip to words ≡ placedFrom (to + skip) (bareSteps (stepsFrom skip at words))
-unfolding stepsFrom faultless isStep following bareSteps bareStep placedFrom found
+unfolding stepsFrom faultless isStep behind bareSteps bareStep placedFrom found
 stepsFrom-is-placedFrom zero at to [] inside whole = refl
 stepsFrom-is-placedFrom (suc skip) at to [] inside whole = absurd (omega arith)
 stepsFrom-is-placedFrom zero at to (first ∷ rest) inside whole =
     by-read (front at (first ∷ rest)) refl whole (λ skip. stepsFrom-is-placedFrom skip (at + 1) (to + 1) rest)
   where
     by-read : (read : Read) → front at (first ∷ rest) ≡ read
-        → (isStep read && faultless (stepsFrom (following read) (at + 1) rest)) ≡ true
+        → (isStep read && faultless (behind read (λ skip. stepsFrom skip (at + 1) rest))) ≡ true
         → ((skip : ℕ) → skip ≤ length rest → faultless (stepsFrom skip (at + 1) rest) ≡ true
         → stepsFrom skip (to + 1) rest ≡ placedFrom (to + 1 + skip) (bareSteps (stepsFrom skip (at + 1) rest)))
-        → stepsFrom 0 to (first ∷ rest) ≡ placedFrom (to + 0) (bareStep read ++ bareSteps (stepsFrom (following read) (at + 1) rest))
+        → stepsFrom 0 to (first ∷ rest) ≡ placedFrom (to + 0) (bareStep read ++ bareSteps (behind read (λ skip. stepsFrom skip (at + 1) rest)))
     by-read (Read.Step step next) reads whole later =
         let fits = front-le at (first ∷ rest) step next reads in
         let same : to + 1 + operands step ≡ to + (1 + operands step) = omega arith in
-        ap (λ (read : Read). placed to read ∷ stepsFrom (following read) (to + 1) rest) (front-elsewhere at to first rest step next reads)
+        ap (λ (read : Read). placed to read ∷ behind read (λ skip. stepsFrom skip (to + 1) rest)) (front-elsewhere at to first rest step next reads)
         ∙ ap (λ (others : List Placed). placed to (found to step) ∷ others)
         (later (operands step) (omega arith) whole
         ∙ ap (λ (place : ℕ). placedFrom place (bareSteps (stepsFrom (operands step) (at + 1) rest))) same)

@@ -16,23 +16,27 @@ use Rattle.file.proofs.FileLaws.{accepted-has-length}
 use Rattle.area.specs.Setup.{setup}
 use Rattle.refusal.specs.Refusal.{stepRefusal}
 use Rattle.word.specs.Memory.{memorySize}
-use Rattle.blit.specs.Blit.{blitStep}
+use Rattle.blit.specs.Blit.{Outcome, blitStep}
 use Rattle.job.specs.declared.types.Step.{Step}
 use Rattle.job.specs.declared.types.Read.{Read}
 use Rattle.job.specs.Step.{operands, found, front}
 use Rattle.job.specs.Steps.{Placed, placed, stepsFrom, steps}
 use Rattle.runner.specs.Effect.{stepEffect, effect}
-use Rattle.runner.specs.Run.{Machine, machine, after, runSteps, runFrom, jobLength, startRefusal, run}
+use Rattle.job.specs.Length.{jobLength}
+use Rattle.job.proofs.LengthLaws.{jobLength-of-short}
+use Rattle.runner.proofs.EffectLaws.{stepEffect-of-blit}
+use Rattle.runner.specs.Run.{Machine, machine, after, runSteps, runFrom, startRefusal, run}
 use Rattle.knowledge.specs.declared.types.Known.{Known}
 use Rattle.knowledge.specs.Knowledge.{nothing, numbers}
 use Rattle.knowledge.proofs.KnowledgeLaws.{nothing-length}
-use Rattle.settled.specs.Words.{settledEnd, settledWords}
-use Rattle.settled.proofs.OnlyDLaws.{OnlyD}
+use Rattle.stores.specs.Stores.{stores, allZero, finalD}
+use Rattle.stores.proofs.OnlyDLaws.{OnlyD}
+use Rattle.settled.specs.Words.{settledWords}
 use Rattle.settled.proofs.WordsLaws.{afterSettled, settledWords-run, blitStep-number, blitStep-file}
-use Rattle.settled.proofs.AgreeLaws.{Agree, uses-alike, stepRefusal-alike, settledEnd-alike, settledWords-alike}
+use Rattle.settled.proofs.AgreeLaws.{Agree, uses-alike, stepRefusal-alike, finalD-alike, settledWords-alike}
 use Rattle.learning.specs.Learn.{written, forgotten, movedD}
 use Rattle.settled.specs.Settled.{settled}
-use Rattle.folder.specs.Fold.{folded, learned, rawWords, piece, learnedAfter, foldSteps, foldFrom, fold}
+use Rattle.folder.specs.Fold.{becomes, learned, rawWords, piece, learnedAfter, foldSteps, foldFrom, fold}
 use Rattle.demands.proofs.AgreesLaws.{Agrees, agrees-of-set, agrees-of-flag}
 use Rattle.demands.proofs.SettledKnownLaws.{settled-is-lawful, settled-uses-d, settled-agrees}
 use Rattle.demands.proofs.FoldedJobLaws.{Done, folding-when-done, foldedJob-is-fold}
@@ -59,22 +63,24 @@ module _ (n : ℕ) (known : List Known) (before : Machine) (stands : Stands n kn
       ∙ settled-is-lawful n known size holds
 
   settled-runs : (at place next : ℕ) (more : List ℕ) (rest : List Placed)
-      → SameButPlace (runFrom (afterSettled at size) more (after before (blitStep (before .memory) (before .file) size)))
-      (runSteps rest (after before (blitStep (before .memory) (before .file) size)))
+      → SameButPlace (runFrom (afterSettled at size) more (after before (stepEffect (Step.Size size) (before .memory) (before .file))))
+      (runSteps rest (after before (stepEffect (Step.Size size) (before .memory) (before .file))))
       → SameButPlace (runFrom at (settledWords (numbers known) size ++ more) before) (runSteps (placed place (Read.Step (Step.Size size) next) ∷ rest) before)
-  unfolding runSteps effect stepEffect
+  unfolding runSteps effect
   settled-runs at place next more rest later =
       rw (
         settledWords-alike (numbers known) (before .file) agree size only,
-        settledWords-run at size more (before .memory) (before .file) (before .stored) only-here lawful,
+        settledWords-run (before .memory) (before .file) size only-here lawful at more (before .stored),
+        stepEffect-of-blit size (before .memory) (before .file),
         blitStep-number (before .memory) (before .file) size lawful,
-      ) later
+      )
+      (rw (stepEffect-of-blit size (before .memory) (before .file)) at later)
 
   stands-after-settled : (next : ℕ)
-      → Stands n (movedD (settledEnd (numbers known) size .flow .pointers .d) known) (after before (blitStep (before .memory) (before .file) size))
-  unfolding movedD stepEffect
+      → Stands n (movedD (finalD (numbers known) size) known) (after before (stepEffect (Step.Size size) (before .memory) (before .file)))
+  unfolding movedD
   stands-after-settled next =
-      let to : Pointer = settledEnd (numbers known) size .flow .pointers .d in
+      let to : Pointer = finalD (numbers known) size in
       let high-known : List Known = set known pointerD (Known.Is (high to)) in
       let long : length high-known ≡ blitterLength = length-set known pointerD (Known.Is (high to)) ∙ stands .long in
       let long-too : length (set high-known (pointerD + 1) (Known.Is (low to))) ≡ blitterLength = length-set high-known (pointerD + 1) (Known.Is (low to)) ∙ long in
@@ -83,14 +89,15 @@ module _ (n : ℕ) (known : List Known) (before : Machine) (stands : Stands n kn
       agrees-of-set known (before .file) pointerD (high to) (stands .long) (stands .file) (stands .agrees) in
       let two : Agrees (set high-known (pointerD + 1) (Known.Is (low to))) (set (set (before .file) pointerD (high to)) (pointerD + 1) (low to)) =
       agrees-of-set high-known (set (before .file) pointerD (high to)) (pointerD + 1) (low to) long full one in
-      let left : blitStep (before .memory) (before .file) size .file
-      ≡ set (set (set (before .file) pointerD (high to)) (pointerD + 1) (low to)) flag (if settledEnd (before .file) size .flow .allzero then 1 else 0) =
+      let leaves : blitStep (before .memory) (before .file) size .file
+      ≡ set (set (set (before .file) pointerD (high to)) (pointerD + 1) (low to)) flag (if allZero (stores (before .file) size) then 1 else 0) =
       blitStep-file (before .memory) (before .file) size only-here lawful
-      ∙ ap (λ (at : Pointer). set (set (set (before .file) pointerD (high at)) (pointerD + 1) (low at)) flag (if settledEnd (before .file) size .flow .allzero then 1 else 0))
-      (sym (settledEnd-alike (numbers known) (before .file) agree size only)) in
+      ∙ ap (λ (at : Pointer). set (set (set (before .file) pointerD (high at)) (pointerD + 1) (low at)) flag (if allZero (stores (before .file) size) then 1 else 0))
+      (sym (finalD-alike (numbers known) (before .file) agree size)) in
       after-lengths n known before stands (Step.Size size) next (movedD to known) long-too
-      (subst (Agrees (movedD to known)) (sym left)
-      (agrees-of-flag (movedD to known) (set (set (before .file) pointerD (high to)) (pointerD + 1) (low to)) _ long-too two))
+      (subst (λ (end : Outcome). Agrees (movedD to known) (end .file)) (sym (stepEffect-of-blit size (before .memory) (before .file)))
+      (subst (Agrees (movedD to known)) (sym leaves)
+      (agrees-of-flag (movedD to known) (set (set (before .file) pointerD (high to)) (pointerD + 1) (low to)) _ long-too two)))
 
 -- one step of the job, and the rest
 simulate-step : (n : ℕ) (job : List ℕ) (known : List Known) (at place next : ℕ) (step : Step) (rest : List Placed) (before : Machine)
@@ -98,9 +105,9 @@ simulate-step : (n : ℕ) (job : List ℕ) (known : List Known) (at place next :
     → length (rawWords job place step) ≡ 1 + operands step
     → ((to : ℕ) → front to (rawWords job place step) ≡ found to step)
     → ((to : ℕ) (learned : List Known) (on : Machine) → Stands n learned on → SameButPlace (runFrom to (foldSteps n learned job rest) on) (runSteps rest on))
-    → SameButPlace (runFrom at (folded n known step (rawWords job place step) ++ foldSteps n (learned n known step) job rest) before)
+    → SameButPlace (runFrom at (becomes n known step (rawWords job place step) ++ foldSteps n (learned n known step) job rest) before)
     (runSteps (placed place (Read.Step step next) ∷ rest) before)
-unfolding folded learned
+unfolding becomes learned
 simulate-step n job known at place next (Step.Register to value) rest before stands long decodes later =
     copied-runs at place next (rawWords job place (Step.Register to value)) _ (Step.Register to value) rest before long decodes
     (later _ (written to value known) _ (stands-after-register n known before stands to value next))
@@ -115,7 +122,7 @@ simulate-step n job known at place next (Step.Size size) rest before stands long
     by-test : (test : Bool) → settled n known size ≡ test
         → SameButPlace
         (runFrom at ((if test then settledWords (numbers known) size else rawWords job place (Step.Size size))
-        ++ foldSteps n (if test then movedD (settledEnd (numbers known) size .flow .pointers .d) known else forgotten known) job rest) before)
+        ++ foldSteps n (if test then movedD (finalD (numbers known) size) known else forgotten known) job rest) before)
         (runSteps (placed place (Read.Step (Step.Size size) next) ∷ rest) before)
     by-test true holds =
         settled-runs n known before stands size holds at place next _ rest (later _ _ _ (stands-after-settled n known before stands size holds next))
@@ -151,10 +158,6 @@ start-of-none : (memory file job : List ℕ) → memorySize (length memory) ≡ 
 unfolding run startRefusal given
 start-of-none memory file job room fine short = rw (room, fine, short)
 
-short-job : (words : List ℕ) → length words ≤ 4096 → jobLength words ≡ false
-unfolding jobLength
-short-job words fits = ap not (le-leb (length words) 4096 fits)
-
 pub demand-three : DemandThree
 unfolding fold foldFrom
 demand-three n job out memory file accepts sized fine =
@@ -165,7 +168,7 @@ demand-three n job out memory file accepts sized fine =
     record { memory = sized; file = accepted-has-length file fine; long = nothing-length; agrees = nothing-agrees file } in
     let alike : SameButPlace (runFrom 0 (fold n job) (machine memory file 0)) (runFrom 0 job (machine memory file 0)) =
     simulate n job (steps job) good 0 nothing (machine memory file 0) stands in
-    let this : run memory file (fold n job) ≡ runFrom 0 (fold n job) (machine memory file 0) = start-of-none memory file (fold n job) room fine (short-job (fold n job) (is .fits)) in
+    let this : run memory file (fold n job) ≡ runFrom 0 (fold n job) (machine memory file 0) = start-of-none memory file (fold n job) room fine (jobLength-of-short (fold n job) (is .fits)) in
     let that : run memory file job ≡ runFrom 0 job (machine memory file 0) = start-of-none memory file job room fine (is .short) in
     let machines = alike .machines in
     let numbers = alike .numbers in

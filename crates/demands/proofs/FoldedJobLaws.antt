@@ -12,7 +12,7 @@ use Rattle.word.specs.Choice.{if_then_else_, given}
 use Rattle.word.specs.Memory.{memorySize}
 use Rattle.job.specs.Step.{readNumber}
 use Rattle.job.specs.Steps.{Placed, steps}
-use Rattle.runner.specs.Run.{jobLength}
+use Rattle.job.specs.Length.{jobMost, jobLength}
 use Rattle.folder.specs.Fold.{fold}
 use Rattle.folder.specs.Folding.{Folding, refused, done, startRefusal, tooLong, byStep, folding}
 use Rattle.demands.specs.DemandThree.{foldedJob}
@@ -24,16 +24,16 @@ Clean (one ∷ rest) = (readNumber (one .read) ≡ 0) × Clean rest
 
 -- what is given for a job's steps, where it is a folding
 ByStep : (words out : List ℕ) → List Placed → Folding → Type 0
-ByStep words out list end = Clean list × (length words ≤ 4096) × (end ≡ done words out)
+ByStep words out list end = Clean list × (length words ≤ jobMost) × (end ≡ done words out)
 
 byStep-when-done : (words out : List ℕ) (list : List Placed) → byStep words out list .number ≡ 0 → ByStep words out list (byStep words out list)
 unfolding ByStep byStep tooLong Clean
-byStep-when-done words out [] whole = by-test (leb (length words) (length out)) (leb (length words) 4096) refl whole
+byStep-when-done words out [] whole = by-test (leb (length words) (length out)) (leb (length words) jobMost) refl whole
   where
-    by-test : (room short : Bool) → leb (length words) 4096 ≡ short
+    by-test : (room short : Bool) → leb (length words) jobMost ≡ short
         → (if not room || not short then refused 11 0 out else done words out) .number ≡ 0
         → ByStep words out [] (if not room || not short then refused 11 0 out else done words out)
-    by-test true true is whole = (tt, leb-true (length words) 4096 is, refl)
+    by-test true true is whole = (tt, leb-true (length words) jobMost is, refl)
     by-test false true is wrong = absurd (omega arith)
     by-test true false is wrong = absurd (omega arith)
     by-test false false is wrong = absurd (omega arith)
@@ -52,7 +52,7 @@ pub record Done (n : ℕ) (job out : List ℕ) : Type 0 where
   pub room : memorySize n ≡ false
   pub short : jobLength job ≡ false
   pub clean : Clean (steps job)
-  pub fits : length (fold n job) ≤ 4096
+  pub fits : length (fold n job) ≤ jobMost
   pub whole : folding n job out ≡ done (fold n job) out
 
 pub folding-when-done : (n : ℕ) (job out : List ℕ) → folding n job out .number ≡ 0 → Done n job out
@@ -71,4 +71,4 @@ folding-when-done n job out is = by-tests (memorySize n) (jobLength job) refl re
 
 pub foldedJob-is-fold : (n : ℕ) (job out : List ℕ) → Done n job out → foldedJob n job out ≡ fold n job
 foldedJob-is-fold n job out is =
-    ap (λ (end : Folding). take (end .length) (end .out)) (is .whole) ∙ take-append-seam (fold n job) (drop (length (fold n job)) out)
+    ap (λ (end : Folding). take (end .long) (end .out)) (is .whole) ∙ take-append-seam (fold n job) (drop (length (fold n job)) out)

@@ -12,10 +12,12 @@ use Rattle.word.specs.Choice.{if_then_else_}
 use Rattle.word.specs.Pointer.{pointer}
 use Rattle.job.specs.declared.types.Kind.{Kind}
 use Rattle.job.specs.declared.types.Step.{Step}
+use Rattle.job.specs.declared.types.Refusal.{Refusal}
 use Rattle.job.specs.declared.types.Read.{Read}
 use Rattle.job.specs.Kind.{kind}
 use Rattle.job.specs.Step.{operands, found, isOdd, begun, front, readNumber}
-use Rattle.job.specs.Steps.{Placed, placed, following, stepsFrom}
+use Rattle.job.specs.Steps.{Placed, placed, stepsFrom}
+use Rattle.job.proofs.StepsLaws.{behind-either, readNumber-of-refused}
 use Rattle.job.proofs.StepLaws.{front-le}
 use Rattle.runner.proofs.FrontLaws.{front-of-take, front-is-some}
 use Rattle.folder.specs.Fold.{rawWords}
@@ -68,7 +70,6 @@ drop-next job at first rest here = sym (drop-drop 1 at job) ∙ ap (drop 1) here
 -- what stands at the front of a run of words, when no number is told for it
 good-front : (job : List ℕ) (at first : ℕ) (rest : List ℕ) (read : Read) → drop at job ≡ first ∷ rest → front at (first ∷ rest) ≡ read
     → readNumber read ≡ 0 → GoodStep job (placed at read)
-unfolding readNumber
 good-front job at first rest (Read.Step step next) here reads none =
     let raw : rawWords job at step ≡ first ∷ take (operands step) rest =
     ap (take (1 + operands step)) here ∙ ap (λ (n : ℕ). take n (first ∷ rest)) (one-add (operands step)) in
@@ -83,7 +84,7 @@ good-front job at first rest (Read.Step step next) here reads none =
           ∙ front-elsewhere at to first (take (operands step) rest) step next (front-of-take at (operands step) first rest step next reads (le-refl (operands step)));
     }
 good-front job at first rest Read.End here reads none = absurd (front-is-some at first rest reads)
-good-front job at first rest (Read.Refused why) here reads none = absurd (omega arith)
+good-front job at first rest (Read.Refused why) here reads none = absurd (omega (arith, none, readNumber-of-refused why))
 
 pub steps-are-good : (job : List ℕ) (skip at : ℕ) (words : List ℕ) → drop at job ≡ words → Clean (stepsFrom skip at words)
     → Good job (stepsFrom skip at words)
@@ -91,6 +92,7 @@ unfolding stepsFrom Clean Good
 steps-are-good job skip at [] here clean = tt
 steps-are-good job zero at (first ∷ rest) here clean = (
   good-front job at first rest (front at (first ∷ rest)) here refl (clean .0),
-  steps-are-good job (following (front at (first ∷ rest))) (at + 1) rest (drop-next job at first rest here) (clean .1),
+  behind-either (λ list. Clean list → Good job list) (front at (first ∷ rest)) (λ skip. stepsFrom skip (at + 1) rest)
+      (λ skip. steps-are-good job skip (at + 1) rest (drop-next job at first rest here)) (λ none. tt) (clean .1),
 )
 steps-are-good job (suc skip) at (word ∷ rest) here clean = steps-are-good job skip (at + 1) rest (drop-next job at word rest here) clean

@@ -1,21 +1,18 @@
 -- The steps of a folded job: a settled blit's words are whole steps, and any other step is its own.
 use mathlib.Core.Path.{_≡_, refl, sym, ap, subst, _∙_}
 use Prim.Native.Nat.{ℕ, zero, suc, _+_, _<_}
+use native.Mathlib.Omega.{arith}
 use mathlib.Core.Bool.{Bool, true, false}
 use mathlib.Core.List.{List, [], _∷_, _++_}
 use lib.ListN.{length}
 use Rattle.word.specs.declared.types.Pointer.{Pointer}
 use Rattle.word.specs.Choice.{if_then_else_}
-use Rattle.word.specs.Repeat.{repeated}
-use Rattle.word.specs.Pointer.{pointerEnd, moved}
+use Rattle.word.specs.Pointer.{pointerEnd}
 use Rattle.word.specs.Size.{height, width}
 use Rattle.file.specs.Places.{pointerD}
-use Rattle.area.specs.declared.types.Setup.{Setup}
 use Rattle.area.specs.Setup.{setup}
-use Rattle.area.specs.Flow.{State, state, pointers, start}
-use Rattle.area.specs.Rows.{finishedWord, oneWord, rowStart, oneRow}
-use Rattle.area.proofs.ChannelLaws.{oneWord-moves-d, oneRow-moves-d}
-use Rattle.word.proofs.PointerLaws.{moved-lt, passed-lt}
+use Rattle.area.specs.Flow.{state, pointerAt, pointers, start}
+use Rattle.refusal.proofs.TouchLaws.{touches-stay}
 use Rattle.refusal.proofs.RefusalLaws.{pointerAt-lt}
 use Rattle.job.specs.declared.types.Step.{Step}
 use Rattle.job.specs.declared.types.Read.{Read}
@@ -24,12 +21,14 @@ use Rattle.job.specs.Steps.{Placed, stepsFrom, steps}
 use Rattle.job.proofs.WellCutLaws.{isStep, faultless, wellCut}
 use Rattle.knowledge.specs.declared.types.Known.{Known}
 use Rattle.knowledge.specs.Knowledge.{nothing, numbers}
-use Rattle.settled.specs.Words.{storeWords, pointerWords, flagWords, rowStores, blitStores, settledEnd, settledWords}
-use Rattle.settled.proofs.OnlyDLaws.{OnlyD}
+use Rattle.stores.specs.Stores.{Store, stores, allZero, finalD}
+use Rattle.stores.proofs.OnlyDLaws.{OnlyD}
+use Rattle.stores.proofs.OnMemoryLaws.{Inside, blitStores-inside}
+use Rattle.settled.specs.Words.{storeWords, storesWords, pointerWords, flagWords, settledWords}
 use Rattle.settled.proofs.StoreLaws.{steps-of-store, steps-of-end}
 use Rattle.settled.specs.Settled.{settled}
-use Rattle.folder.specs.Fold.{folded, learned, rawWords, piece, learnedAfter, foldSteps, foldFrom, fold}
-use Rattle.demands.specs.SettledAreReplaced.{bareStep, bareSteps, placedFrom, replaced, allReplaced, SettledAreReplaced}
+use Rattle.folder.specs.Fold.{becomes, learned, rawWords, piece, learnedAfter, foldSteps, foldFrom, fold}
+use Rattle.demands.specs.SettledAreReplaced.{bareStep, bareSteps, replaced, allReplaced, SettledAreReplaced}
 use Rattle.demands.proofs.SettledKnownLaws.{settled-uses-d}
 use Rattle.demands.proofs.FoldedJobLaws.{Done, folding-when-done, foldedJob-is-fold}
 use Rattle.demands.proofs.GoodStepLaws.{Good, steps-are-good}
@@ -54,44 +53,34 @@ whole-end : (to : Pointer) (allzero : Bool) → Whole (pointerWords to ++ flagWo
 unfolding wellCut faultless isStep found stepsFrom
 whole-end to allzero = whole-of (pointerWords to ++ flagWords allzero) (ap faultless (steps-of-end 0 to allzero []))
 
-module _ (setup : Setup) (only : OnlyD (setup .uses)) (width : ℕ) where
-  whole-row : (left : ℕ) (now : State) → now .flow .pointers .d .word < pointerEnd → Whole (rowStores setup width left now)
-  unfolding rowStores
-  whole-row zero now small = whole-of [] (says-nothing .whole)
-  whole-row (suc left) now small =
-      let next : State = oneWord setup width left now in
-      whole-append (storeWords (now .flow .pointers .d) (finishedWord setup width left now .word)) (rowStores setup width left next)
-      (whole-store (now .flow .pointers .d) (finishedWord setup width left now .word) small)
-      (whole-row left next (rw (oneWord-moves-d setup width left now (only .d)) (moved-lt (setup .direction) (now .flow .pointers .d))))
+whole-stores : (n : ℕ) (list : List Store) → Inside n list → Whole (storesWords list)
+unfolding storesWords Inside
+whole-stores n [] inside = whole-of [] (says-nothing .whole)
+whole-stores n (one ∷ rest) inside =
+    whole-append (storeWords (one .to) (one .value)) (storesWords rest) (whole-store (one .to) (one .value) (inside .0)) (whole-stores n rest (inside .2))
 
-  whole-rows : (left : ℕ) (now : State) → now .flow .pointers .d .word < pointerEnd → Whole (blitStores setup width left now)
-  unfolding blitStores rowStart
-  whole-rows zero now small = whole-of [] (says-nothing .whole)
-  whole-rows (suc left) now small =
-      let next : State = oneRow setup width now in
-      whole-append (rowStores setup width width (rowStart setup now)) (blitStores setup width left next)
-      (whole-row width (rowStart setup now) small)
-      (whole-rows left next
-      (rw (oneRow-moves-d setup width now (only .d))
-      (passed-lt (setup .direction) (setup .modulos .d) (repeated (λ _. moved (setup .direction)) width (now .flow .pointers .d)))))
+-- no store lies past what a pointer reaches
+stores-reached : (file : List ℕ) (size : ℕ) → OnlyD (setup file .uses) → Inside pointerEnd (stores file size)
+unfolding stores start pointers
+stores-reached file size only =
+    blitStores-inside (setup file) only (width size) pointerEnd (height size) (state [] (start file)) (pointerAt-lt file pointerD)
+    (touches-stay pointerEnd (setup file .direction) (width size) (setup file .modulos .d) (height size) (pointerAt file pointerD) (omega arith) (pointerAt-lt file pointerD))
 
 whole-settled : (file : List ℕ) (size : ℕ) → OnlyD (setup file .uses) → Whole (settledWords file size)
-unfolding settledWords start pointers
+unfolding settledWords
 whole-settled file size only =
-    let to : Pointer = settledEnd file size .flow .pointers .d in
-    let allzero : Bool = settledEnd file size .flow .allzero in
-    whole-append (blitStores (setup file) (width size) (height size) (state [] (start file))) (pointerWords to ++ flagWords allzero)
-    (whole-rows (setup file) only (width size) (height size) (state [] (start file)) (pointerAt-lt file pointerD))
-    (whole-end to allzero)
+    whole-append (storesWords (stores file size)) (pointerWords (finalD file size) ++ flagWords (allZero (stores file size)))
+    (whole-stores pointerEnd (stores file size) (stores-reached file size only))
+    (whole-end (finalD file size) (allZero (stores file size)))
 
 -- what one step becomes
-folded-says : (n : ℕ) (known : List Known) (step : Step) (raw : List ℕ) → length raw ≡ 1 + operands step → front 0 raw ≡ found 0 step
-    → Says (folded n known step raw) (replaced n known step)
-unfolding folded replaced
-folded-says n known (Step.Register to value) raw long reads = says-step raw (Step.Register to value) long reads
-folded-says n known (Step.Store to value) raw long reads = says-step raw (Step.Store to value) long reads
-folded-says n known (Step.Flag value) raw long reads = says-step raw (Step.Flag value) long reads
-folded-says n known (Step.Size size) raw long reads = by-test (settled n known size) refl
+becomes-says : (n : ℕ) (known : List Known) (step : Step) (raw : List ℕ) → length raw ≡ 1 + operands step → front 0 raw ≡ found 0 step
+    → Says (becomes n known step raw) (replaced n known step)
+unfolding becomes replaced
+becomes-says n known (Step.Register to value) raw long reads = says-step raw (Step.Register to value) long reads
+becomes-says n known (Step.Store to value) raw long reads = says-step raw (Step.Store to value) long reads
+becomes-says n known (Step.Flag value) raw long reads = says-step raw (Step.Flag value) long reads
+becomes-says n known (Step.Size size) raw long reads = by-test (settled n known size) refl
   where
     by-test : (test : Bool) → settled n known size ≡ test
         → Says (if test then settledWords (numbers known) size else raw)
@@ -108,9 +97,9 @@ foldSteps-say n job (one ∷ rest) good known =
     subst (λ (read : Read). Says (piece n known job (one .place) read ++ foldSteps n (learnedAfter n known read) job rest)
     (allReplaced n known (bareStep read ++ bareSteps rest)))
     (sym (good .0 .reads))
-    (says-append (folded n known (good .0 .step) (rawWords job (one .place) (good .0 .step))) (foldSteps n (learned n known (good .0 .step)) job rest)
+    (says-append (becomes n known (good .0 .step) (rawWords job (one .place) (good .0 .step))) (foldSteps n (learned n known (good .0 .step)) job rest)
     (replaced n known (good .0 .step)) (allReplaced n (learned n known (good .0 .step)) (bareSteps rest))
-    (folded-says n known (good .0 .step) (rawWords job (one .place) (good .0 .step)) (good .0 .long) (good .0 .decodes 0))
+    (becomes-says n known (good .0 .step) (rawWords job (one .place) (good .0 .step)) (good .0 .long) (good .0 .decodes 0))
     (foldSteps-say n job rest (good .1) (learned n known (good .0 .step))))
 
 pub settled-are-replaced : SettledAreReplaced

@@ -21,7 +21,7 @@ use Rattle.knowledge.specs.Known.{number}
 use Rattle.knowledge.specs.Knowledge.{numbers}
 use Rattle.knowledge.proofs.KnownLaws.{known-is-number}
 use Rattle.knowledge.proofs.KnowledgeLaws.{numbers-at}
-use Rattle.settled.proofs.OnlyDLaws.{OnlyD}
+use Rattle.stores.proofs.OnlyDLaws.{OnlyD}
 use Rattle.settled.proofs.AgreeLaws.{Agree}
 use Rattle.learning.specs.Learn.{knownAt}
 use Rattle.settled.specs.Settled.{has, controlsKnown, onlyDUsed, sourcesKnown, settled}

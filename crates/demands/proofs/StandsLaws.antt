@@ -3,14 +3,15 @@ use mathlib.Core.Path.{_≡_, refl, sym, subst, _∙_}
 use Prim.Native.Nat.{ℕ}
 use mathlib.Core.List.{List}
 use lib.ListN.{length, length-set}
+use Rattle.word.specs.Choice.{given}
 use Rattle.file.specs.File.{kept}
 use Rattle.file.specs.Places.{blitterLength, fileLength}
 use Rattle.blit.specs.Blit.{Outcome, refused}
 use Rattle.job.specs.declared.types.Step.{Step}
 use Rattle.job.specs.declared.types.Read.{Read}
-use Rattle.runner.specs.Effect.{registerEffect, storeEffect, flagEffect, stepEffect, effect}
+use Rattle.runner.specs.Effect.{storeOutside, ownRules, taken, answered, stepEffect, effect}
 use Rattle.runner.specs.Run.{Machine, after}
-use Rattle.runner.proofs.EffectLaws.{storeEffect-either}
+use Rattle.runner.proofs.EffectLaws.{stepEffect-either, stepEffect-of-blit}
 use Rattle.runner.proofs.LengthLaws.{effect-keeps-memory-length, effect-keeps-file-length}
 use Rattle.knowledge.specs.declared.types.Known.{Known}
 use Rattle.learning.specs.Learn.{written, forgotten}
@@ -25,9 +26,10 @@ pub record Stands (n : ℕ) (known : List Known) (before : Machine) : Type 0 whe
   pub long : length known ≡ blitterLength
   pub agrees : Agrees known (before .file)
 
-storeEffect-keeps-file : (to value : ℕ) (memory file : List ℕ) → storeEffect to value memory file .file ≡ file
-unfolding refused
-storeEffect-keeps-file to value memory file = storeEffect-either (λ (end : Outcome). end .file ≡ file) to value memory file refl refl
+store-keeps-file : (to value : ℕ) (memory file : List ℕ) → stepEffect (Step.Store to value) memory file .file ≡ file
+unfolding taken refused
+store-keeps-file to value memory file =
+    stepEffect-either (λ (end : Outcome). end .file ≡ file) (Step.Store to value) memory file refl (λ number. refl)
 
 -- after a step that is copied, knowledge agrees
 module _ (n : ℕ) (known : List Known) (before : Machine) (stands : Stands n known before) where
@@ -44,24 +46,23 @@ module _ (n : ℕ) (known : List Known) (before : Machine) (stands : Stands n kn
       }
 
   pub stands-after-register : (place value next : ℕ) → Stands n (written place value known) (after before (stepEffect (Step.Register place value) (before .memory) (before .file)))
-  unfolding written stepEffect registerEffect
+  unfolding written stepEffect answered taken storeOutside ownRules given
   stands-after-register place value next =
       after-lengths (Step.Register place value) next (written place value known) (length-set known place _ ∙ stands .long)
       (agrees-of-set known (before .file) place (kept place value) (stands .long) (stands .file) (stands .agrees))
 
   pub stands-after-store : (to value next : ℕ) → Stands n known (after before (stepEffect (Step.Store to value) (before .memory) (before .file)))
-  unfolding stepEffect
   stands-after-store to value next =
       after-lengths (Step.Store to value) next known (stands .long)
-      (subst (Agrees known) (sym (storeEffect-keeps-file to value (before .memory) (before .file))) (stands .agrees))
+      (subst (Agrees known) (sym (store-keeps-file to value (before .memory) (before .file))) (stands .agrees))
 
   pub stands-after-flag : (value next : ℕ) → Stands n known (after before (stepEffect (Step.Flag value) (before .memory) (before .file)))
-  unfolding stepEffect flagEffect
+  unfolding stepEffect answered taken storeOutside ownRules given
   stands-after-flag value next =
       after-lengths (Step.Flag value) next known (stands .long) (agrees-of-flag known (before .file) value (stands .long) (stands .agrees))
 
   pub stands-after-kept : (size next : ℕ) → Stands n (forgotten known) (after before (stepEffect (Step.Size size) (before .memory) (before .file)))
-  unfolding stepEffect
   stands-after-kept size next =
       after-lengths (Step.Size size) next (forgotten known) (forgotten-keeps-length known ∙ stands .long)
-      (agrees-of-kept known (before .memory) (before .file) size (stands .long) (stands .agrees))
+      (subst (λ (end : Outcome). Agrees (forgotten known) (end .file)) (sym (stepEffect-of-blit size (before .memory) (before .file)))
+      (agrees-of-kept known (before .memory) (before .file) size (stands .long) (stands .agrees)))

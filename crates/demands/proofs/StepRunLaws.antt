@@ -13,7 +13,7 @@ use Rattle.blit.specs.Blit.{Outcome}
 use Rattle.job.specs.declared.types.Step.{Step}
 use Rattle.job.specs.declared.types.Read.{Read}
 use Rattle.job.specs.Step.{operands, found, front}
-use Rattle.job.specs.Steps.{Placed, placed, following, stepsFrom}
+use Rattle.job.specs.Steps.{Placed, placed, behind, stepsFrom}
 use Rattle.job.proofs.StepLaws.{front-of-append}
 use Rattle.job.proofs.StepsLaws.{stepsFrom-of-skip}
 use Rattle.runner.specs.Effect.{stepEffect, effect}
@@ -32,12 +32,12 @@ empty-begins-nothing at step reads = let n : _≡_ {A = ℕ} 0 1 = cc in omega a
 -- a step with its operands, and the run after it
 found-runs : (at first : ℕ) (rest : List ℕ) (step : Step) (before : Machine)
     → (if eqb (effect (found at step) (before .memory) (before .file) .number) 0
-    then runSteps (stepsFrom (following (found at step)) (at + 1) rest) (after before (effect (found at step) (before .memory) (before .file)))
+    then runSteps (behind (found at step) (λ skip. stepsFrom skip (at + 1) rest)) (after before (effect (found at step) (before .memory) (before .file)))
     else ended (effect (found at step) (before .memory) (before .file) .number) at before)
     ≡ (if eqb (stepEffect step (before .memory) (before .file) .number) 0
     then runFrom (at + 1 + operands step) (drop (1 + operands step) (first ∷ rest)) (after before (stepEffect step (before .memory) (before .file)))
     else ended (stepEffect step (before .memory) (before .file) .number) at before)
-unfolding effect found following
+unfolding effect found behind
 found-runs at first rest step before =
     ap (λ (list : List Placed). if eqb (stepEffect step (before .memory) (before .file) .number) 0
     then runSteps list (after before (stepEffect step (before .memory) (before .file)))
@@ -57,7 +57,7 @@ run-of-step at (first ∷ rest) step before reads = by-read (front at (first ∷
   where
     by-read : (read : Read) → read ≡ found at step
         → (if eqb (effect read (before .memory) (before .file) .number) 0
-        then runSteps (stepsFrom (following read) (at + 1) rest) (after before (effect read (before .memory) (before .file)))
+        then runSteps (behind read (λ skip. stepsFrom skip (at + 1) rest)) (after before (effect read (before .memory) (before .file)))
         else ended (effect read (before .memory) (before .file) .number) at before)
         ≡ (if eqb (stepEffect step (before .memory) (before .file) .number) 0
         then runFrom (at + 1 + operands step) (drop (1 + operands step) (first ∷ rest)) (after before (stepEffect step (before .memory) (before .file)))

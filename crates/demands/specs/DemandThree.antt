@@ -14,9 +14,9 @@ use Rattle.folder.specs.Folding.{folding}
 abbrev pub FolderAccepts : (n : ℕ) → (job out : List ℕ) → Type 0
 FolderAccepts n job out = folding n job out .number ≡ 0
 
--- the folded job, as the caller holds it: the first `length` words of the output run
+-- the folded job, as the caller holds it: the first `long` words of the output run
 abbrev pub foldedJob : (n : ℕ) → (job out : List ℕ) → List ℕ
-foldedJob n job out = take (folding n job out .length) (folding n job out .out)
+foldedJob n job out = take (folding n job out .long) (folding n job out .out)
 
 -- the runner accepts a register file at the start; its last word is the zero flag
 abbrev pub RunnerAccepts : (file : List ℕ) → Type 0

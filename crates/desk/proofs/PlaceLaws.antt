@@ -12,9 +12,11 @@ use lib.ListN.{length}
 use Rattle.word.specs.Choice.{if_then_else_, _when_, given}
 use Rattle.word.specs.Memory.{memorySize}
 use Rattle.job.specs.Step.{front, readNumber}
-use Rattle.job.specs.Steps.{Placed, following, stepsFrom, steps}
-use Rattle.runner.specs.Run.{Machine, machine, effectOn, after, End, ended, runSteps, jobLength, startRefusal, run}
-use Rattle.runner.proofs.RunLaws.{jobLength-when-short}
+use Rattle.job.specs.Length.{jobLength}
+use Rattle.job.specs.Steps.{Placed, behind, stepsFrom, steps}
+use Rattle.job.proofs.LengthLaws.{jobLength-when-short}
+use Rattle.job.proofs.StepsLaws.{behind-either}
+use Rattle.runner.specs.Run.{Machine, machine, effectOn, after, End, ended, runSteps, startRefusal, run}
 use Rattle.runner.proofs.StartLaws.{startRefusal-is-none, run-when-started, run-when-unstarted}
 use Rattle.widen.specs.declared.types.Answer as widenAnswer
 use Rattle.widen.specs.Widen as widenings
@@ -42,13 +44,15 @@ unfolding runSteps stepsFrom
 runSteps-place-le skip at [] before = omega arith
 runSteps-place-le zero at (first ∷ rest) before =
     by-test
-    (runSteps-place-le (following (front at (first ∷ rest))) (at + 1) rest (after before (effectOn before (front at (first ∷ rest)))))
+    (behind-either (λ list. runSteps list on .place ≤ at + 1 + length rest) (front at (first ∷ rest)) (λ skip. stepsFrom skip (at + 1) rest)
+    (λ skip. runSteps-place-le skip (at + 1) rest on) (omega arith))
     (eqb (effectOn before (front at (first ∷ rest)) .number) 0)
   where
+    on : Machine
+    on = after before (effectOn before (front at (first ∷ rest)))
+
     later : End
-    later =
-        runSteps (stepsFrom (following (front at (first ∷ rest))) (at + 1) rest)
-        (after before (effectOn before (front at (first ∷ rest))))
+    later = runSteps (behind (front at (first ∷ rest)) (λ skip. stepsFrom skip (at + 1) rest)) on
 
     by-test : later .place ≤ at + 1 + length rest → (fine : Bool)
         → (if fine then later else ended (effectOn before (front at (first ∷ rest)) .number) at before) .place
@@ -81,11 +85,13 @@ byStep-place-le words out skip at [] = by-test (tooLong words out)
     by-test true = omega arith
     by-test false = omega arith
 byStep-place-le words out zero at (first ∷ rest) =
-    by-test (byStep-place-le words out (following (front at (first ∷ rest))) (at + 1) rest)
+    by-test
+    (behind-either (λ list. byStep words out list .place ≤ at + 1 + length rest) (front at (first ∷ rest)) (λ skip. stepsFrom skip (at + 1) rest)
+    (λ skip. byStep-place-le words out skip (at + 1) rest) (omega (arith, byStep-place-le words out 0 0 [])))
     (eqb (readNumber (front at (first ∷ rest))) 0)
   where
     later : Folding
-    later = byStep words out (stepsFrom (following (front at (first ∷ rest))) (at + 1) rest)
+    later = byStep words out (behind (front at (first ∷ rest)) (λ skip. stepsFrom skip (at + 1) rest))
 
     by-test : later .place ≤ at + 1 + length rest → (fine : Bool)
         → (if fine then later else refused (readNumber (front at (first ∷ rest))) at out) .place ≤ at + suc (length rest)
@@ -94,18 +100,18 @@ byStep-place-le words out zero at (first ∷ rest) =
 byStep-place-le words out (suc skip) at (word ∷ rest) = omega (arith, byStep-place-le words out skip (at + 1) rest)
 
 -- a folding's length is 0 or that of a folded job
-byStep-length-le : (words out : List ℕ) (list : List Placed) → byStep words out list .length ≤ 4096
+byStep-long-le : (words out : List ℕ) (list : List Placed) → byStep words out list .long ≤ 4096
 unfolding byStep
-byStep-length-le words out [] = by-test (tooLong words out) refl
+byStep-long-le words out [] = by-test (tooLong words out) refl
   where
-    by-test : (long : Bool) → tooLong words out ≡ long → (if long then refused 11 0 out else done words out) .length ≤ 4096
+    by-test : (long : Bool) → tooLong words out ≡ long → (if long then refused 11 0 out else done words out) .long ≤ 4096
     by-test true is = omega arith
     by-test false is = tooLong-when-few words out is
-byStep-length-le words out (one ∷ rest) =
-    by-test (byStep-length-le words out rest) (eqb (readNumber (one .read)) 0)
+byStep-long-le words out (one ∷ rest) =
+    by-test (byStep-long-le words out rest) (eqb (readNumber (one .read)) 0)
   where
-    by-test : byStep words out rest .length ≤ 4096 → (fine : Bool)
-        → (if fine then byStep words out rest else refused (readNumber (one .read)) (one .place) out) .length ≤ 4096
+    by-test : byStep words out rest .long ≤ 4096 → (fine : Bool)
+        → (if fine then byStep words out rest else refused (readNumber (one .read)) (one .place) out) .long ≤ 4096
     by-test inside true = inside
     by-test inside false = omega arith
 
@@ -119,16 +125,16 @@ module _ (n : ℕ) (job out : List ℕ) where
       by-rules false true is none = absurd (omega arith)
       by-rules false false is none = jobLength-when-short job false is refl
 
-  folding-le : (folding n job out .place ≤ 4096) × (folding n job out .length ≤ 4096)
+  folding-le : (folding n job out .place ≤ 4096) × (folding n job out .long ≤ 4096)
   unfolding folding
   folding-le = by-start (decLt 0 (foldings.startRefusal n job))
     where
-      by-start : Dec (0 < foldings.startRefusal n job) → (folding n job out .place ≤ 4096) × (folding n job out .length ≤ 4096)
+      by-start : Dec (0 < foldings.startRefusal n job) → (folding n job out .place ≤ 4096) × (folding n job out .long ≤ 4096)
       by-start (yes some) = rw (ne-eqb (foldings.startRefusal n job) 0 (λ none. omega (arith, none, some))) (omega arith, omega arith)
       by-start (no none) =
           let begins : foldings.startRefusal n job ≡ 0 = omega (arith, none) in
           rw (eq-eqb (foldings.startRefusal n job) 0 begins)
-          (omega (arith, few-of-start begins, byStep-place-le (fold n job) out 0 0 job), byStep-length-le (fold n job) out (steps job))
+          (omega (arith, few-of-start begins, byStep-place-le (fold n job) out 0 0 job), byStep-long-le (fold n job) out (steps job))
 
 -- what the entries tell, by the answers of the calls
 module _ (memory file job next end : List ℕ) (answer : runAnswer.Answer) (gives : runs.left answer next end ≡ run memory file job) where
@@ -146,14 +152,14 @@ module _ (n : ℕ) (job out next : List ℕ) (answer : foldAnswer.Answer) (gives
   folding-place-lt place same =
       omega (arith, same, ap (λ (end : Folding). end .place) gives, folding-le n job out .0)
 
-  pub folding-length-lt : (length : ℕ) → length ≡ folds.answerLength answer → length < 4294967296
-  folding-length-lt length same =
-      omega (arith, same, ap (λ (end : Folding). end .length) gives, folding-le n job out .1)
+  pub folding-long-lt : (long : ℕ) → long ≡ folds.answerLong answer → long < 4294967296
+  folding-long-lt long same =
+      omega (arith, same, ap (λ (end : Folding). end .long) gives, folding-le n job out .1)
 
-  pub folding-of-answer : (number place length : ℕ)
-      → number ≡ folds.answerNumber answer → place ≡ folds.answerPlace answer → length ≡ folds.answerLength answer
-      → record { number = number; place = place; length = length; out = next } ≡ folding n job out
-  folding-of-answer number place length is-number is-place is-length = rw (is-number, is-place, is-length) gives
+  pub folding-of-answer : (number place long : ℕ)
+      → number ≡ folds.answerNumber answer → place ≡ folds.answerPlace answer → long ≡ folds.answerLong answer
+      → record { number = number; place = place; long = long; out = next } ≡ folding n job out
+  folding-of-answer number place long is-number is-place is-long = rw (is-number, is-place, is-long) gives
 
 pub widening-of-answer : (old target next : List ℕ) (number : ℕ) (answer : widenAnswer.Answer)
     → number ≡ widenings.answerNumber answer → widenings.left answer next ≡ widening old target
@@ -169,7 +175,7 @@ blit-of-answer memory file next end size number stored answer is-number is-store
 module _ (memory file next end : List ℕ) (start lent why number : ℕ) (answer : copperAnswer.Answer)
     (is-why : why ≡ frames.whyNumber (answer .why)) (is-number : number ≡ frames.answerNumber (answer .why)) where
   pub frameFrom-of-answer : (beam : ℕ) → frames.left answer next end ≡ frameFrom memory file beam start lent
-      → stopped why number (answer .done) (coppers.machine next end (answer .beam) (answer .word)) ≡ frameFrom memory file beam start lent
+      → stopped why number (answer .done) (coppers.moment next end (answer .beam) (answer .word)) ≡ frameFrom memory file beam start lent
   frameFrom-of-answer beam gives = rw (is-why, is-number) gives
 
   pub frame-of-answer : frames.left answer next end ≡ frame memory file start lent

@@ -54,16 +54,16 @@ pub extern "C" fn desk_fold(
     out: &mut [u16],
     number: &mut u32,
     place: &mut u32,
-    length: &mut u32,
+    long: &mut u32,
 )
     ensures { λ _. ⌜
-        record { number = now (number .exit); place = now (place .exit); length = now (length .exit); out = now (out .exit) }
+        record { number = now (number .exit); place = now (place .exit); long = now (long .exit); out = now (out .exit) }
         ≡ folding words (now (job .entry)) (now (out .entry)) ⌝ }
 {
     let answer = folder::fold(words, job, out);
     *number = folder::answer::number(answer);
     *place = folder::answer::place(answer) as u32;
-    *length = folder::answer::length(answer) as u32;
+    *long = folder::answer::length(answer) as u32;
 }
 
 // Turns an old register file into a new one.
@@ -124,7 +124,7 @@ pub extern "C" fn desk_frame_from(
 )
     ensures { λ _. ⌜
         stopped (now (why .exit)) (now (number .exit)) (now (done .exit))
-        (copper.machine (now (ram .exit)) (now (file .exit)) (now (place .exit)) (now (word .exit)))
+        (copper.moment (now (ram .exit)) (now (file .exit)) (now (place .exit)) (now (word .exit)))
         ≡ frameFrom (now (ram .entry)) (now (file .entry)) beam start lent ⌝ }
 {
     let answer = copper::frame_from(ram, file, beam, start, lent);

@@ -5,6 +5,7 @@ use mathlib.Core.Path.{_≡_}
 use mathlib.Core.Bool.{true}
 use mathlib.Core.List.{List, [], _∷_, _++_, map}
 use lib.ListN.{replicate}
+use Rattle.word.specs.Example.{Example, _is_}
 use Rattle.word.specs.declared.types.Direction.{Direction}
 use Rattle.word.specs.declared.types.Direction.the-variants.{Ascending, Descending}
 use Rattle.word.specs.Pointer.{up}
@@ -15,14 +16,6 @@ use Rattle.word.specs.Logic.{logic}
 use Rattle.word.specs.Fill.{exclusive, inclusive}
 use Rattle.blit.specs.Blit.{blit}
 use Rattle.folder.specs.Fold.{fold}
-
-pub record Example : Type 0 where
-  pub gives : List ℕ
-  pub says : List ℕ
-
-infix 70 _is_
-abbrev pub _is_ : (gives says : List ℕ) → Example
-gives is says = record { gives = gives; says = says }
 
 -- words as they are fetched, each shifted with the one before it; "the earlier word is zero at the blit's start"
 abbrev pub shiftedWords : Direction → (n earlier : ℕ) → (fetched : List ℕ) → List ℕ

@@ -10,7 +10,7 @@ pub const SIZE_OFFSET: u16 = 0x058;
 fn danger(file: &[u16]) -> bool
     ensures { λ set. ⌜ set ≡ danger (now (file .entry)) ⌝ }
 {
-    word::memory::read(file, 19) / 2 % 2 == 1
+    word::memory::read(file, file::COPCON) / 2 % 2 == 1
 }
 
 pub fn permitted(file: &[u16], offset: u16) -> bool

@@ -1,7 +1,7 @@
 // What a step does to the folder's knowledge.
 ghost use mathlib.Core.Path.{_≡_};
 ghost use Prim.Native.Nat.{_<_};
-ghost use Rattle.file.specs.Places.{fileLength};
+ghost use Rattle.file.specs.Places.{fileLength, pointerA, pointerB, pointerC, pointerD};
 ghost use Rattle.knowledge.specs.Knowledge.{listed};
 ghost use Rattle.learning.specs.Learn.{written, mayUse, forgetPointer, forgetSource, forgetUsed};
 ghost use Rattle.learning.specs.Learn.{forgotten, movedD};
@@ -56,24 +56,24 @@ fn forget_source(known: Knowledge, used: bool, place: u32) -> Knowledge
 fn forget_pointers(known: Knowledge, uses: Uses) -> Knowledge
     ensures { λ after. ⌜
         listed after
-        ≡ forgetPointer (uses .d) 10
-        (forgetPointer (uses .c) 4
-        (forgetPointer (uses .b) 6
-        (forgetPointer (uses .a) 8 (listed known)))) ⌝ }
+        ≡ forgetPointer (uses .d) pointerD
+        (forgetPointer (uses .c) pointerC
+        (forgetPointer (uses .b) pointerB
+        (forgetPointer (uses .a) pointerA (listed known)))) ⌝ }
 {
-    let no_a = forget_pointer(known, uses.a, 8);
-    let no_b = forget_pointer(no_a, uses.b, 6);
-    let no_c = forget_pointer(no_b, uses.c, 4);
-    forget_pointer(no_c, uses.d, 10)
+    let no_a = forget_pointer(known, uses.a, file::POINTER_A);
+    let no_b = forget_pointer(no_a, uses.b, file::POINTER_B);
+    let no_c = forget_pointer(no_b, uses.c, file::POINTER_C);
+    forget_pointer(no_c, uses.d, file::POINTER_D)
 }
 
 fn forget_used(known: Knowledge, uses: Uses) -> Knowledge
     ensures { λ after. ⌜ listed after ≡ forgetUsed uses (listed known) ⌝ }
 {
     let pointed = forget_pointers(known, uses);
-    let no_a = forget_source(pointed, uses.a, 18);
-    let no_b = forget_source(no_a, uses.b, 17);
-    forget_source(no_b, uses.c, 16)
+    let no_a = forget_source(pointed, uses.a, file::SOURCE_A);
+    let no_b = forget_source(no_a, uses.b, file::SOURCE_B);
+    forget_source(no_b, uses.c, file::SOURCE_C)
 }
 
 // After a kept 058.
@@ -87,6 +87,6 @@ pub fn forgotten(known: Knowledge) -> Knowledge
 pub fn moved_d(known: Knowledge, pointer: Pointer) -> Knowledge
     ensures { λ after. ⌜ listed after ≡ movedD pointer (listed known) ⌝ }
 {
-    let half = known.with(10, Known::Is(pointer.high()));
-    half.with(11, Known::Is(pointer.low()))
+    let half = known.with(file::POINTER_D, Known::Is(pointer.high()));
+    half.with(file::POINTER_D + 1, Known::Is(pointer.low()))
 }

@@ -1,5 +1,6 @@
 -- `copper::frame_from` meets its contract: 1, then 2, then the instructions.
-use Rattle.copper.proofs.FrameLaws.{memorySize-when-taken, frameFrom-by-memory, frameFrom-by-file, frameFrom-onward}
+use Rattle.word.proofs.MemoryLaws.{memorySize-when-taken}
+use Rattle.copper.proofs.FrameLaws.{frameFrom-by-memory, frameFrom-by-file, frameFrom-onward}
 use borrow.Author.Needs.{needs}
 use Rattle.copper.proofs.frame_from.Statement.{statement}
 use Rattle.copper.proofs.frame_from.Tie as tie

@@ -6,6 +6,7 @@ use native.Mathlib.Omega.{arith}
 use mathlib.Core.Bool.{Bool, true, false, _&&_}
 use borrow.Author.Tests.{eqb-true}
 use lib.Dec.{eqb}
+use Rattle.word.specs.Example.{Example}
 use Rattle.word.specs.Choice.{given}
 use Rattle.word.proofs.ChoiceLaws.{and-left, and-right}
 use Rattle.file.specs.File.{registers, placeIn, place, isRegister, keptBits, kept}
@@ -15,7 +16,7 @@ use Rattle.instruction.specs.Permitted.{danger, permitted, modelled}
 use Rattle.instruction.specs.Refusal.{outside, forbidden, notModelled, ownRules, instructionRefusal}
 use Rattle.instruction.specs.Effect.{afterInstruction, decided, instructionEffect, effect}
 use Rattle.copper_facts.specs.Course.{after}
-use Rattle.copper_facts.specs.ManualHolds.{Example, numbersBefore, down, comparisons, never, sampleList}
+use Rattle.copper_facts.specs.ManualHolds.{numbersBefore, down, comparisons, never, sampleList}
 use Rattle.copper_facts.proofs.ManualLaws.{waited-for-150, waited-for-never, firstSatisfied-never}
 use Rattle.copper_facts.proofs.manual_holds.Statement.{statement}
 use Rattle.copper_facts.proofs.manual_holds.Tie as tie

@@ -1,5 +1,5 @@
 -- `desk::desk_fold` meets its contract: it tells what the folding answers; its place and length are small.
-use Rattle.desk.proofs.PlaceLaws.{folding-place-lt, folding-length-lt, folding-of-answer}
+use Rattle.desk.proofs.PlaceLaws.{folding-place-lt, folding-long-lt, folding-of-answer}
 use borrow.Author.Needs.{needs}
 use Rattle.desk.proofs.desk_fold.Statement.{statement}
 use Rattle.desk.proofs.desk_fold.Tie as tie
@@ -19,8 +19,8 @@ cast-place c = search folding-place-lt
 length-requires : tie.Need-length-requires
 length-requires c κs = search needs
 
-cast-length : tie.Need-cast-length
-cast-length c = search folding-length-lt
+cast-long : tie.Need-cast-long
+cast-long c = search folding-long-lt
 
 same-length : tie.Need-same-length
 same-length c = search needs
@@ -37,6 +37,6 @@ desk-fold-spec =
     place-requires
     cast-place
     length-requires
-    cast-length
+    cast-long
     same-length
     returns)

@@ -23,21 +23,22 @@ use Rattle.word.specs.Memory.{memorySize}
 use Rattle.blit.specs.Blit.{finished, done, answered, blit}
 use Rattle.job.specs.Kind.{kind}
 use Rattle.job.specs.Step.{operands, found, begun, front}
-use Rattle.job.specs.Steps.{following, stepsFrom}
+use Rattle.job.specs.Steps.{behind, stepsFrom}
 use Rattle.depends.specs.Depends.{changes, counts}
 use Rattle.knowledge.specs.Known.{number, isKnown}
 use Rattle.knowledge.specs.Knowledge.{numbers}
-use Rattle.settled.specs.Words.{rowStores, blitStores, settledEnd, settledWords}
+use Rattle.stores.specs.Stores.{rowStores, blitStores, stores, allZero, finalD}
+use Rattle.settled.specs.Words.{storesWords, settledWords}
 use Rattle.learning.specs.Learn.{written, mayUse, forgetPointer, forgetSource, forgetUsed, forgotten, movedD}
 use Rattle.settled.specs.Settled.{controlsKnown, onlyDUsed, sourcesKnown, settled}
-use Rattle.folder.specs.Fold.{folded, learned, piece, learnedAfter, foldSteps, foldFrom, fold}
+use Rattle.folder.specs.Fold.{becomes, learned, piece, learnedAfter, foldSteps, foldFrom, fold}
 use Rattle.examples.specs.Examples.{examples}
 use Rattle.examples.proofs.examples_hold.Statement.{statement}
 use Rattle.examples.proofs.examples_hold.Tie as tie
 
 returns : tie.Need-returns
-unfolding fold foldFrom foldSteps piece learnedAfter folded learned settled controlsKnown onlyDUsed sourcesKnown written forgotten forgetUsed forgetPointer forgetSource mayUse movedD
-    settledWords settledEnd blitStores rowStores numbers number isKnown counts changes stepsFrom following front begun found operands kind place placeIn isRegister registers kept keptBits keptAt
+unfolding fold foldFrom foldSteps piece learnedAfter becomes learned settled controlsKnown onlyDUsed sourcesKnown written forgotten forgetUsed forgetPointer forgetSource mayUse movedD
+    settledWords storesWords stores blitStores rowStores allZero finalD numbers number isKnown counts changes stepsFrom behind front begun found operands kind place placeIn isRegister registers kept keptBits keptAt
     stepRefusal given bothFills fillUpward channelLeaves leaves touches rowTouches nextRow repeated setup uses shifts direction fill masks modulos start pointers pointerAt sources pointer half moved passed
     blit answered done finished areaBlit refusal memorySize accepted storePending memoryWith countWith wait
     oneWord storedBefore finishedWord finish final result maskedA fetch fetched moveOn stepped rowStart oneRow rowEnd turned filled examples ofBits height width maskedWhen masked logic carry exclusive inclusive

@@ -10,6 +10,9 @@ high-requires c κs = search needs
 with-requires : tie.Need-with-requires
 with-requires c κs = search needs
 
+add-with : tie.Need-add-with
+add-with c = search needs
+
 low-requires : tie.Need-low-requires
 low-requires c κs = search needs
 
@@ -21,4 +24,4 @@ returns c = search movedD-of-parts
 
 pub moved-d-spec : {M : Type 1} → statement M
 moved-d-spec =
-    tie.close (tie.spec high-requires with-requires low-requires with-requires-2 returns)
+    tie.close (tie.spec high-requires with-requires add-with low-requires with-requires-2 returns)

@@ -76,18 +76,22 @@ run-place-le memory file job = by-start (decLt 0 (startRefusal memory file job))
         omega (arith, same, short, runSteps-place-le 0 0 job (machine memory file 0))
 
 -- a folding is refused at a word of its job
+byStep-place-at-end : (words out : List ℕ) (at : ℕ) → byStep words out [] .place ≤ at
+unfolding byStep
+byStep-place-at-end words out at = by-test (tooLong words out)
+  where
+    by-test : (long : Bool) → (if long then refused 11 0 out else done words out) .place ≤ at
+    by-test true = omega arith
+    by-test false = omega arith
+
 byStep-place-le : (words out : List ℕ) (skip at : ℕ) (job : List ℕ)
     → byStep words out (stepsFrom skip at job) .place ≤ at + length job
 unfolding byStep stepsFrom
-byStep-place-le words out skip at [] = by-test (tooLong words out)
-  where
-    by-test : (long : Bool) → (if long then refused 11 0 out else done words out) .place ≤ at + 0
-    by-test true = omega arith
-    by-test false = omega arith
+byStep-place-le words out skip at [] = byStep-place-at-end words out (at + 0)
 byStep-place-le words out zero at (first ∷ rest) =
     by-test
     (behind-either (λ list. byStep words out list .place ≤ at + 1 + length rest) (front at (first ∷ rest)) (λ skip. stepsFrom skip (at + 1) rest)
-    (λ skip. byStep-place-le words out skip (at + 1) rest) (omega (arith, byStep-place-le words out 0 0 [])))
+    (λ skip. byStep-place-le words out skip (at + 1) rest) (byStep-place-at-end words out (at + 1 + length rest)))
     (eqb (readNumber (front at (first ∷ rest))) 0)
   where
     later : Folding

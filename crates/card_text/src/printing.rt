@@ -47,9 +47,9 @@ fn glyph(digit: u32) -> u8
     ensures { λ byte. ⌜ byte ≡ glyph digit ⌝ }
 {
     if digit <= 9 {
-        return 48 + digit as u8;
+        return b'0' + digit as u8;
     }
-    55 + digit as u8
+    b'A' + (digit - 10) as u8
 }
 
 fn put_leading(out: &mut [u8], at: usize, power: u32, n: u32) -> usize

@@ -47,13 +47,13 @@ fn main() {
     ];
     let mut file = [0u16; file::WORDS];
     // Use B, C and D, function CA; the constant A, masked to FE00 in a row's last word, chooses between B and C.
-    file[0] = 0x07CA;
-    file[2] = 0xFFFF;
-    file[3] = 0xFE00;
-    file[18] = 0xFFFF;
+    file[file::CONTROL_0 as usize] = 0x07CA;
+    file[file::FIRST_MASK as usize] = 0xFFFF;
+    file[file::LAST_MASK as usize] = 0xFE00;
+    file[file::SOURCE_A as usize] = 0xFFFF;
     // The pointers of C and D; B's is 0.
-    file[5] = 12;
-    file[11] = 24;
+    file[file::POINTER_C as usize + 1] = 12;
+    file[file::POINTER_D as usize + 1] = 24;
     show_words::text(b"Before\n");
     pictures(&ram);
     // Three rows of two words.

@@ -4,14 +4,14 @@
 // A register file with masks of all ones and the pointers' low halves.
 fn registers(con0: u16, con1: u16, a: u16, b: u16, c: u16, d: u16) -> [u16; file::WORDS] {
     let mut file = [0u16; file::WORDS];
-    file[0] = con0;
-    file[1] = con1;
-    file[2] = 0xFFFF;
-    file[3] = 0xFFFF;
-    file[5] = c;
-    file[7] = b;
-    file[9] = a;
-    file[11] = d;
+    file[file::CONTROL_0 as usize] = con0;
+    file[file::CONTROL_1 as usize] = con1;
+    file[file::FIRST_MASK as usize] = 0xFFFF;
+    file[file::LAST_MASK as usize] = 0xFFFF;
+    file[file::POINTER_C as usize + 1] = c;
+    file[file::POINTER_B as usize + 1] = b;
+    file[file::POINTER_A as usize + 1] = a;
+    file[file::POINTER_D as usize + 1] = d;
     file
 }
 
@@ -118,8 +118,8 @@ fn figure_memory() -> [u16; 18] {
 fn figure_up() {
     let mut ram = figure_memory();
     let mut file = registers(0x07CA, 0, 0, 0, 12, 24);
-    file[3] = 0xFE00;
-    file[18] = 0xFFFF;
+    file[file::LAST_MASK as usize] = 0xFE00;
+    file[file::SOURCE_A as usize] = 0xFFFF;
     show_words::text(b"figure 6-4 up  ");
     run(&mut ram, &mut file, 0x00C2);
     show_words::words(&ram, 12, 6);
@@ -130,8 +130,8 @@ fn figure_up() {
 fn figure_down() {
     let mut ram = figure_memory();
     let mut file = registers(0x07CA, 2, 0, 10, 22, 34);
-    file[2] = 0xFE00;
-    file[18] = 0xFFFF;
+    file[file::FIRST_MASK as usize] = 0xFE00;
+    file[file::SOURCE_A as usize] = 0xFFFF;
     show_words::text(b"figure 6-4 down");
     run(&mut ram, &mut file, 0x00C2);
     show_words::words(&ram, 12, 6);
@@ -155,9 +155,9 @@ fn figure_shifted(con0: u16, first: u16, last: u16) {
         0,
     ];
     let mut file = registers(con0, 0x5000, 0, 0, 8, 16);
-    file[2] = first;
-    file[3] = last;
-    file[18] = 0xFFFF;
+    file[file::FIRST_MASK as usize] = first;
+    file[file::LAST_MASK as usize] = last;
+    file[file::SOURCE_A as usize] = 0xFFFF;
     show_words::text(b"figure 6-4 by 5");
     run(&mut ram, &mut file, 0x0082);
     show_words::words(&ram, 8, 4);
@@ -224,23 +224,23 @@ fn section_memory() -> [u16; 310] {
 fn section_up() {
     let mut ram = section_memory();
     let mut file = registers(0x09F0, 0, 532, 0, 0, 0);
-    file[14] = 30;
+    file[file::MODULO_A as usize] = 30;
     show_words::text(b"section up  ");
     run(&mut ram, &mut file, 0x0085);
     show_words::words(&ram, 0, 11);
-    show_words::words(&file, 9, 1);
-    show_words::words(&file, 11, 1);
+    show_words::words(&file, file::POINTER_A + 1, 1);
+    show_words::words(&file, file::POINTER_D + 1, 1);
     show_words::line();
 }
 
 fn section_down() {
     let mut ram = section_memory();
     let mut file = registers(0x09F0, 2, 580, 0, 0, 18);
-    file[14] = 30;
+    file[file::MODULO_A as usize] = 30;
     show_words::text(b"section down");
     run(&mut ram, &mut file, 0x0085);
     show_words::words(&ram, 0, 11);
-    show_words::words(&file, 8, 4);
+    show_words::words(&file, file::POINTER_A, 4);
     show_words::line();
 }
 
@@ -258,13 +258,13 @@ fn hundred() {
 fn overlap(con0: u16, con1: u16, from: u16, to: u16, modulo: u16, size: u16) {
     let mut ram = [1u16, 2, 3, 4, 5, 6, 7, 8];
     let mut file = registers(con0, con1, from, from, from, to);
-    file[14] = modulo;
+    file[file::MODULO_A as usize] = modulo;
     show_words::text(b"overlap");
     show_words::hex(con0);
     run(&mut ram, &mut file, size);
     show_words::words(&ram, 0, 8);
     show_words::text(b" data");
-    show_words::words(&file, 16, 3);
+    show_words::words(&file, file::SOURCE_C, 3);
     show_words::line();
 }
 

@@ -9,7 +9,42 @@ ghost use Rattle.file.specs.File.{place, keptBits, kept, keptAt, accepte
 // How many words a file has.
 pub const WORDS: usize = 53;
 
-// Where the zero flag stands; no offset reaches it.
+// Its places by name; of a pointer, the place of its high half, which its low half follows.
+pub const CONTROL_0: u32 = 0;
+
+pub const CONTROL_1: u32 = 1;
+
+pub const FIRST_MASK: u32 = 2;
+
+pub const LAST_MASK: u32 = 3;
+
+pub const POINTER_C: u32 = 4;
+
+pub const POINTER_B: u32 = 6;
+
+pub const POINTER_A: u32 = 8;
+
+pub const POINTER_D: u32 = 10;
+
+pub const MODULO_C: u32 = 12;
+
+pub const MODULO_B: u32 = 13;
+
+pub const MODULO_A: u32 = 14;
+
+pub const MODULO_D: u32 = 15;
+
+pub const SOURCE_C: u32 = 16;
+
+pub const SOURCE_B: u32 = 17;
+
+pub const SOURCE_A: u32 = 18;
+
+pub const COPCON: u32 = 19;
+
+pub const COLOUR_0: u32 = 20;
+
+// The zero flag stands last; no offset reaches it.
 pub const FLAG: u32 = 52;
 
 // The place of the register with an offset; the flag's where none has it. The offsets lie in runs, each two above the

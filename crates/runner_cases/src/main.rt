@@ -33,11 +33,11 @@ fn show_words(name: &[u8], words: &[u16], from: u32, to: u32) {
 
 // A register file: the Blitter's registers, COPCON, the colours in two lines, and the zero flag.
 fn show_file(file: &[u16]) {
-    show_words(b"  blitter", file, 0, 19);
-    show_words(b"  copcon", file, 19, 20);
-    show_words(b"  colours", file, 20, 36);
-    show_words(b"         ", file, 36, 52);
-    show_words(b"  zero", file, 52, 53);
+    show_words(b"  blitter", file, file::CONTROL_0, file::COPCON);
+    show_words(b"  copcon", file, file::COPCON, file::COLOUR_0);
+    show_words(b"  colours", file, file::COLOUR_0, file::COLOUR_0 + 16);
+    show_words(b"         ", file, file::COLOUR_0 + 16, file::FLAG);
+    show_words(b"  zero", file, file::FLAG, file::FLAG + 1);
 }
 
 // A job on 16 words of memory and a register file that are all zero.
@@ -87,15 +87,15 @@ fn files() {
     on_file(b"file of 20 words", &mut [0; 20]);
     on_file(b"file of 52 words", &mut [0; 52]);
     on_file(b"file of 54 words", &mut [0; 54]);
-    with_word(b"file with DPTH 0007", 10, 0x0007);
-    with_word(b"file with DPTH 0008", 10, 0x0008);
-    with_word(b"file with COPCON 0002", 19, 0x0002);
-    with_word(b"file with COPCON 0001", 19, 0x0001);
-    with_word(b"file with COPCON 0004", 19, 0x0004);
-    with_word(b"file with COLOR00 0FFF", 20, 0x0FFF);
-    with_word(b"file with COLOR00 1000", 20, 0x1000);
-    with_word(b"file with COLOR31 0FFF", 51, 0x0FFF);
-    with_word(b"file with COLOR31 8000", 51, 0x8000);
+    with_word(b"file with DPTH 0007", file::POINTER_D, 0x0007);
+    with_word(b"file with DPTH 0008", file::POINTER_D, 0x0008);
+    with_word(b"file with COPCON 0002", file::COPCON, 0x0002);
+    with_word(b"file with COPCON 0001", file::COPCON, 0x0001);
+    with_word(b"file with COPCON 0004", file::COPCON, 0x0004);
+    with_word(b"file with COLOR00 0FFF", file::COLOUR_0, 0x0FFF);
+    with_word(b"file with COLOR00 1000", file::COLOUR_0, 0x1000);
+    with_word(b"file with COLOR31 0FFF", file::COLOUR_0 + 31, 0x0FFF);
+    with_word(b"file with COLOR31 8000", file::COLOUR_0 + 31, 0x8000);
     with_word(b"file with flag 1", file::FLAG, 1);
     with_word(b"file with flag 2", file::FLAG, 2);
 }

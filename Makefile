@@ -24,8 +24,8 @@ proved := crates.txt $(shell find crates -name must-fail -prune -o -print)
 run: target/bin/card
 	@scripts/start target/bin/card <crates/card/stdin
 
-figure: target/bin/figure
-	@scripts/start target/bin/figure
+figure: target/bin/blit_figure
+	@scripts/start target/bin/blit_figure
 
 desk: target/c/desk
 	@echo "$(archive) (declared in include/desk.h) and target/c/desk are made."
@@ -37,7 +37,7 @@ bench: $(archive)
 test:
 	@scripts/test
 
-target/bin/card target/bin/figure: target/bin/%: $(proved)
+target/bin/card target/bin/blit_figure: target/bin/%: $(proved)
 	@scripts/proved $*
 
 $(archive): $(proved)

@@ -1,5 +1,5 @@
 /* The calls of the boundary test. What each must give is written out from papers 01 and 02; the runs and foldings are
- * also those whose results the programs `runs` and `folds` print. */
+ * also those whose results the programs `runner_cases` and `folder_cases` print. */
 #include "boundary.h"
 
 #define ZEROS "0000*16"

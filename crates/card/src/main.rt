@@ -21,9 +21,9 @@ fn print(text: &[u8], written: usize) {
 
 fn main() {
     let mut text = [0u8; 256];
-    let length = io::read_full(STDIN_FILENO, &mut text);
+    let read = io::read_full(STDIN_FILENO, &mut text);
     let mut space = room();
     let out: &mut [u8] = &mut space;
-    let written = card_text::card(&text[..length], out);
+    let written = card_text::card(&text[..read], out);
     print(out, written);
 }

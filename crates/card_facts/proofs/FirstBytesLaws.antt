@@ -1,6 +1,7 @@
 -- The first bytes of a text decide: a good first line is short, and the lines after it have ten bytes each.
 use mathlib.Core.Path.{_≡_, refl, sym, ap, _∙_}
-use Prim.Native.Nat.{ℕ, zero, suc, _+_, _*_, _-_, _<_, _≤_}
+use Prim.Native.Nat.{ℕ, zero, suc, _+_, _*_, _<_, _≤_}
+use Prim.Native.Char.{code}
 use native.Mathlib.Decide.{decLt}
 use native.Mathlib.Omega.{arith}
 use mathlib.Core.Bool.{Bool, true, false, not, _&&_}
@@ -12,7 +13,7 @@ use lib.Seq.{length-take-le, take-all, drop-append-le, getD-drop}
 use Rattle.word.specs.Choice.{if_then_else_}
 use Rattle.word.proofs.ChoiceLaws.{and-left, and-right}
 use Rattle.card_reading.specs.Text.{byte, decimalDigit}
-use Rattle.card_reading.specs.RamLine.{digits, spelled, ramWords, ramEnd, ramKey, ramLine}
+use Rattle.card_reading.specs.RamLine.{digits, withDigit, spelled, ramWords, ramEnd, ramKey, ramLine}
 use Rattle.card_reading.specs.Reading.{keyAt, wordAt, keyLine, badFrom, badLine}
 use Rattle.card_text.specs.Card.{printed}
 use Rattle.card_facts.specs.FirstBytesDecide.{FirstBytesDecide}
@@ -21,20 +22,20 @@ use Rattle.card_reading.proofs.ReadingLaws.{badFrom-of-none}
 use Rattle.card_reading.proofs.RamLaws.{spelled-ge, ramWords-le}
 
 -- the first of the digits is the first byte
-digits-first : (text : List ℕ) (first : ℕ) (rest : List ℕ) → digits text ≡ first ∷ rest → (getD text 0 0 ≡ first) × (48 ≤ first)
+digits-first : (text : List ℕ) (first : ℕ) (rest : List ℕ) → digits text ≡ first ∷ rest → (getD text 0 0 ≡ first) × (code "0" ≤ first)
 unfolding digits
 digits-first [] first rest same = let n : _≡_ {A = ℕ} 0 1 = cc in absurd (omega arith)
 digits-first (here ∷ text) first rest same = by-test (decimalDigit here) refl same
   where
     by-test : (digit : Bool) → decimalDigit here ≡ digit → (if digit then here ∷ digits text else []) ≡ first ∷ rest
-        → (here ≡ first) × (48 ≤ first)
+        → (here ≡ first) × (code "0" ≤ first)
     by-test true is same =
         let one : here ≡ first = cc in
         (one, omega (arith, one, decimalDigit-ge here (decimalDigit here) refl is))
     by-test false is same = let n : _≡_ {A = ℕ} 0 1 = cc in absurd (omega arith)
 
 -- a number of six digits that doesn't begin with 0 is too large
-digits-few : (list : List ℕ) → ((first : ℕ) (rest : List ℕ) → list ≡ first ∷ rest → 49 ≤ first) → spelled 0 list ≤ 32768 → length list ≤ 5
+digits-few : (list : List ℕ) → ((first : ℕ) (rest : List ℕ) → list ≡ first ∷ rest → code "1" ≤ first) → spelled 0 list ≤ 32768 → length list ≤ 5
 unfolding spelled
 digits-few [] large small = omega arith
 digits-few (a ∷ []) large small = omega arith
@@ -43,23 +44,23 @@ digits-few (a ∷ b ∷ c ∷ []) large small = omega arith
 digits-few (a ∷ b ∷ c ∷ d ∷ []) large small = omega arith
 digits-few (a ∷ b ∷ c ∷ d ∷ e ∷ []) large small = omega arith
 digits-few (a ∷ b ∷ c ∷ d ∷ e ∷ f ∷ rest) large small =
-    let first : 49 ≤ a = large a (b ∷ c ∷ d ∷ e ∷ f ∷ rest) refl in
-    let grows = spelled-ge ((((((0 * 10 + (a - 48)) * 10 + (b - 48)) * 10 + (c - 48)) * 10 + (d - 48)) * 10 + (e - 48)) * 10 + (f - 48)) rest in
+    let first : code "1" ≤ a = large a (b ∷ c ∷ d ∷ e ∷ f ∷ rest) refl in
+    let grows = spelled-ge (withDigit (withDigit (withDigit (withDigit (withDigit (withDigit 0 a) b) c) d) e) f) rest in
     absurd (omega (arith, first, grows, small))
 
-ramLine-unlike-zero : (text : List ℕ) → ramLine text ≡ true → eqb (byte text 4) 48 ≡ false
+ramLine-unlike-zero : (text : List ℕ) → ramLine text ≡ true → eqb (byte text 4) (code "0") ≡ false
 unfolding ramLine
 ramLine-unlike-zero text good =
-    not-true _ (and-right (ramKey text) _ (and-left (ramKey text && not (eqb (byte text 4) 48)) (leb 1 (ramWords text))
-    (and-left (ramKey text && not (eqb (byte text 4) 48) && leb 1 (ramWords text)) (leb (ramWords text) 32768)
-    (and-left (ramKey text && not (eqb (byte text 4) 48) && leb 1 (ramWords text) && leb (ramWords text) 32768) _ good))))
+    not-true _ (and-right (ramKey text) _ (and-left (ramKey text && not (eqb (byte text 4) (code "0"))) (leb 1 (ramWords text))
+    (and-left (ramKey text && not (eqb (byte text 4) (code "0")) && leb 1 (ramWords text)) (leb (ramWords text) 32768)
+    (and-left (ramKey text && not (eqb (byte text 4) (code "0")) && leb 1 (ramWords text) && leb (ramWords text) 32768) _ good))))
 
-first-is-large : (text : List ℕ) (first : ℕ) → getD text 4 0 ≡ first → 48 ≤ first → eqb (byte text 4) 48 ≡ false → 49 ≤ first
-first-is-large text first here digit other = by-order (decLt 48 first)
+first-is-large : (text : List ℕ) (first : ℕ) → getD text 4 0 ≡ first → code "0" ≤ first → eqb (byte text 4) (code "0") ≡ false → code "1" ≤ first
+first-is-large text first here digit other = by-order (decLt (code "0") first)
   where
-    by-order : Dec (48 < first) → 49 ≤ first
+    by-order : Dec (code "0" < first) → code "1" ≤ first
     by-order (yes more) = more
-    by-order (no few) = absurd (eqb-false (byte text 4) 48 other (omega (arith, here, digit, few)))
+    by-order (no few) = absurd (eqb-false (byte text 4) (code "0") other (omega (arith, here, digit, few)))
 
 ramLine-is-short : (text : List ℕ) → ramLine text ≡ true → length (digits (drop 4 text)) ≤ 5
 ramLine-is-short text good =

@@ -1,4 +1,4 @@
-// What is proved of the card's definition; each function has its theorem as its contract, and does nothing.
+// What is proved of the card's definitions; each function has its theorem as its contract, and does nothing.
 ghost use Rattle.card_facts.specs.KeysAreRegisters.{KeysAreRegisters};
 ghost use Rattle.card_facts.specs.FirstBytesDecide.{FirstBytesDecide};
 ghost use Rattle.card_facts.specs.TextFits.{TextFits};

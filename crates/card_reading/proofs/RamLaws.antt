@@ -1,6 +1,7 @@
 -- Laws of a card's first line: its digits one by one, and what they give.
 use mathlib.Core.Path.{_≡_, refl, sym, ap, _∙_}
-use Prim.Native.Nat.{ℕ, zero, suc, _+_, _*_, _-_, _<_, _≤_}
+use Prim.Native.Nat.{ℕ, zero, suc, _+_, _<_, _≤_}
+use Prim.Native.Char.{code}
 use native.Mathlib.Decide.{decLt}
 use native.Mathlib.Omega.{arith}
 use mathlib.Core.Bool.{Bool, true, false, not, _&&_}
@@ -13,7 +14,7 @@ use Rattle.word.specs.Choice.{if_then_else_}
 use Rattle.word.proofs.ChoiceLaws.{and-left, and-right, and-none}
 use Rattle.card_reading.specs.declared.types.Ram.{Ram}
 use Rattle.card_reading.specs.Text.{newline, byte, decimalDigit}
-use Rattle.card_reading.specs.RamLine.{digits, spelled, ramWords, ramEnd, ramKey, ramLine}
+use Rattle.card_reading.specs.RamLine.{digits, withDigit, spelled, ramWords, ramEnd, ramKey, ramLine}
 use Rattle.card_reading.specs.Ram.{ramRead, ramEnded}
 
 -- the digits ended
@@ -55,7 +56,7 @@ module _ (text : List ℕ) (at here : ℕ) (is : here ≡ getD text at 0) (digit
   unfolding digits
   digits-when-other inside fails = rw (split inside, ← is-digit, fails)
 
-  pub spelled-turn : (words next whole : ℕ) → at < length text → digit ≡ true → next ≡ words * 10 + (here - 48)
+  pub spelled-turn : (words next whole : ℕ) → at < length text → digit ≡ true → next ≡ withDigit words here
       → spelled words (digits (drop at text)) ≡ whole → spelled next (digits (drop (at + 1) text)) ≡ whole
   unfolding spelled
   spelled-turn words next whole inside holds grows so-far =
@@ -72,16 +73,16 @@ digits-at-end text at past = rw (drop-of-length-le text past)
 pub spelled-ge : (before : ℕ) (digits : List ℕ) → before ≤ spelled before digits
 unfolding spelled
 spelled-ge before [] = omega arith
-spelled-ge before (byte ∷ rest) = omega (arith, spelled-ge (before * 10 + (byte - 48)) rest)
+spelled-ge before (byte ∷ rest) = omega (arith, spelled-ge (withDigit before byte) rest)
 
 -- a number that is too large stays so
 ramRead-when-far : (text : List ℕ) → 32768 < ramWords text → Ram.Bad ≡ ramRead text
 unfolding ramRead ramLine
 ramRead-when-far text far =
-    rw (lt-leb (ramWords text) 32768 far, and-none (ramKey text && not (eqb (byte text 4) 48) && leb 1 (ramWords text)))
+    rw (lt-leb (ramWords text) 32768 far, and-none (ramKey text && not (eqb (byte text 4) (code "0")) && leb 1 (ramWords text)))
 
 pub ramRead-when-large : (text : List ℕ) (at here : ℕ) (digit : Bool) (words next : ℕ)
-    → here ≡ getD text at 0 → digit ≡ decimalDigit here → at < length text → digit ≡ true → next ≡ words * 10 + (here - 48)
+    → here ≡ getD text at 0 → digit ≡ decimalDigit here → at < length text → digit ≡ true → next ≡ withDigit words here
     → 32768 < next → spelled words (digits (drop at text)) ≡ ramWords text → Ram.Bad ≡ ramRead text
 ramRead-when-large text at here digit words next is is-digit inside holds grows large so-far =
     let later = spelled-turn text at here is digit is-digit words next (ramWords text) inside holds grows so-far in
@@ -94,15 +95,15 @@ module _ (text : List ℕ) (is : Bool) (of-key : is ≡ ramKey text) where
   ramRead-when-keyless fails = rw (← of-key, fails)
 
   module _ (named : is ≡ true) (first : ℕ) (of-first : first ≡ getD text 4 0) where
-    pub ramRead-when-zero : first ≡ 48 → Ram.Bad ≡ ramRead text
+    pub ramRead-when-zero : first ≡ code "0" → Ram.Bad ≡ ramRead text
     unfolding ramRead ramLine
     ramRead-when-zero same = rw (← of-key, named, ← of-first, same)
 
-    module _ (other : first ≡ 48 → ⊥) where
+    module _ (other : first ≡ code "0" → ⊥) where
       ended : (at words : ℕ) → words ≤ 32768 → words ≡ ramWords text → at ≡ ramEnd text → ramEnded text at words ≡ ramRead text
       unfolding ramRead ramLine ramEnded
       ended at words small same here =
-          rw (← of-key, named, ← of-first, ne-eqb first 48 other, ← same, ← here, le-leb words 32768 small)
+          rw (← of-key, named, ← of-first, ne-eqb first (code "0") other, ← same, ← here, le-leb words 32768 small)
           (by-test (leb 1 words))
         where
           by-test : (some : Bool)
@@ -132,7 +133,7 @@ unfolding ramLine
 ramEnd-lt text good = by-order (decLt (ramEnd text) (length text))
   where
     is : byte text (ramEnd text) ≡ newline
-    is = eqb-true _ _ (and-right (ramKey text && not (eqb (byte text 4) 48) && leb 1 (ramWords text) && leb (ramWords text) 32768) _ good)
+    is = eqb-true _ _ (and-right (ramKey text && not (eqb (byte text 4) (code "0")) && leb 1 (ramWords text) && leb (ramWords text) 32768) _ good)
 
     by-order : Dec (ramEnd text < length text) → ramEnd text < length text
     by-order (yes within) = within
@@ -144,8 +145,8 @@ pub ramWords-le : (text : List ℕ) → ramLine text ≡ true → ramWords text 
 unfolding ramLine
 ramWords-le text good =
     leb-true _ _
-    (and-right (ramKey text && not (eqb (byte text 4) 48) && leb 1 (ramWords text)) _
-    (and-left (ramKey text && not (eqb (byte text 4) 48) && leb 1 (ramWords text) && leb (ramWords text) 32768) _ good))
+    (and-right (ramKey text && not (eqb (byte text 4) (code "0")) && leb 1 (ramWords text)) _
+    (and-left (ramKey text && not (eqb (byte text 4) (code "0")) && leb 1 (ramWords text) && leb (ramWords text) 32768) _ good))
 
 pub ramRead-of-words : (text : List ℕ) (words start : ℕ) → Ram.Words words start ≡ ramRead text → RamIs text words start
 unfolding ramRead

@@ -1,6 +1,7 @@
 -- Laws of a card's lines: what is read of the first, and the first bad one of the others.
 use mathlib.Core.Path.{_≡_, refl, sym, ap, _∙_}
 use Prim.Native.Nat.{ℕ, zero, suc, _+_, _*_, _-_, _<_, _≤_}
+use Prim.Native.Char.{code}
 use native.Mathlib.Nat.{add-zero}
 use native.Mathlib.Decide.{decLt}
 use native.Mathlib.Omega.{arith}
@@ -11,14 +12,14 @@ use lib.Dec.{eqb}
 use lib.ListN.{length, getD, List·getD-eq-default}
 use Rattle.word.specs.Choice.{if_then_else_}
 use Rattle.word.proofs.ChoiceLaws.{and-none}
-use Rattle.card_reading.specs.Text.{equals, byte, hexDigit}
+use Rattle.card_reading.specs.Text.{newline, equals, byte, hexDigit}
 use Rattle.card_reading.specs.RamLine.{digits, ramKey}
 use Rattle.card_reading.specs.Keys.{letter}
 use Rattle.card_reading.specs.Reading.{keyAt, wordAt, keyLine, badFrom}
 
 pub ramKey-of-parts : (text : List ℕ) (a b c d : ℕ)
     → a ≡ getD text 0 0 → b ≡ getD text 1 0 → c ≡ getD text 2 0 → d ≡ getD text 3 0
-    → (eqb a 114 && eqb b 97 && eqb c 109 && eqb d 61) ≡ ramKey text
+    → (eqb a (code "r") && eqb b (code "a") && eqb c (code "m") && eqb d equals) ≡ ramKey text
 unfolding ramKey
 ramKey-of-parts text a b c d is-a is-b is-c is-d = rw (is-a, is-b, is-c, is-d)
 
@@ -37,7 +38,7 @@ wordAt-of-parts text at a b c d is-a is-b is-c is-d = rw (is-a, is-b, is-c, is-d
 
 pub keyLine-of-parts : (text : List ℕ) (at key : ℕ) (named digits : Bool)
     → named ≡ keyAt text at key → digits ≡ wordAt text (at + 5)
-    → (named && eqb (getD text (at + 4) 0) 61 && digits && eqb (getD text (at + 9) 0) 10) ≡ keyLine text at key
+    → (named && eqb (getD text (at + 4) 0) equals && digits && eqb (getD text (at + 9) 0) newline) ≡ keyLine text at key
 unfolding keyLine
 keyLine-of-parts text at key named digits is-named is-digits = rw (is-named, is-digits)
 

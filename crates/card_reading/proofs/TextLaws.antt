@@ -1,6 +1,7 @@
 -- Laws of digits: which bytes they are, and what they are worth.
 use mathlib.Core.Path.{_≡_, sym, _∙_}
 use Prim.Native.Nat.{ℕ, _+_, _*_, _-_, _<_, _≤_}
+use Prim.Native.Char.{code}
 use native.Mathlib.Omega.{arith}
 use mathlib.Core.Bool.{Bool, true, false, _||_}
 use mathlib.Core.List.{List}
@@ -11,38 +12,38 @@ use Rattle.word.proofs.ChoiceLaws.{and-left, and-right}
 use Rattle.card_reading.specs.Text.{decimalDigit, capital, hexDigit, hexValue, hexWord}
 
 module _ (byte : ℕ) (digit : Bool) (is : digit ≡ decimalDigit byte) (holds : digit ≡ true) where
-  pub decimalDigit-ge : 48 ≤ byte
-  unfolding decimalDigit
-  decimalDigit-ge = leb-true 48 byte (and-left (leb 48 byte) (leb byte 57) (sym is ∙ holds))
+  pub decimalDigit-holds : decimalDigit byte ≡ true
+  decimalDigit-holds = sym is ∙ holds
 
-  pub decimalDigit-le : byte ≤ 57
+  pub decimalDigit-ge : code "0" ≤ byte
   unfolding decimalDigit
-  decimalDigit-le = leb-true byte 57 (and-right (leb 48 byte) (leb byte 57) (sym is ∙ holds))
+  decimalDigit-ge = leb-true (code "0") byte (and-left (leb (code "0") byte) (leb byte (code "9")) (sym is ∙ holds))
 
-  pub hexValue-when-decimal : byte - 48 ≡ hexValue byte
+  pub decimalDigit-le : byte ≤ code "9"
+  unfolding decimalDigit
+  decimalDigit-le = leb-true byte (code "9") (and-right (leb (code "0") byte) (leb byte (code "9")) (sym is ∙ holds))
+
+  pub hexValue-when-decimal : byte - code "0" ≡ hexValue byte
   unfolding hexValue
   hexValue-when-decimal = rw (← is, holds)
 
-  pub decimal-lt : byte - 48 < 16
+  pub decimal-lt : byte - code "0" < 16
   decimal-lt = omega (arith, decimalDigit-ge, decimalDigit-le)
 
 module _ (byte : ℕ) (digit letter : Bool) (is : digit ≡ decimalDigit byte) (fails : digit ≡ false) (is-letter : letter ≡ capital byte) where
-  pub capital-ge : letter ≡ true → 65 ≤ byte
+  pub capital-ge : letter ≡ true → code "A" ≤ byte
   unfolding capital
-  capital-ge holds = leb-true 65 byte (and-left (leb 65 byte) (leb byte 70) (sym is-letter ∙ holds))
+  capital-ge holds = leb-true (code "A") byte (and-left (leb (code "A") byte) (leb byte (code "F")) (sym is-letter ∙ holds))
 
-  pub capital-le : letter ≡ true → byte ≤ 70
+  pub capital-le : letter ≡ true → byte ≤ code "F"
   unfolding capital
-  capital-le holds = leb-true byte 70 (and-right (leb 65 byte) (leb byte 70) (sym is-letter ∙ holds))
+  capital-le holds = leb-true byte (code "F") (and-right (leb (code "A") byte) (leb byte (code "F")) (sym is-letter ∙ holds))
 
-  pub capital-far : letter ≡ true → 55 ≤ byte
-  capital-far holds = omega (arith, capital-ge holds)
-
-  pub hexValue-when-capital : letter ≡ true → byte - 55 ≡ hexValue byte
+  pub hexValue-when-capital : letter ≡ true → byte - code "A" + 10 ≡ hexValue byte
   unfolding hexValue
   hexValue-when-capital holds = rw (← is, fails, ← is-letter, holds)
 
-  pub capital-lt : letter ≡ true → byte - 55 < 16
+  pub capital-lt : letter ≡ true → byte - code "A" + 10 < 16
   capital-lt holds = omega (arith, capital-ge holds, capital-le holds)
 
   pub hexValue-when-none : letter ≡ false → 0 ≡ hexValue byte

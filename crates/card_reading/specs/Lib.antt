@@ -1,4 +1,6 @@
--- What a reader must believe of the reading of a bench card, in the order of paper 01.
+-- What a reader must believe of the reading of a bench card, in the order of paper 01; then how the code hands on the
+-- first line.
+pub mod Letters
 pub mod Text
 pub mod RamLine
 pub mod Keys

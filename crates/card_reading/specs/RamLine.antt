@@ -1,5 +1,6 @@
 -- Paper 01, "The bench card": the first line.
 use Prim.Native.Nat.{ℕ, _+_, _*_, _-_}
+use Prim.Native.Char.{code}
 use mathlib.Core.Bool.{Bool, not, _&&_}
 use mathlib.Core.List.{List, [], _∷_}
 use lib.Dec.{eqb, leb}
@@ -12,9 +13,12 @@ unfoldable pub digits : (text : List ℕ) → List ℕ
 digits [] = []
 digits (byte ∷ rest) = if decimalDigit byte then byte ∷ digits rest else []
 
+abbrev pub withDigit : (before byte : ℕ) → ℕ
+withDigit before byte = before * 10 + (byte - code "0")
+
 unfoldable pub spelled : (before : ℕ) → (digits : List ℕ) → ℕ
 spelled before [] = before
-spelled before (byte ∷ rest) = spelled (before * 10 + (byte - 48)) rest
+spelled before (byte ∷ rest) = spelled (withDigit before byte) rest
 
 abbrev pub ramWords : (text : List ℕ) → ℕ
 ramWords text = spelled 0 (digits (drop 4 text))
@@ -26,16 +30,16 @@ ramEnd text = 4 + length (digits (drop 4 text))
 -- the line begins with `ram=`
 unfoldable pub ramKey : (text : List ℕ) → Bool
 ramKey text =
-    eqb (byte text 0) 114
-    && eqb (byte text 1) 97
-    && eqb (byte text 2) 109
+    eqb (byte text 0) (code "r")
+    && eqb (byte text 1) (code "a")
+    && eqb (byte text 2) (code "m")
     && eqb (byte text 3) equals
 
 -- its key, no 0 first, a number from 1 to 32768, and the newline
 unfoldable pub ramLine : (text : List ℕ) → Bool
 ramLine text =
     ramKey text
-    && not (eqb (byte text 4) 48)
+    && not (eqb (byte text 4) (code "0"))
     && leb 1 (ramWords text)
     && leb (ramWords text) 32768
     && eqb (byte text (ramEnd text)) newline

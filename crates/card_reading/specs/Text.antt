@@ -1,5 +1,6 @@
--- Bytes of a text, by their numbers: digits read, digits printed.
+-- Bytes of a text: digits read, digits printed.
 use Prim.Native.Nat.{ℕ, _+_, _*_, _-_, _/_, _%_}
+use Prim.Native.Char.{code}
 use mathlib.Core.Bool.{Bool, _&&_, _||_}
 use mathlib.Core.List.{List, [], _∷_, _++_}
 use lib.Dec.{leb}
@@ -7,13 +8,13 @@ use lib.ListN.{getD}
 use Rattle.word.specs.Choice.{if_then_else_}
 
 abbrev pub newline : ℕ
-newline = 10
+newline = code "\n"
 
 abbrev pub equals : ℕ
-equals = 61
+equals = code "="
 
 abbrev pub colon : ℕ
-colon = 58
+colon = code ":"
 
 -- the byte at a place; past the end 0, which no good line has
 abbrev pub byte : (text : List ℕ) → (at : ℕ) → ℕ
@@ -21,19 +22,19 @@ byte text at = getD text at 0
 
 -- 0 to 9
 unfoldable pub decimalDigit : (byte : ℕ) → Bool
-decimalDigit byte = leb 48 byte && leb byte 57
+decimalDigit byte = leb (code "0") byte && leb byte (code "9")
 
 -- A to F
 unfoldable pub capital : (byte : ℕ) → Bool
-capital byte = leb 65 byte && leb byte 70
+capital byte = leb (code "A") byte && leb byte (code "F")
 
 unfoldable pub hexDigit : (byte : ℕ) → Bool
 hexDigit byte = decimalDigit byte || capital byte
 
 unfoldable pub hexValue : (byte : ℕ) → ℕ
 hexValue byte =
-    if decimalDigit byte then byte - 48 else
-    if capital byte then byte - 55 else
+    if decimalDigit byte then byte - code "0" else
+    if capital byte then byte - code "A" + 10 else
     0
 
 -- the word that four hex digits from a place on spell
@@ -46,7 +47,7 @@ hexWord text at =
 
 -- a digit as it is printed
 unfoldable pub glyph : (digit : ℕ) → ℕ
-glyph digit = if leb digit 9 then 48 + digit else 55 + digit
+glyph digit = if leb digit 9 then code "0" + digit else code "A" + (digit - 10)
 
 unfoldable pub hex4 : ℕ → List ℕ
 hex4 n = glyph (n / 4096 % 16) ∷ glyph (n / 256 % 16) ∷ glyph (n / 16 % 16) ∷ glyph (n % 16) ∷ []

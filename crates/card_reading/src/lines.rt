@@ -1,8 +1,10 @@
 // A card's lines.
 ghost use mathlib.Core.Path.{_≡_};
-ghost use Prim.Native.Nat.{_*_, _+_, _-_, _<_, _≤_};
+ghost use Prim.Native.Nat.{_+_, _<_, _≤_};
+ghost use mathlib.Core.Bool.{true};
 ghost use lib.ListN.{length};
-ghost use Rattle.card_reading.specs.RamLine.{ramKey};
+ghost use Rattle.card_reading.specs.Text.{decimalDigit};
+ghost use Rattle.card_reading.specs.RamLine.{withDigit, ramKey};
 ghost use Rattle.card_reading.specs.Keys.{letter};
 ghost use Rattle.card_reading.specs.Reading.{keyAt, wordAt, keyLine, badFrom};
 ghost use Rattle.card_reading.specs.Ram.{ramRead, ramEnded};
@@ -37,10 +39,10 @@ fn ram_ended(text: &[u8], at: usize, words: u32) -> Ram
 }
 
 fn with_digit(words: u32, digit: u8) -> u32
-    requires { ⌜ (words ≤ 32768) × (48 ≤ digit) × (digit ≤ 57) ⌝ }
-    ensures { λ next. ⌜ next ≡ words * 10 + (digit - 48) ⌝ }
+    requires { ⌜ (words ≤ 32768) × (decimalDigit digit ≡ true) ⌝ }
+    ensures { λ next. ⌜ next ≡ withDigit words digit ⌝ }
 {
-    words * 10 + (digit - 48) as u32
+    words * 10 + (digit - b'0') as u32
 }
 
 // The digits are read only as long as the number is small enough.

@@ -16,13 +16,13 @@ pub fn byte(text: &[u8], at: usize) -> u8
 pub fn decimal_digit(byte: u8) -> bool
     ensures { λ digit. ⌜ digit ≡ decimalDigit byte ⌝ }
 {
-    (48 <= byte) & (byte <= 57)
+    (b'0' <= byte) & (byte <= b'9')
 }
 
 fn capital(byte: u8) -> bool
     ensures { λ letter. ⌜ letter ≡ capital byte ⌝ }
 {
-    (65 <= byte) & (byte <= 70)
+    (b'A' <= byte) & (byte <= b'F')
 }
 
 pub fn hex_digit(byte: u8) -> bool
@@ -36,10 +36,10 @@ fn hex_value(byte: u8) -> u16
     ensures { λ value. ⌜ value < 16 ⌝ }
 {
     if decimal_digit(byte) {
-        return (byte - 48) as u16;
+        return (byte - b'0') as u16;
     }
     if capital(byte) {
-        return (byte - 55) as u16;
+        return (byte - b'A' + 10) as u16;
     }
     0
 }

@@ -1,6 +1,7 @@
 -- Laws of what is printed: digits, numbers and lines, out of their pieces.
 use mathlib.Core.Path.{_≡_, sym, ap, ap₂, _∙_}
-use Prim.Native.Nat.{ℕ, suc, _+_, _*_, _/_, _%_, _<_, _≤_}
+use Prim.Native.Nat.{ℕ, suc, _+_, _-_, _*_, _/_, _%_, _<_, _≤_}
+use Prim.Native.Char.{code}
 use native.Mathlib.Omega.{arith}
 use mathlib.Core.List.{List, [], _∷_}
 use borrow.Author.Tests.{le-leb, lt-leb, eq-eqb, ne-eqb}
@@ -13,11 +14,11 @@ use Rattle.card_text.specs.Printing.{answerIs, storedIs, zeroIs, dptIs, 
 use Rattle.card_text.specs.Card.{Written, written, writing}
 use Rattle.card_text.proofs.WritingLaws.{writing-of-none, writing-of-append, writing-then}
 
-pub glyph-when-decimal : (digit : ℕ) → digit ≤ 9 → 48 + digit ≡ glyph digit
+pub glyph-when-decimal : (digit : ℕ) → digit ≤ 9 → code "0" + digit ≡ glyph digit
 unfolding glyph
 glyph-when-decimal digit small = rw (le-leb digit 9 small)
 
-pub glyph-when-letter : (digit : ℕ) → 9 < digit → 55 + digit ≡ glyph digit
+pub glyph-when-letter : (digit : ℕ) → 9 < digit → code "A" + (digit - 10) ≡ glyph digit
 unfolding glyph
 glyph-when-letter digit large = rw (lt-leb digit 9 large)
 
@@ -121,17 +122,17 @@ changed-done memory place end whole past so-far =
     ∙ sym (ap (λ (rest : List ℕ). writing (changed place rest) end) (drop-of-length-le memory past))
     ∙ so-far
 
-pub printedRun-of-pieces : (number stored zero : ℕ) (memory file : List ℕ) (before one two three four five : Written)
-    → zero ≡ getD file flag 0
+pub printedRun-of-pieces : (number stored flagged : ℕ) (memory file : List ℕ) (before one two three four five : Written)
+    → flagged ≡ getD file flag 0
     → one ≡ writing (numberLine answerIs number) before → two ≡ writing (numberLine storedIs stored) one
-    → three ≡ writing (numberLine zeroIs zero) two → four ≡ writing (dptLine file) three → five ≡ writing (changed 0 memory) four
+    → three ≡ writing (numberLine zeroIs flagged) two → four ≡ writing (dptLine file) three → five ≡ writing (changed 0 memory) four
     → five ≡ writing (printedRun (ended number 0 (machine memory file stored))) before
 unfolding printedRun
-printedRun-of-pieces number stored zero memory file before one two three four five is first second third fourth fifth =
+printedRun-of-pieces number stored flagged memory file before one two three four five is first second third fourth fifth =
     rw (← is)
     (writing-then (numberLine answerIs number) _ before one five first
     (writing-then (numberLine storedIs stored) _ one two five second
-    (writing-then (numberLine zeroIs zero) _ two three five third
+    (writing-then (numberLine zeroIs flagged) _ two three five third
     (writing-then (dptLine file) _ three four five fourth fifth))))
 
 pub printedBad-of-pieces : (line : ℕ) (before one two : Written)

@@ -6,26 +6,26 @@ use lib.ListN.{getD}
 use Rattle.word.specs.Choice.{if_then_else_}
 use Rattle.file.specs.Places.{pointerD, flag}
 use Rattle.runner.specs.Run.{End}
-use Rattle.card_reading.specs.Text.{newline, equals, colon, hex4, hex5, decimal}
+use Rattle.card_reading.specs.Letters.{bytes}
+use Rattle.card_reading.specs.Text.{newline, colon, hex4, hex5, decimal}
 
--- answer= stored= zero= dpt= word= line=
 abbrev pub answerIs : List ℕ
-answerIs = 97 ∷ 110 ∷ 115 ∷ 119 ∷ 101 ∷ 114 ∷ equals ∷ []
+answerIs = bytes "answer="
 
 abbrev pub storedIs : List ℕ
-storedIs = 115 ∷ 116 ∷ 111 ∷ 114 ∷ 101 ∷ 100 ∷ equals ∷ []
+storedIs = bytes "stored="
 
 abbrev pub zeroIs : List ℕ
-zeroIs = 122 ∷ 101 ∷ 114 ∷ 111 ∷ equals ∷ []
+zeroIs = bytes "zero="
 
 abbrev pub dptIs : List ℕ
-dptIs = 100 ∷ 112 ∷ 116 ∷ equals ∷ []
+dptIs = bytes "dpt="
 
 abbrev pub wordIs : List ℕ
-wordIs = 119 ∷ 111 ∷ 114 ∷ 100 ∷ equals ∷ []
+wordIs = bytes "word="
 
 abbrev pub lineIs : List ℕ
-lineIs = 108 ∷ 105 ∷ 110 ∷ 101 ∷ equals ∷ []
+lineIs = bytes "line="
 
 -- a line with a number
 unfoldable pub numberLine : (is : List ℕ) → ℕ → List ℕ

@@ -1,4 +1,4 @@
-// The bench card: its blit run, and what it prints, on lent bytes.
+// The bench card on lent bytes: its text read, its job run, and what that gives and leaves printed.
 mod printing;
 mod start;
 
@@ -16,9 +16,9 @@ use card_reading::types::Ram;
 // Runs a job on memory whose word i starts as i, and registers that start as zero, and prints what it gives and leaves.
 fn run_on(ram: &mut [u16], job: &[u16], out: &mut [u8]) -> usize
     requires { ⌜ length (now ram) ≤ 32768 ⌝ }
-    ensures { λ length. ⌜
-        written length (now (out .exit))
-        ≡ writing (printedRun (run (counted 0 (lib.ListN.length (now (ram .entry)))) (zeros fileLength) (now (job .entry)))) (written 0 (now (out .entry))) ⌝ }
+    ensures { λ to. ⌜
+        written to (now (out .exit))
+        ≡ writing (printedRun (run (counted 0 (length (now (ram .entry)))) (zeros fileLength) (now (job .entry)))) (written 0 (now (out .entry))) ⌝ }
 {
     crate::start::count(ram);
     let mut file = [0u16; file::WORDS];
@@ -38,8 +38,8 @@ fn room() -> [u16; 32768]
 // A good card: its job, run on so many words of memory.
 fn good(text: &[u8], start: usize, words: u32, out: &mut [u8]) -> usize
     requires { ⌜ (start + 200 ≤ length (now text)) × (words ≤ 32768) ⌝ }
-    ensures { λ length. ⌜
-        written length (now (out .exit))
+    ensures { λ to. ⌜
+        written to (now (out .exit))
         ≡ writing (printedRun (run (counted 0 words) (zeros fileLength) (writes (now (text .entry)) start writeOrder))) (written 0 (now (out .entry))) ⌝ }
 {
     let mut job = [0u16; 40];
@@ -51,8 +51,8 @@ fn good(text: &[u8], start: usize, words: u32, out: &mut [u8]) -> usize
 // Prints what a card's text asks for into an output, and answers the length of what it prints.
 // What doesn't fit into the output isn't written; what it doesn't reach stays.
 pub fn card(text: &[u8], out: &mut [u8]) -> usize
-    ensures { λ length. ⌜
-        written length (now (out .exit))
+    ensures { λ to. ⌜
+        written to (now (out .exit))
         ≡ writing (printed (now (text .entry))) (written 0 (now (out .entry))) ⌝ }
 {
     match card_reading::lines::ram_line(text) {

@@ -47,9 +47,9 @@ fn glyph(digit: u32) -> u8
     ensures { λ byte. ⌜ byte ≡ glyph digit ⌝ }
 {
     if digit <= 9 {
-        return 48 + digit as u8;
+        return b'0' + digit as u8;
     }
-    55 + digit as u8
+    b'A' + (digit - 10) as u8
 }
 
 fn put_leading(out: &mut [u8], at: usize, power: u32, n: u32) -> usize
@@ -114,8 +114,8 @@ fn dpt_line(out: &mut [u8], at: usize, file: &[u16]) -> usize
         ≡ writing (dptLine (now (file .entry))) (written at (now (out .entry))) ⌝ }
     ensures { λ to. ⌜ to ≡ at + 10 ⌝ }
 {
-    let high = word::memory::read(file, 10) as u32;
-    let low = word::memory::read(file, 11) as u32;
+    let high = word::memory::read(file, file::POINTER_D) as u32;
+    let low = word::memory::read(file, file::POINTER_D + 1) as u32;
     let address = put_text(out, at, b"dpt=");
     let end = put_hex5(out, address, high * 65536 + low);
     put(out, end, b'\n')

@@ -4,7 +4,7 @@ use Prim.Native.Nat.{_+_, _-_, _≤_}
 use lib.ListN.{length, drop}
 use Rattle.card_reading.specs.RamLine.{digits, spelled, ramWords, ramEnd}
 use Rattle.card_reading.proofs.RamLaws.{digits-when-other, spelled-turn, digits-turn, digits-at-end, ramRead-when-keyless, ramRead-when-zero, ramRead-when-large, ramRead-when-ended}
-use Rattle.card_reading.proofs.TextLaws.{decimalDigit-ge, decimalDigit-le}
+use Rattle.card_reading.proofs.TextLaws.{decimalDigit-holds}
 use borrow.Author.Tests.{not-true, not-false}
 use borrow.Author.Needs.{needs}
 use Rattle.card_reading.proofs.lines.ram_line.Statement.{statement}
@@ -48,7 +48,7 @@ returns-3 : tie.Need-returns-3 Inv-loop μ-loop
 returns-3 c = search (ramRead-when-ended, digits-when-other, not-true, not-false)
 
 with-digit-requires : tie.Need-with-digit-requires Inv-loop μ-loop
-with-digit-requires c κs = (search needs, search (decimalDigit-ge, not-false), search (decimalDigit-le, not-false))
+with-digit-requires c κs = (search needs, search (decimalDigit-holds, not-false))
 
 returns-4 : tie.Need-returns-4 Inv-loop μ-loop
 returns-4 c = search (ramRead-when-large, not-false)

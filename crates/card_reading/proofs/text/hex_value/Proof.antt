@@ -1,5 +1,5 @@
 -- `card_reading::text::hex_value` meets its contract, for a digit, a capital and any other byte.
-use Rattle.card_reading.proofs.TextLaws.{decimalDigit-ge, hexValue-when-decimal, decimal-lt, capital-far, hexValue-when-capital, capital-lt, hexValue-when-none}
+use Rattle.card_reading.proofs.TextLaws.{decimalDigit-ge, hexValue-when-decimal, decimal-lt, capital-ge, capital-le, hexValue-when-capital, capital-lt, hexValue-when-none}
 use borrow.Author.Needs.{needs}
 use Rattle.card_reading.proofs.text.hex_value.Statement.{statement}
 use Rattle.card_reading.proofs.text.hex_value.Tie as tie
@@ -20,7 +20,10 @@ capital-requires : tie.Need-capital-requires
 capital-requires c κs = search needs
 
 sub-result-2 : tie.Need-sub-result-2
-sub-result-2 c = search (needs, capital-far)
+sub-result-2 c = search (needs, capital-ge)
+
+add-result : tie.Need-add-result
+add-result c = search (needs, capital-ge, capital-le)
 
 cast-result-2 : tie.Need-cast-result-2
 cast-result-2 c = search needs
@@ -41,6 +44,7 @@ hex-value-spec =
     returns
     capital-requires
     sub-result-2
+    add-result
     cast-result-2
     returns-2
     returns-3)

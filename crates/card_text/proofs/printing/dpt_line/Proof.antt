@@ -10,6 +10,9 @@ read-requires c κs = search needs
 cast-high : tie.Need-cast-high
 cast-high c = search needs
 
+add-read : tie.Need-add-read
+add-read c = search needs
+
 read-requires-2 : tie.Need-read-requires-2
 read-requires-2 c κs = search needs
 
@@ -46,6 +49,7 @@ dpt-line-spec =
     (tie.spec
     read-requires
     cast-high
+    add-read
     read-requires-2
     cast-low
     slice-aggregate-put-text

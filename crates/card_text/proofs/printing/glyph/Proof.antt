@@ -13,6 +13,9 @@ add-result c = search needs
 returns : tie.Need-returns
 returns c = search glyph-when-decimal
 
+sub-result : tie.Need-sub-result
+sub-result c = search needs
+
 cast-result-2 : tie.Need-cast-result-2
 cast-result-2 c = search needs
 
@@ -24,4 +27,4 @@ returns-2 c = search glyph-when-letter
 
 pub glyph-spec : {M : Type 1} → statement M
 glyph-spec =
-    tie.close (tie.spec cast-result add-result returns cast-result-2 add-result-2 returns-2)
+    tie.close (tie.spec cast-result add-result returns sub-result cast-result-2 add-result-2 returns-2)

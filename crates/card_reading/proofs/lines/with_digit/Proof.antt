@@ -1,0 +1,23 @@
+-- `card_reading::lines::with_digit` meets its contract: a digit is no less than 0's byte, and the number stays small.
+use Rattle.card_reading.proofs.TextLaws.{decimalDigit-ge}
+use borrow.Author.Needs.{needs}
+use Rattle.card_reading.proofs.lines.with_digit.Statement.{statement}
+use Rattle.card_reading.proofs.lines.with_digit.Tie as tie
+
+mul-result : tie.Need-mul-result
+mul-result c = search needs
+
+sub-result : tie.Need-sub-result
+sub-result c = search (needs, decimalDigit-ge)
+
+cast-result : tie.Need-cast-result
+cast-result c = search needs
+
+add-result : tie.Need-add-result
+add-result c = search needs
+
+returns : tie.Need-returns
+returns c = search needs
+
+pub with-digit-spec : {M : Type 1} → statement M
+with-digit-spec = tie.close (tie.spec mul-result sub-result cast-result add-result returns)

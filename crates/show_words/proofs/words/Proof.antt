@@ -1,0 +1,50 @@
+-- `show_words::words` is safe: the place stays below 262,144.
+use Prim.Native.Nat.{_<_}
+use borrow.Author.Needs.{needs}
+use Rattle.show_words.proofs.words.Statement.{statement}
+use Rattle.show_words.proofs.words.Tie as tie
+
+abbrev Inv-loop : tie.InvT-loop
+Inv-loop run from count more₀ at₀ more at = at < 262144
+
+abbrev μ-loop : tie.MeasureT-loop
+μ-loop run from count more₀ at₀ more at = more
+
+loop-holds : tie.Need-loop-holds Inv-loop μ-loop
+loop-holds c = search needs
+
+read-requires : tie.Need-read-requires Inv-loop μ-loop
+read-requires c κs = search needs
+
+hex-requires : tie.Need-hex-requires Inv-loop μ-loop
+hex-requires c κs = search needs
+
+add-at : tie.Need-add-at Inv-loop μ-loop
+add-at c = search needs
+
+sub-more : tie.Need-sub-more Inv-loop μ-loop
+sub-more c = search needs
+
+loop-less : tie.Need-loop-less Inv-loop μ-loop
+loop-less c = search needs
+
+loop-again : tie.Need-loop-again Inv-loop μ-loop
+loop-again c = search needs
+
+returns : tie.Need-returns Inv-loop μ-loop
+returns c = search needs
+
+pub words-spec : {M : Type 1} → statement M
+words-spec =
+    tie.close
+    (tie.spec
+    Inv-loop
+    μ-loop
+    loop-holds
+    read-requires
+    hex-requires
+    add-at
+    sub-more
+    loop-less
+    loop-again
+    returns)

@@ -23,7 +23,7 @@ use Rattle.straight.specs.Fits.{Fits}
 use Rattle.straight.specs.Fold.{folded, Folds, Rests, AtRest}
 use Rattle.straight.specs.Sets.{Alone}
 use Rattle.straight.proofs.FoldLaws.{alone-final, alone-next}
-use Rattle.straight.proofs.AlongLaws.{differs, given-used, given-unused, filled-off, straight-turn}
+use Rattle.straight.proofs.AlongLaws.{differs, sourceAt-used, sourceAt-unused, filled-off, straight-turn}
 
 -- a word of the middle of a row, in either direction, with any fill
 pub alone-turn : (n last i : ℕ) (setup : Setup) (base : Flow) (memory : List ℕ) (two : Two) (start line after : Line) (a shiftedA word : ℕ) (made : Filled) (whole : State)
@@ -51,9 +51,9 @@ alone-turn n last i setup base memory two start line after a shiftedA word made 
     let next : i + 1 ≡ suc i = omega arith in
     rw next
     (straight-turn n (last + 1) i setup base memory line after a (line .sources .b) (line .sources .c) (made .word) false fits (omega arith)
-    (gives ∙ given-used (setup .uses .a) memory (place (setup .direction) (base .pointers .a .word) i) (line .sources .a) (set-of .0))
-    (given-unused (setup .uses .b) memory (place (setup .direction) (base .pointers .b .word) i) (line .sources .b) (set-of .1))
-    (given-unused (setup .uses .c) memory (place (setup .direction) (base .pointers .c .word) i) (line .sources .c) (set-of .2))
+    (gives ∙ sourceAt-used (setup .uses .a) memory (place (setup .direction) (base .pointers .a .word) i) (line .sources .a) (set-of .0))
+    (sourceAt-unused (setup .uses .b) memory (place (setup .direction) (base .pointers .b .word) i) (line .sources .b) (set-of .1))
+    (sourceAt-unused (setup .uses .c) memory (place (setup .direction) (base .pointers .c .word) i) (line .sources .c) (set-of .2))
     (differs (last + 1 - i) (last + 1) (λ same. absurd (omega arith)))
     (ap (λ (made : Filled). made .word) final)
     (alone-next setup two false false a a shiftedA word made line after folds rest refl shifts joins fills hands)

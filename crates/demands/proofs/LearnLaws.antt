@@ -49,24 +49,24 @@ mayUse-covers known file agrees = by-known (knownAt known control0) refl
     by-known Known.Unknown is = record { a = λ used. refl; b = λ used. refl; c = λ used. refl; d = λ used. refl }
 
 -- what the blit writes back and what is forgotten
-agrees-of-forgetUsed : (known : List Known) (file : List ℕ) (may uses : Uses) (at : Pointers) (given : Sources) → Covers may uses
-    → Agrees known file → Agrees (forgetUsed may known) (putSources uses given (putPointers uses at file))
+agrees-of-forgetUsed : (known : List Known) (file : List ℕ) (may uses : Uses) (at : Pointers) (sources : Sources) → Covers may uses
+    → Agrees known file → Agrees (forgetUsed may known) (putSources uses sources (putPointers uses at file))
 unfolding forgetUsed putSources putPointers
-agrees-of-forgetUsed known file may uses at given covers agrees =
-    agrees-of-source _ _ (may .c) (uses .c) sourceC (given .c) (covers .c)
-    (agrees-of-source _ _ (may .b) (uses .b) sourceB (given .b) (covers .b)
-    (agrees-of-source _ _ (may .a) (uses .a) sourceA (given .a) (covers .a)
+agrees-of-forgetUsed known file may uses at sources covers agrees =
+    agrees-of-source _ _ (may .c) (uses .c) sourceC (sources .c) (covers .c)
+    (agrees-of-source _ _ (may .b) (uses .b) sourceB (sources .b) (covers .b)
+    (agrees-of-source _ _ (may .a) (uses .a) sourceA (sources .a) (covers .a)
     (agrees-of-pointer _ _ (may .d) (uses .d) pointerD (at .d) (covers .d)
     (agrees-of-pointer _ _ (may .c) (uses .c) pointerC (at .c) (covers .c)
     (agrees-of-pointer _ _ (may .b) (uses .b) pointerB (at .b) (covers .b)
     (agrees-of-pointer known file (may .a) (uses .a) pointerA (at .a) (covers .a) agrees))))))
 
 -- a blit that is refused writes nothing back
-agrees-of-nothing : (known : List Known) (file : List ℕ) (may : Uses) (at : Pointers) (given : Sources)
+agrees-of-nothing : (known : List Known) (file : List ℕ) (may : Uses) (at : Pointers) (sources : Sources)
     → Agrees known file → Agrees (forgetUsed may known) file
 unfolding putSources putPointers putSource putPointer
-agrees-of-nothing known file may at given agrees =
-    agrees-of-forgetUsed known file may (record { a = false; b = false; c = false; d = false }) at given
+agrees-of-nothing known file may at sources agrees =
+    agrees-of-forgetUsed known file may (record { a = false; b = false; c = false; d = false }) at sources
     (record { a = λ used. never used; b = λ used. never used; c = λ used. never used; d = λ used. never used }) agrees
   where
     never : {Goal : Type 0} → _≡_ {A = Bool} false true → Goal

@@ -15,7 +15,7 @@ use Rattle.straight.specs.Line.{place, nextLine, endedWord, along}
 use Rattle.straight.specs.Fits.{Fits}
 use Rattle.straight.specs.Fold.{AtRest}
 use Rattle.straight.specs.Sets.{Bare}
-use Rattle.straight.proofs.AlongLaws.{given-unused, ended-turn}
+use Rattle.straight.proofs.AlongLaws.{sourceAt-unused, ended-turn}
 
 same-turn : (n last i : ℕ) (setup : Setup) (base : Flow) (memory : List ℕ) (line : Line) (end : Ended) (whole : State)
     → Bare (setup .uses) → Fits n setup (last + 1) (base .pointers) → 1 ≤ i → i < last
@@ -26,9 +26,9 @@ same-turn : (n last i : ℕ) (setup : Setup) (base : Flow) (memory : List ℕ) (
     ≡ whole
 same-turn n last i setup base memory line end whole set-of fits some more ends here =
     ended-turn n last i setup base memory line (line .sources) end whole fits some more
-    (given-unused (setup .uses .a) memory (place (setup .direction) (base .pointers .a .word) i) (line .sources .a) (set-of .0))
-    (given-unused (setup .uses .b) memory (place (setup .direction) (base .pointers .b .word) i) (line .sources .b) (set-of .1))
-    (given-unused (setup .uses .c) memory (place (setup .direction) (base .pointers .c .word) i) (line .sources .c) (set-of .2))
+    (sourceAt-unused (setup .uses .a) memory (place (setup .direction) (base .pointers .a .word) i) (line .sources .a) (set-of .0))
+    (sourceAt-unused (setup .uses .b) memory (place (setup .direction) (base .pointers .b .word) i) (line .sources .b) (set-of .1))
+    (sourceAt-unused (setup .uses .c) memory (place (setup .direction) (base .pointers .c .word) i) (line .sources .c) (set-of .2))
     ends here
 
 pub same-turn-up : (n last i : ℕ) (setup : Setup) (base : Flow) (memory : List ℕ) (line : Line) (end : Ended) (whole : State)

@@ -1,5 +1,6 @@
 // Text, and words as hex digits or as dots and hashes, written to standard output, for programs that are run and compared.
 use libc::STDOUT_FILENO;
+use word::pointer::POINTER_END;
 
 pub fn text(bytes: &[u8]) {
     io::write_all(STDOUT_FILENO, bytes);
@@ -33,10 +34,10 @@ pub fn hex(word: u16) {
 // So many words from a place on.
 pub fn words(run: &[u16], from: u32, count: u32) {
     let mut more = count % 65536;
-    let mut at = from % 262144;
+    let mut at = from % POINTER_END;
     while 0 < more {
         hex(word::memory::read(run, at));
-        at = (at + 1) % 262144;
+        at = (at + 1) % POINTER_END;
         more = more - 1;
     }
 }

@@ -28,7 +28,7 @@ use Rattle.area.specs.Move.{stepped, moveOn}
 use Rattle.area.specs.Rows.{finishedWord, storedBefore, oneWord, words}
 use Rattle.straight.specs.declared.types.Line.{Line}
 use Rattle.straight.specs.declared.types.Ended.{Ended}
-use Rattle.straight.specs.Line.{place, gone, given, finalOf, nextLine, endedWord, opened, along, ended}
+use Rattle.straight.specs.Line.{place, gone, sourceAt, finalOf, nextLine, endedWord, opened, along, ended}
 use Rattle.straight.specs.Fits.{Inside, Apart, SourceFits, SourcesFit, Fits, ClearOf, Clear}
 use Rattle.straight.proofs.EarlyLaws.{words-early}
 
@@ -112,13 +112,13 @@ module _ (setup : Setup) (width remaining : ℕ) (base : Flow) (i : ℕ) (memory
       more stored words = omega arith
 
 -- what a source gives, by its place
-given-at : (direction : Direction) (used : Bool) (width n i d : ℕ) (memory : List ℕ) (pointer : Pointer) (source : ℕ)
+sourceAt-at : (direction : Direction) (used : Bool) (width n i d : ℕ) (memory : List ℕ) (pointer : Pointer) (source : ℕ)
     → SourceFits n direction used width d (pointer .word) → n ≤ 262144 → i < width
-    → fetched used memory (gone direction used i pointer) source ≡ given used memory (place direction (pointer .word) i) source
-unfolding fetched given
-given-at direction true width n i d memory pointer source fits most few =
+    → fetched used memory (gone direction used i pointer) source ≡ sourceAt used memory (place direction (pointer .word) i) source
+unfolding fetched sourceAt
+sourceAt-at direction true width n i d memory pointer source fits most few =
     ap (λ (place : ℕ). getD memory place 0) (gone-at direction i width n pointer (fits refl .0) most few)
-given-at direction false width n i d memory pointer source fits most few = refl
+sourceAt-at direction false width n i d memory pointer source fits most few = refl
 
 pub place-at : (direction : Direction) (used : Bool) (width n i : ℕ) (pointer : Pointer) → used ≡ true
     → Inside n direction width (pointer .word) → n ≤ 262144 → i < width
@@ -155,9 +155,9 @@ more-words setup width (suc remaining) now more clear = words-early setup width 
 -- a turn of a straight loop, not the row's last: the word is stored at once, and the row goes on as it would
 module _ (n width i : ℕ) (setup : Setup) (base : Flow) (memory : List ℕ) (line after : Line) (a b c word : ℕ) (first : Bool)
     (fits : Fits n setup width (base .pointers)) (more : suc i < width)
-    (gives-a : a ≡ given (setup .uses .a) memory (place (setup .direction) (base .pointers .a .word) i) (line .sources .a))
-    (gives-b : b ≡ given (setup .uses .b) memory (place (setup .direction) (base .pointers .b .word) i) (line .sources .b))
-    (gives-c : c ≡ given (setup .uses .c) memory (place (setup .direction) (base .pointers .c .word) i) (line .sources .c))
+    (gives-a : a ≡ sourceAt (setup .uses .a) memory (place (setup .direction) (base .pointers .a .word) i) (line .sources .a))
+    (gives-b : b ≡ sourceAt (setup .uses .b) memory (place (setup .direction) (base .pointers .b .word) i) (line .sources .b))
+    (gives-c : c ≡ sourceAt (setup .uses .c) memory (place (setup .direction) (base .pointers .c .word) i) (line .sources .c))
     (is-first : eqb (width - i) width ≡ first)
     (finishes : word ≡ finalOf setup first false (record { a = a; b = b; c = c }) line .word)
     (hands : after ≡ nextLine setup first false (record { a = a; b = b; c = c }) line) where
@@ -172,15 +172,15 @@ module _ (n width i : ℕ) (setup : Setup) (base : Flow) (memory : List ℕ) (li
 
   fetches-a : fetched (setup .uses .a) memory (gone (setup .direction) (setup .uses .a) i (base .pointers .a)) (line .sources .a) ≡ a
   unfolding Fits SourcesFit
-  fetches-a = given-at (setup .direction) (setup .uses .a) width n i (base .pointers .d .word) memory (base .pointers .a) (line .sources .a) (fits .3 .0) (fits .0) (omega arith) ∙ sym gives-a
+  fetches-a = sourceAt-at (setup .direction) (setup .uses .a) width n i (base .pointers .d .word) memory (base .pointers .a) (line .sources .a) (fits .3 .0) (fits .0) (omega arith) ∙ sym gives-a
 
   fetches-b : fetched (setup .uses .b) memory (gone (setup .direction) (setup .uses .b) i (base .pointers .b)) (line .sources .b) ≡ b
   unfolding Fits SourcesFit
-  fetches-b = given-at (setup .direction) (setup .uses .b) width n i (base .pointers .d .word) memory (base .pointers .b) (line .sources .b) (fits .3 .1) (fits .0) (omega arith) ∙ sym gives-b
+  fetches-b = sourceAt-at (setup .direction) (setup .uses .b) width n i (base .pointers .d .word) memory (base .pointers .b) (line .sources .b) (fits .3 .1) (fits .0) (omega arith) ∙ sym gives-b
 
   fetches-c : fetched (setup .uses .c) memory (gone (setup .direction) (setup .uses .c) i (base .pointers .c)) (line .sources .c) ≡ c
   unfolding Fits SourcesFit
-  fetches-c = given-at (setup .direction) (setup .uses .c) width n i (base .pointers .d .word) memory (base .pointers .c) (line .sources .c) (fits .3 .2) (fits .0) (omega arith) ∙ sym gives-c
+  fetches-c = sourceAt-at (setup .direction) (setup .uses .c) width n i (base .pointers .d .word) memory (base .pointers .c) (line .sources .c) (fits .3 .2) (fits .0) (omega arith) ∙ sym gives-c
 
   stores : storePending (oneWord setup width remaining (state memory (along setup base i line))) ≡ stored
   unfolding Fits
@@ -235,17 +235,17 @@ one-done setup now last =
     rw remaining
 
 -- a source that is used, or not
-pub given-used : (used : Bool) (memory : List ℕ) (place source : ℕ) → used ≡ true → getD memory place 0 ≡ given used memory place source
-unfolding given
-given-used used memory place source uses = rw uses
+pub sourceAt-used : (used : Bool) (memory : List ℕ) (place source : ℕ) → used ≡ true → getD memory place 0 ≡ sourceAt used memory place source
+unfolding sourceAt
+sourceAt-used used memory place source uses = rw uses
 
-pub given-unused : (used : Bool) (memory : List ℕ) (place source : ℕ) → used ≡ false → source ≡ given used memory place source
-unfolding given
-given-unused used memory place source idle = rw idle
+pub sourceAt-unused : (used : Bool) (memory : List ℕ) (place source : ℕ) → used ≡ false → source ≡ sourceAt used memory place source
+unfolding sourceAt
+sourceAt-unused used memory place source idle = rw idle
 
 -- past the end of memory a source gives nought
-pub given-past : (used : Bool) (memory : List ℕ) (at source : ℕ) → used ≡ true → length memory ≤ at → 0 ≡ given used memory at source
-given-past used memory at source uses past = sym (List·getD-eq-default memory 0 past) ∙ given-used used memory at source uses
+pub sourceAt-past : (used : Bool) (memory : List ℕ) (at source : ℕ) → used ≡ true → length memory ≤ at → 0 ≡ sourceAt used memory at source
+sourceAt-past used memory at source uses past = sym (List·getD-eq-default memory 0 past) ∙ sourceAt-used used memory at source uses
 
 pub filled-off : (fill : Fill) (carry word : ℕ) → fill ≡ Off → record { word = word; carry = carry } ≡ filled fill carry word
 unfolding filled
@@ -254,9 +254,9 @@ filled-off fill carry word off = rw off
 -- a turn by a word's whole answer, in the middle of a row
 pub ended-turn : (n last i : ℕ) (setup : Setup) (base : Flow) (memory : List ℕ) (line : Line) (sources : Sources) (end : Ended) (whole : State)
     → Fits n setup (last + 1) (base .pointers) → 1 ≤ i → i < last
-    → sources .a ≡ given (setup .uses .a) memory (place (setup .direction) (base .pointers .a .word) i) (line .sources .a)
-    → sources .b ≡ given (setup .uses .b) memory (place (setup .direction) (base .pointers .b .word) i) (line .sources .b)
-    → sources .c ≡ given (setup .uses .c) memory (place (setup .direction) (base .pointers .c .word) i) (line .sources .c)
+    → sources .a ≡ sourceAt (setup .uses .a) memory (place (setup .direction) (base .pointers .a .word) i) (line .sources .a)
+    → sources .b ≡ sourceAt (setup .uses .b) memory (place (setup .direction) (base .pointers .b .word) i) (line .sources .b)
+    → sources .c ≡ sourceAt (setup .uses .c) memory (place (setup .direction) (base .pointers .c .word) i) (line .sources .c)
     → end ≡ endedWord setup false false sources line
     → words setup (last + 1) (last + 1 - i) (state memory (along setup base i line)) ≡ whole
     → words setup (last + 1) (last + 1 - (i + 1))
@@ -287,9 +287,9 @@ place-first Descending from = omega arith
 -- the first word of a row
 module _ (n last : ℕ) (setup : Setup) (base : Flow) (memory : List ℕ) (sources : Sources) (end : Ended)
     (none : base .pending ≡ nothing) (fits : Fits n setup (last + 1) (base .pointers)) (some : 1 ≤ last)
-    (gives-a : sources .a ≡ given (setup .uses .a) memory (base .pointers .a .word) (base .sources .a))
-    (gives-b : sources .b ≡ given (setup .uses .b) memory (base .pointers .b .word) (base .sources .b))
-    (gives-c : sources .c ≡ given (setup .uses .c) memory (base .pointers .c .word) (base .sources .c))
+    (gives-a : sources .a ≡ sourceAt (setup .uses .a) memory (base .pointers .a .word) (base .sources .a))
+    (gives-b : sources .b ≡ sourceAt (setup .uses .b) memory (base .pointers .b .word) (base .sources .b))
+    (gives-c : sources .c ≡ sourceAt (setup .uses .c) memory (base .pointers .c .word) (base .sources .c))
     (ends : end ≡ endedWord setup true false sources (opened base)) where
   pub first-turn : words setup (last + 1) last (state (set memory (base .pointers .d .word) (end .word)) (along setup base 1 (end .line)))
       ≡ words setup (last + 1) (last + 1) (state memory base)
@@ -322,18 +322,18 @@ module _ (n last : ℕ) (setup : Setup) (base : Flow) (memory : List ℕ) (sourc
 -- the last word of a row waits
 module _ (n last : ℕ) (setup : Setup) (base : Flow) (memory : List ℕ) (line : Line) (sources : Sources) (end : Ended)
     (fits : Fits n setup (last + 1) (base .pointers)) (some : 1 ≤ last)
-    (gives-a : sources .a ≡ given (setup .uses .a) memory (place (setup .direction) (base .pointers .a .word) last) (line .sources .a))
-    (gives-b : sources .b ≡ given (setup .uses .b) memory (place (setup .direction) (base .pointers .b .word) last) (line .sources .b))
-    (gives-c : sources .c ≡ given (setup .uses .c) memory (place (setup .direction) (base .pointers .c .word) last) (line .sources .c))
+    (gives-a : sources .a ≡ sourceAt (setup .uses .a) memory (place (setup .direction) (base .pointers .a .word) last) (line .sources .a))
+    (gives-b : sources .b ≡ sourceAt (setup .uses .b) memory (place (setup .direction) (base .pointers .b .word) last) (line .sources .b))
+    (gives-c : sources .c ≡ sourceAt (setup .uses .c) memory (place (setup .direction) (base .pointers .c .word) last) (line .sources .c))
     (ends : end ≡ endedWord setup false true sources line) where
   pub last-waits : words setup (last + 1) 1 (state memory (along setup base last line)) ≡ state memory (ended setup last base end)
   unfolding repeated Fits SourcesFit endedWord ended nextLine
   last-waits =
       let not-first : eqb (0 + 1) (last + 1) ≡ false = differs (0 + 1) (last + 1) (λ same. absurd (omega arith)) in
       along-waits setup (last + 1) 0 base last memory line sources
-      (given-at (setup .direction) (setup .uses .a) (last + 1) n last (base .pointers .d .word) memory (base .pointers .a) (line .sources .a) (fits .3 .0) (fits .0) (omega arith) ∙ sym gives-a)
-      (given-at (setup .direction) (setup .uses .b) (last + 1) n last (base .pointers .d .word) memory (base .pointers .b) (line .sources .b) (fits .3 .1) (fits .0) (omega arith) ∙ sym gives-b)
-      (given-at (setup .direction) (setup .uses .c) (last + 1) n last (base .pointers .d .word) memory (base .pointers .c) (line .sources .c) (fits .3 .2) (fits .0) (omega arith) ∙ sym gives-c)
+      (sourceAt-at (setup .direction) (setup .uses .a) (last + 1) n last (base .pointers .d .word) memory (base .pointers .a) (line .sources .a) (fits .3 .0) (fits .0) (omega arith) ∙ sym gives-a)
+      (sourceAt-at (setup .direction) (setup .uses .b) (last + 1) n last (base .pointers .d .word) memory (base .pointers .b) (line .sources .b) (fits .3 .1) (fits .0) (omega arith) ∙ sym gives-b)
+      (sourceAt-at (setup .direction) (setup .uses .c) (last + 1) n last (base .pointers .d .word) memory (base .pointers .c) (line .sources .c) (fits .3 .2) (fits .0) (omega arith) ∙ sym gives-c)
       ∙ rw (not-first, ends)
 
 -- a row: its first word, the words between, its last word

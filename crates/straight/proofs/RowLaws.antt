@@ -17,11 +17,11 @@ use Rattle.area.specs.Rows.{words}
 use Rattle.straight.specs.declared.types.Line.{Line}
 use Rattle.straight.specs.declared.types.Ended.{Ended}
 use Rattle.straight.specs.declared.types.Two.{Two}
-use Rattle.straight.specs.Line.{place, Reaches, given, nextLine, endedWord, opened, along, ended}
+use Rattle.straight.specs.Line.{place, Reaches, sourceAt, nextLine, endedWord, opened, along, ended}
 use Rattle.straight.specs.Fits.{Inside, SourcesFit, Fits}
 use Rattle.straight.specs.Fold.{Folds, Rests, AtRest}
 use Rattle.straight.specs.Sets.{Alone, Bare}
-use Rattle.straight.proofs.AlongLaws.{given-used, given-unused, first-turn, last-waits}
+use Rattle.straight.proofs.AlongLaws.{sourceAt-used, sourceAt-unused, first-turn, last-waits}
 
 pub fits-kept : (n m width : ℕ) (setup : Setup) (pointers : Pointers) → n ≡ m → Fits m setup width pointers → Fits n setup width pointers
 fits-kept n m width setup pointers same fits = rw same fits
@@ -72,9 +72,9 @@ module _ (n last : ℕ) (setup : Setup) (base : Flow) (memory after : List ℕ) 
     (some : 1 ≤ last) (none : base .pending ≡ nothing) (fits : Fits n setup (last + 1) (base .pointers))
     (opens : start ≡ opened base) (stores : after ≡ set memory (base .pointers .d .word) (end .word)) where
   begins : (sources : Sources)
-      → sources .a ≡ given (setup .uses .a) memory (base .pointers .a .word) (base .sources .a)
-      → sources .b ≡ given (setup .uses .b) memory (base .pointers .b .word) (base .sources .b)
-      → sources .c ≡ given (setup .uses .c) memory (base .pointers .c .word) (base .sources .c)
+      → sources .a ≡ sourceAt (setup .uses .a) memory (base .pointers .a .word) (base .sources .a)
+      → sources .b ≡ sourceAt (setup .uses .b) memory (base .pointers .b .word) (base .sources .b)
+      → sources .c ≡ sourceAt (setup .uses .c) memory (base .pointers .c .word) (base .sources .c)
       → end ≡ endedWord setup true false sources start
       → words setup (last + 1) last (state after (along setup base 1 (end .line))) ≡ words setup (last + 1) (last + 1) (state memory base)
   begins sources a b c ends =
@@ -87,9 +87,9 @@ module _ (n last : ℕ) (setup : Setup) (base : Flow) (memory after : List ℕ) 
   same-first set-of ends =
       let sources : start .sources ≡ base .sources = ap (λ (line : Line). line .sources) opens in
       begins (start .sources)
-      (ap (λ (sources : Sources). sources .a) sources ∙ given-unused (setup .uses .a) memory (base .pointers .a .word) (base .sources .a) (set-of .0))
-      (ap (λ (sources : Sources). sources .b) sources ∙ given-unused (setup .uses .b) memory (base .pointers .b .word) (base .sources .b) (set-of .1))
-      (ap (λ (sources : Sources). sources .c) sources ∙ given-unused (setup .uses .c) memory (base .pointers .c .word) (base .sources .c) (set-of .2))
+      (ap (λ (sources : Sources). sources .a) sources ∙ sourceAt-unused (setup .uses .a) memory (base .pointers .a .word) (base .sources .a) (set-of .0))
+      (ap (λ (sources : Sources). sources .b) sources ∙ sourceAt-unused (setup .uses .b) memory (base .pointers .b .word) (base .sources .b) (set-of .1))
+      (ap (λ (sources : Sources). sources .c) sources ∙ sourceAt-unused (setup .uses .c) memory (base .pointers .c .word) (base .sources .c) (set-of .2))
       ends
 
   pub alone-first : (a : ℕ) → Alone (setup .uses) → a ≡ getD memory (base .pointers .a .word) 0
@@ -99,24 +99,24 @@ module _ (n last : ℕ) (setup : Setup) (base : Flow) (memory after : List ℕ) 
   alone-first a set-of reads ends =
       let sources : start .sources ≡ base .sources = ap (λ (line : Line). line .sources) opens in
       begins (record { a = a; b = start .sources .b; c = start .sources .c })
-      (reads ∙ given-used (setup .uses .a) memory (base .pointers .a .word) (base .sources .a) (set-of .0))
-      (ap (λ (sources : Sources). sources .b) sources ∙ given-unused (setup .uses .b) memory (base .pointers .b .word) (base .sources .b) (set-of .1))
-      (ap (λ (sources : Sources). sources .c) sources ∙ given-unused (setup .uses .c) memory (base .pointers .c .word) (base .sources .c) (set-of .2))
+      (reads ∙ sourceAt-used (setup .uses .a) memory (base .pointers .a .word) (base .sources .a) (set-of .0))
+      (ap (λ (sources : Sources). sources .b) sources ∙ sourceAt-unused (setup .uses .b) memory (base .pointers .b .word) (base .sources .b) (set-of .1))
+      (ap (λ (sources : Sources). sources .c) sources ∙ sourceAt-unused (setup .uses .c) memory (base .pointers .c .word) (base .sources .c) (set-of .2))
       ends
 
   pub three-first : (sources : Sources)
-      → (sources .a ≡ given (setup .uses .a) memory (base .pointers .a .word + 0) (start .sources .a))
-      → (sources .b ≡ given (setup .uses .b) memory (base .pointers .b .word + 0) (start .sources .b))
-      → (sources .c ≡ given (setup .uses .c) memory (base .pointers .c .word + 0) (start .sources .c))
+      → (sources .a ≡ sourceAt (setup .uses .a) memory (base .pointers .a .word + 0) (start .sources .a))
+      → (sources .b ≡ sourceAt (setup .uses .b) memory (base .pointers .b .word + 0) (start .sources .b))
+      → (sources .c ≡ sourceAt (setup .uses .c) memory (base .pointers .c .word + 0) (start .sources .c))
       → end ≡ endedWord setup true false sources start
       → words setup (last + 1) last (state after (along setup base 1 (end .line))) ≡ words setup (last + 1) (last + 1) (state memory base)
   unfolding opened
   three-first sources a b c ends =
       let held : start .sources ≡ base .sources = ap (λ (line : Line). line .sources) opens in
       begins sources
-      (a ∙ ap₂ (λ (at : ℕ) (sources : Sources). given (setup .uses .a) memory at (sources .a)) (add-zero (base .pointers .a .word)) held)
-      (b ∙ ap₂ (λ (at : ℕ) (sources : Sources). given (setup .uses .b) memory at (sources .b)) (add-zero (base .pointers .b .word)) held)
-      (c ∙ ap₂ (λ (at : ℕ) (sources : Sources). given (setup .uses .c) memory at (sources .c)) (add-zero (base .pointers .c .word)) held)
+      (a ∙ ap₂ (λ (at : ℕ) (sources : Sources). sourceAt (setup .uses .a) memory at (sources .a)) (add-zero (base .pointers .a .word)) held)
+      (b ∙ ap₂ (λ (at : ℕ) (sources : Sources). sourceAt (setup .uses .b) memory at (sources .b)) (add-zero (base .pointers .b .word)) held)
+      (c ∙ ap₂ (λ (at : ℕ) (sources : Sources). sourceAt (setup .uses .c) memory at (sources .c)) (add-zero (base .pointers .c .word)) held)
       ends
 
 -- the last word of each set's row
@@ -126,9 +126,9 @@ module _ (n last : ℕ) (setup : Setup) (base : Flow) (memory : List ℕ) (line 
       → words setup (last + 1) 1 (state memory (along setup base last line)) ≡ state memory (ended setup last base end)
   same-last set-of ends =
       last-waits n last setup base memory line (line .sources) end fits some
-      (given-unused (setup .uses .a) memory (place (setup .direction) (base .pointers .a .word) last) (line .sources .a) (set-of .0))
-      (given-unused (setup .uses .b) memory (place (setup .direction) (base .pointers .b .word) last) (line .sources .b) (set-of .1))
-      (given-unused (setup .uses .c) memory (place (setup .direction) (base .pointers .c .word) last) (line .sources .c) (set-of .2))
+      (sourceAt-unused (setup .uses .a) memory (place (setup .direction) (base .pointers .a .word) last) (line .sources .a) (set-of .0))
+      (sourceAt-unused (setup .uses .b) memory (place (setup .direction) (base .pointers .b .word) last) (line .sources .b) (set-of .1))
+      (sourceAt-unused (setup .uses .c) memory (place (setup .direction) (base .pointers .c .word) last) (line .sources .c) (set-of .2))
       ends
 
   pub alone-last : (at a : ℕ) → Alone (setup .uses)
@@ -138,15 +138,15 @@ module _ (n last : ℕ) (setup : Setup) (base : Flow) (memory : List ℕ) (line 
   alone-last at a set-of places reads ends =
       last-waits n last setup base memory line (record { a = a; b = line .sources .b; c = line .sources .c }) end fits some
       (reads ∙ ap (λ (at : ℕ). getD memory at 0) places
-      ∙ given-used (setup .uses .a) memory (place (setup .direction) (base .pointers .a .word) last) (line .sources .a) (set-of .0))
-      (given-unused (setup .uses .b) memory (place (setup .direction) (base .pointers .b .word) last) (line .sources .b) (set-of .1))
-      (given-unused (setup .uses .c) memory (place (setup .direction) (base .pointers .c .word) last) (line .sources .c) (set-of .2))
+      ∙ sourceAt-used (setup .uses .a) memory (place (setup .direction) (base .pointers .a .word) last) (line .sources .a) (set-of .0))
+      (sourceAt-unused (setup .uses .b) memory (place (setup .direction) (base .pointers .b .word) last) (line .sources .b) (set-of .1))
+      (sourceAt-unused (setup .uses .c) memory (place (setup .direction) (base .pointers .c .word) last) (line .sources .c) (set-of .2))
       ends
 
   pub three-last : (sources : Sources) → setup .direction ≡ Ascending
-      → sources .a ≡ given (setup .uses .a) memory (base .pointers .a .word + last) (line .sources .a)
-      → sources .b ≡ given (setup .uses .b) memory (base .pointers .b .word + last) (line .sources .b)
-      → sources .c ≡ given (setup .uses .c) memory (base .pointers .c .word + last) (line .sources .c)
+      → sources .a ≡ sourceAt (setup .uses .a) memory (base .pointers .a .word + last) (line .sources .a)
+      → sources .b ≡ sourceAt (setup .uses .b) memory (base .pointers .b .word + last) (line .sources .b)
+      → sources .c ≡ sourceAt (setup .uses .c) memory (base .pointers .c .word + last) (line .sources .c)
       → end ≡ endedWord setup false true sources line
       → words setup (last + 1) 1 (state memory (along setup base last line)) ≡ state memory (ended setup last base end)
   three-last sources way a b c ends = last-waits n last setup base memory line sources end fits some (rw way a) (rw way b) (rw way c) ends

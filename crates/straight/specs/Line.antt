@@ -38,8 +38,8 @@ gone direction used zero pointer = pointer
 gone direction used (suc words) pointer = stepped direction used (gone direction used words pointer)
 
 -- what a source gives, fetched at a place if it is used
-unfoldable pub given : (used : Bool) → (memory : List ℕ) → (place source : ℕ) → ℕ
-given used memory place source = if used then getD memory place 0 else source
+unfoldable pub sourceAt : (used : Bool) → (memory : List ℕ) → (place source : ℕ) → ℕ
+sourceAt used memory place source = if used then getD memory place 0 else source
 
 -- A as masked, and the final word of three sources
 abbrev pub maskedOf : Setup → (first last : Bool) → (a : ℕ) → ℕ

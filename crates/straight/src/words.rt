@@ -4,7 +4,7 @@ ghost use Prim.Native.Nat.{_+_, _<_};
 ghost use lib.Bits.{bitOr};
 ghost use Rattle.word.specs.declared.types.Direction.the-variants.{Ascending};
 ghost use Rattle.word.specs.declared.types.Fill.the-variants.{Off};
-ghost use Rattle.straight.specs.Line.{Reaches, place, given, maskedOf, opened, endedWord};
+ghost use Rattle.straight.specs.Line.{Reaches, place, sourceAt, maskedOf, opened, endedWord};
 ghost use Rattle.straight.specs.Fold.{Folds, Rests};
 use crate::types::Ended;
 use crate::types::Line;
@@ -139,8 +139,8 @@ pub fn place(direction: Direction, from: u32, i: u32) -> u32
 }
 
 // What a source gives at word i of a row that goes up.
-pub fn given(used: bool, ram: &[u16], from: u32, i: u32, source: u16) -> u16
-    ensures { λ word. ⌜ word ≡ given used (now (ram .entry)) (from + i) source ⌝ }
+pub fn source_at(used: bool, ram: &[u16], from: u32, i: u32, source: u16) -> u16
+    ensures { λ word. ⌜ word ≡ sourceAt used (now (ram .entry)) (from + i) source ⌝ }
 {
     if used {
         let at = from as usize + i as usize;

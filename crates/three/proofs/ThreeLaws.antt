@@ -12,15 +12,15 @@ use Rattle.area.specs.Flow.{State, state}
 use Rattle.area.specs.Rows.{words}
 use Rattle.straight.specs.declared.types.Line.{Line}
 use Rattle.straight.specs.declared.types.Ended.{Ended}
-use Rattle.straight.specs.Line.{place, given, endedWord, along}
+use Rattle.straight.specs.Line.{place, sourceAt, endedWord, along}
 use Rattle.straight.specs.Fits.{Fits}
-use Rattle.straight.proofs.AlongLaws.{given-used, ended-turn}
+use Rattle.straight.proofs.AlongLaws.{sourceAt-used, ended-turn}
 
 pub three-turn : (n last i : ℕ) (setup : Setup) (base : Flow) (memory : List ℕ) (line : Line) (sources : Sources) (end : Ended) (whole : State)
     → setup .direction ≡ Ascending → Fits n setup (last + 1) (base .pointers) → 1 ≤ i → i < last
-    → sources .a ≡ given (setup .uses .a) memory (base .pointers .a .word + i) (line .sources .a)
-    → sources .b ≡ given (setup .uses .b) memory (base .pointers .b .word + i) (line .sources .b)
-    → sources .c ≡ given (setup .uses .c) memory (base .pointers .c .word + i) (line .sources .c)
+    → sources .a ≡ sourceAt (setup .uses .a) memory (base .pointers .a .word + i) (line .sources .a)
+    → sources .b ≡ sourceAt (setup .uses .b) memory (base .pointers .b .word + i) (line .sources .b)
+    → sources .c ≡ sourceAt (setup .uses .c) memory (base .pointers .c .word + i) (line .sources .c)
     → end ≡ endedWord setup false false sources line
     → words setup (last + 1) (last + 1 - i) (state memory (along setup base i line)) ≡ whole
     → words setup (last + 1) (last + 1 - (i + 1)) (state (set memory (base .pointers .d .word + i) (end .word)) (along setup base (i + 1) (end .line))) ≡ whole
@@ -30,5 +30,5 @@ three-turn n last i setup base memory line sources end whole way fits some more 
     (ended-turn n last i setup base memory line sources end whole fits some more (rw way gives-a) (rw way gives-b) (rw way gives-c) ends here)
 
 -- C's word, read where D's is stored
-pub given-at-d : (used : Bool) (memory : List ℕ) (c d i source : ℕ) → used ≡ true → c ≡ d → getD memory (d + i) 0 ≡ given used memory (c + i) source
-given-at-d used memory c d i source uses same = rw same (given-used used memory (d + i) source uses)
+pub sourceAt-at-d : (used : Bool) (memory : List ℕ) (c d i source : ℕ) → used ≡ true → c ≡ d → getD memory (d + i) 0 ≡ sourceAt used memory (c + i) source
+sourceAt-at-d used memory c d i source uses same = rw same (sourceAt-used used memory (d + i) source uses)

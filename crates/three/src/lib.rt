@@ -7,7 +7,7 @@ ghost use Rattle.word.specs.declared.types.Direction.the-variants.{Ascending};
 ghost use Rattle.word.specs.declared.types.Fill.the-variants.{Off};
 ghost use Rattle.area.specs.Flow.{state, nothing};
 ghost use Rattle.area.specs.Rows.{words};
-ghost use Rattle.straight.specs.Line.{given, along, ended};
+ghost use Rattle.straight.specs.Line.{sourceAt, along, ended};
 ghost use Rattle.straight.specs.Fits.{Fits};
 ghost use Rattle.straight.specs.Sets.{Three};
 use area::types::Flow;
@@ -133,17 +133,17 @@ fn middle(ram: &mut [u16], setup: Setup, last: u32, base: Flow, line: Line) -> L
 }
 
 // What the three sources give at word i of the row.
-fn sources_at(ram: &[u16], setup: Setup, base: Flow, i: u32, line: Line) -> Sources
+fn source_at(ram: &[u16], setup: Setup, base: Flow, i: u32, line: Line) -> Sources
     ensures { λ sources. ⌜
-        (sources .a ≡ given (setup .uses .a) (now (ram .entry)) (base .pointers .a .word + i) (line .sources .a))
-        × (sources .b ≡ given (setup .uses .b) (now (ram .entry)) (base .pointers .b .word + i) (line .sources .b))
-        × (sources .c ≡ given (setup .uses .c) (now (ram .entry)) (base .pointers .c .word + i) (line .sources .c)) ⌝ }
+        (sources .a ≡ sourceAt (setup .uses .a) (now (ram .entry)) (base .pointers .a .word + i) (line .sources .a))
+        × (sources .b ≡ sourceAt (setup .uses .b) (now (ram .entry)) (base .pointers .b .word + i) (line .sources .b))
+        × (sources .c ≡ sourceAt (setup .uses .c) (now (ram .entry)) (base .pointers .c .word + i) (line .sources .c)) ⌝ }
 {
     let uses = setup.uses;
     Sources {
-        a: straight::words::given(uses.a, ram, base.pointers.a.word, i, line.sources.a),
-        b: straight::words::given(uses.b, ram, base.pointers.b.word, i, line.sources.b),
-        c: straight::words::given(uses.c, ram, base.pointers.c.word, i, line.sources.c),
+        a: straight::words::source_at(uses.a, ram, base.pointers.a.word, i, line.sources.a),
+        b: straight::words::source_at(uses.b, ram, base.pointers.b.word, i, line.sources.b),
+        c: straight::words::source_at(uses.c, ram, base.pointers.c.word, i, line.sources.c),
     }
 }
 
@@ -157,7 +157,7 @@ fn first(ram: &mut [u16], setup: Setup, last: u32, base: Flow) -> Line
         ≡ words setup (last + 1) (last + 1) (state (now (ram .entry)) base) ⌝ }
 {
     let start = straight::words::opened(base);
-    let sources = sources_at(ram, setup, base, 0, start);
+    let sources = source_at(ram, setup, base, 0, start);
     let end = straight::words::upward(setup, true, false, sources, start);
     ram[base.pointers.d.word as usize] = end.word;
     let line = end.line;
@@ -173,7 +173,7 @@ fn last_word(ram: &[u16], setup: Setup, last: u32, base: Flow, line: Line) -> En
         words setup (last + 1) 1 (state (now (ram .entry)) (along setup base last line))
         ≡ state (now (ram .entry)) (ended setup last base end) ⌝ }
 {
-    let sources = sources_at(ram, setup, base, last, line);
+    let sources = source_at(ram, setup, base, last, line);
     straight::words::upward(setup, false, true, sources, line)
 }
 

@@ -6,7 +6,7 @@ use Rattle.area.specs.Flow.{state}
 use Rattle.area.specs.Rows.{words}
 use Rattle.straight.specs.Line.{along}
 use Rattle.straight.proofs.FitsLaws.{up-to-a, up-to-b, up-to-c, up-to-d}
-use Rattle.straight.proofs.AlongLaws.{given-used, one-done, one-left}
+use Rattle.straight.proofs.AlongLaws.{sourceAt-used, one-done, one-left}
 use Rattle.three.proofs.ThreeLaws.{three-turn}
 use borrow.Author.Needs.{needs}
 use Rattle.three.proofs.abc.Statement.{statement}
@@ -91,7 +91,7 @@ loop-again c = (
   c .before .before .before .before .before .before .before .before .before .before .loop .inv .5,
   c .before .before .before .before .before .before .before .before .before .before .loop .inv .6,
   three-turn _ _ (c .before .before .before .before .before .before .before .before .before .before .loop .i) _ _ (c .before .before .before .before .before .before .before .before .before .before .loop .ram) (c .before .before .before .before .before .before .before .before .before .before .loop .here) _ _ _ (c .before .before .before .before .before .before .before .before .before .before .before .before .pre .6) (c .before .before .before .before .before .before .before .before .before .before .before .before .pre .8) (c .before .before .before .before .before .before .before .before .before .before .loop .inv .0) (search (needs, c .before .before .before .before .before .before .before .before .before .loop-test .taken))
-      (given-used _ _ _ _ (c .before .before .before .before .before .before .before .before .before .before .before .before .pre .5)) (given-used _ _ _ _ (c .before .before .before .before .before .before .before .before .before .before .before .before .pre .4 .0)) (given-used _ _ _ _ (c .before .before .before .before .before .before .before .before .before .before .before .before .pre .4 .1))
+      (sourceAt-used _ _ _ _ (c .before .before .before .before .before .before .before .before .before .before .before .before .pre .5)) (sourceAt-used _ _ _ _ (c .before .before .before .before .before .before .before .before .before .before .before .before .pre .4 .0)) (sourceAt-used _ _ _ _ (c .before .before .before .before .before .before .before .before .before .before .before .before .pre .4 .1))
       (c .before .before .upward .ensures) (c .before .before .before .before .before .before .before .before .before .before .loop .inv .7),
 )
 

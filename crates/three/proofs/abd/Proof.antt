@@ -6,8 +6,8 @@ use Rattle.area.specs.Flow.{state}
 use Rattle.area.specs.Rows.{words}
 use Rattle.straight.specs.Line.{along}
 use Rattle.straight.proofs.FitsLaws.{up-to-a, up-to-b, up-to-d}
-use Rattle.straight.proofs.AlongLaws.{given-used, one-done, one-left}
-use Rattle.three.proofs.ThreeLaws.{given-at-d, three-turn}
+use Rattle.straight.proofs.AlongLaws.{sourceAt-used, one-done, one-left}
+use Rattle.three.proofs.ThreeLaws.{sourceAt-at-d, three-turn}
 use borrow.Author.Needs.{needs}
 use Rattle.three.proofs.abd.Statement.{statement}
 use Rattle.three.proofs.abd.Tie as tie
@@ -90,7 +90,7 @@ loop-again c = (
   c .before .before .before .before .before .before .before .before .before .before .loop .inv .4,
   c .before .before .before .before .before .before .before .before .before .before .loop .inv .5,
   three-turn _ _ (c .before .before .before .before .before .before .before .before .before .before .loop .i) _ _ (c .before .before .before .before .before .before .before .before .before .before .loop .ram) (c .before .before .before .before .before .before .before .before .before .before .loop .here) _ _ _ (c .before .before .before .before .before .before .before .before .before .before .before .before .pre .6) (c .before .before .before .before .before .before .before .before .before .before .before .before .pre .9) (c .before .before .before .before .before .before .before .before .before .before .loop .inv .0) (search (needs, c .before .before .before .before .before .before .before .before .before .loop-test .taken))
-      (given-used _ _ _ _ (c .before .before .before .before .before .before .before .before .before .before .before .before .pre .5)) (given-used _ _ _ _ (c .before .before .before .before .before .before .before .before .before .before .before .before .pre .4 .0)) (given-at-d _ _ _ _ _ _ (c .before .before .before .before .before .before .before .before .before .before .before .before .pre .4 .1) (c .before .before .before .before .before .before .before .before .before .before .before .before .pre .8))
+      (sourceAt-used _ _ _ _ (c .before .before .before .before .before .before .before .before .before .before .before .before .pre .5)) (sourceAt-used _ _ _ _ (c .before .before .before .before .before .before .before .before .before .before .before .before .pre .4 .0)) (sourceAt-at-d _ _ _ _ _ _ (c .before .before .before .before .before .before .before .before .before .before .before .before .pre .4 .1) (c .before .before .before .before .before .before .before .before .before .before .before .before .pre .8))
       (c .before .before .upward .ensures) (c .before .before .before .before .before .before .before .before .before .before .loop .inv .6),
 )
 

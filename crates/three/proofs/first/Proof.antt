@@ -8,8 +8,8 @@ use Rattle.three.proofs.first.Tie as tie
 opened-requires : tie.Need-opened-requires
 opened-requires c κs = search needs
 
-sources-at-requires : tie.Need-sources-at-requires
-sources-at-requires c κs = search needs
+source-at-requires : tie.Need-source-at-requires
+source-at-requires c κs = search needs
 
 upward-requires : tie.Need-upward-requires
 upward-requires c κs = search needs
@@ -34,7 +34,7 @@ first-spec =
     tie.close
     (tie.spec
     opened-requires
-    sources-at-requires
+    source-at-requires
     upward-requires
     cast-ram
     mul-ram

@@ -4,8 +4,8 @@ use borrow.Author.Needs.{needs}
 use Rattle.three.proofs.last_word.Statement.{statement}
 use Rattle.three.proofs.last_word.Tie as tie
 
-sources-at-requires : tie.Need-sources-at-requires
-sources-at-requires c κs = search needs
+source-at-requires : tie.Need-source-at-requires
+source-at-requires c κs = search needs
 
 upward-requires : tie.Need-upward-requires
 upward-requires c κs = search needs
@@ -14,4 +14,4 @@ returns : tie.Need-returns
 returns c = search three-last
 
 pub last-word-spec : {M : Type 1} → statement M
-last-word-spec = tie.close (tie.spec sources-at-requires upward-requires returns)
+last-word-spec = tie.close (tie.spec source-at-requires upward-requires returns)

@@ -12,8 +12,9 @@ use Rattle.word.specs.declared.types.Uses.{Uses}
 use Rattle.word.specs.Pointer.{high, low}
 use Rattle.word.specs.Size.{height, width}
 use Rattle.word.proofs.ChoiceLaws.{if-either}
-use Rattle.word.proofs.SizeLaws.{height-le, width-le, words-le}
+use Rattle.word.proofs.SizeLaws.{height-le, words-le}
 use Rattle.file.specs.Places.{flag}
+use Rattle.area.specs.declared.types.Pointers.{Pointers}
 use Rattle.area.specs.declared.types.Flow.{Flow}
 use Rattle.refusal.specs.declared.types.Refusal.{Refusal}
 use Rattle.refusal.specs.declared.types.Plan.{Plan}
@@ -55,7 +56,7 @@ pub writeBack-of-parts : (uses : Uses) (end : Flow) (file one two three : List �
 writeBack-of-parts uses end file one two three points sources flags = rw (flags, sources, points)
 
 -- what a blit goes by
-module _ (file : List ℕ) (size : ℕ) (by : Plan) (same : by ≡ plan file size) where
+module _ (file : List ℕ) (by : Plan) (same : by ≡ plan file) where
   pub plan-shifts-a : by .setup .shifts .a < 16
   unfolding setup shifts
   plan-shifts-a = rw same (omega arith)
@@ -64,23 +65,27 @@ module _ (file : List ℕ) (size : ℕ) (by : Plan) (same : by ≡ plan file siz
   unfolding setup shifts
   plan-shifts-b = rw same (omega arith)
 
-  pub plan-is-narrow : by .width ≤ 64
-  plan-is-narrow = rw same (width-le size)
+-- a blit starts with none stored and has at most 1,024 rows
+pub start-room : (file : List ℕ) (at : Pointers) (size rows : ℕ) (flow : Flow) → flow ≡ startFrom at (sources file) → rows ≡ height size
+    → flow .stored + rows * 64 < 4294967295
+start-room file at size rows flow starts tall = rw (starts, tall) (omega (arith, height-le size))
 
-  -- a blit starts with none stored and has at most 1,024 rows
-  pub plan-room : (flow : Flow) → flow ≡ startFrom (by .pointers) (sources file) → flow .stored + by .height * 64 < 4294967295
-  plan-room flow starts = rw (starts, same) (omega (arith, height-le size))
+pub finished-of-parts : (file : List ℕ) (by : Plan) (size wide tall : ℕ) (memory after : List ℕ) (flow end : Flow)
+    → by ≡ plan file → wide ≡ width size → tall ≡ height size
+    → flow ≡ startFrom (by .pointers) (sources file)
+    → state after end ≡ areaBlit (by .setup) wide tall (state memory flow)
+    → state after end ≡ finished memory file size
+unfolding finished start
+finished-of-parts file by size wide tall memory after flow end same widths heights starts does =
+    rw (starts, widths, heights, same) at does
 
-  pub done-of-parts : (memory after changed : List ℕ) (flow end : Flow)
-      → flow ≡ startFrom (by .pointers) (sources file)
-      → state after end ≡ areaBlit (by .setup) (by .width) (by .height) (state memory flow)
-      → changed ≡ writeBack (by .setup .uses) end file
-      → left (Done (end .stored)) after changed ≡ done file (finished memory file size)
-  unfolding done finished start
-  done-of-parts memory after changed flow end starts does writes =
-      let does-all = rw (starts, same) at does in
-      let writes-all = rw same at writes in
-      rw (← does-all, writes-all)
+pub done-of-parts : (file : List ℕ) (by : Plan) (size : ℕ) (memory after changed : List ℕ) (end : Flow)
+    → by ≡ plan file
+    → state after end ≡ finished memory file size
+    → changed ≡ writeBack (by .setup .uses) end file
+    → left (Done (end .stored)) after changed ≡ done file (finished memory file size)
+unfolding done
+done-of-parts file by size memory after changed end same does writes = rw (← does, writes, same)
 
 pub answered-when-done : (memory file after changed : List ℕ) (size stored : ℕ) (verdict : Verdict) (by : Plan)
     → verdict ≡ verdicts.Lawful by → left (Done stored) after changed ≡ done file (finished memory file size)
@@ -88,9 +93,9 @@ pub answered-when-done : (memory file after changed : List ℕ) (size stored : �
 unfolding answered
 answered-when-done memory file after changed size stored verdict by lawful does = rw lawful does
 
-pub plan-of-verdict : (file : List ℕ) (size : ℕ) (verdict : Verdict) (by : Plan) → verdict ≡ verdicts.Lawful by
-    → handed verdict (plan file size) ≡ plan file size → by ≡ plan file size
-plan-of-verdict file size verdict by lawful hands = rw lawful at hands
+pub plan-of-verdict : (file : List ℕ) (verdict : Verdict) (by : Plan) → verdict ≡ verdicts.Lawful by
+    → handed verdict (plan file) ≡ plan file → by ≡ plan file
+plan-of-verdict file verdict by lawful hands = rw lawful at hands
 
 pub answered-when-refused : (memory file : List ℕ) (size : ℕ) (why : Refusal) (verdict : Verdict)
     → verdict ≡ verdicts.Refused why → left (Refused why) memory file ≡ answered (verdictNumber verdict) memory file size

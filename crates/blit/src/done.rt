@@ -1,30 +1,45 @@
 // A blit that is done: all rows, and what is written back to the register file.
 ghost use mathlib.Core.Path.{_≡_};
+ghost use Rattle.area.specs.Flow.{state};
 ghost use Rattle.blit.specs.Blit.{finished, done, answered, left};
 ghost use Rattle.refusal.specs.Refusal.{plan, verdictNumber, handed};
 use crate::types::Answer;
+use area::types::Flow;
 use refusal::types::Plan;
 use refusal::types::Verdict;
 
-// Does a blit that nothing refuses, by its plan, and answers the count of words stored.
-fn done(ram: &mut [u16], file: &mut [u16], size: u16, by: Plan) -> u32
-    requires { ⌜ by ≡ plan (now file) size ⌝ }
-    ensures { λ stored. ⌜
-        left (Answer.Done stored) (now (ram .exit)) (now (file .exit))
-        ≡ done (now (file .entry)) (finished (now (ram .entry)) (now (file .entry)) size) ⌝ }
+// All rows of a blit that nothing refuses, by its plan.
+fn finished(ram: &mut [u16], file: &[u16], size: u16, by: Plan) -> Flow
+    requires { ⌜ by ≡ plan (now file) ⌝ }
+    ensures { λ end. ⌜ state (now (ram .exit)) end ≡ finished (now (ram .entry)) (now (file .entry)) size ⌝ }
 {
     let setup = by.setup;
     let from = by.pointers;
     let flow = area::flow::start_from(from, file);
-    let end = engine::rows::area_blit(ram, setup, by.width, by.height, flow);
-    let uses = setup.uses;
-    crate::registers::write_back(file, uses, end);
+    engine::rows::area_blit(
+        ram,
+        setup,
+        word::size::width(size),
+        word::size::height(size),
+        flow,
+    )
+}
+
+// Does it, writes back what it leaves, and answers the count of words stored.
+fn done(ram: &mut [u16], file: &mut [u16], size: u16, by: Plan) -> u32
+    requires { ⌜ by ≡ plan (now file) ⌝ }
+    ensures { λ stored. ⌜
+        left (Answer.Done stored) (now (ram .exit)) (now (file .exit))
+        ≡ done (now (file .entry)) (finished (now (ram .entry)) (now (file .entry)) size) ⌝ }
+{
+    let end = finished(ram, file, size, by);
+    crate::registers::write_back(file, by.setup.uses, end);
     end.stored
 }
 
 // Does a blit, or refuses it as the verdict says.
 pub fn answered(ram: &mut [u16], file: &mut [u16], size: u16, verdict: Verdict) -> Answer
-    requires { ⌜ handed verdict (plan (now file) size) ≡ plan (now file) size ⌝ }
+    requires { ⌜ handed verdict (plan (now file)) ≡ plan (now file) ⌝ }
     ensures { λ answer. ⌜
         left answer (now (ram .exit)) (now (file .exit))
         ≡ answered (verdictNumber verdict) (now (ram .entry)) (now (file .entry)) size ⌝ }

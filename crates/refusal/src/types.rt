@@ -15,12 +15,10 @@ pub enum Refusal {
     DLeaves,
 }
 
-// What a blit goes by, decoded once from file and size: its set-up, its pointers, its words a row and its rows.
+// What a blit goes by, decoded once from the register file: its set-up and its pointers.
 pub struct Plan {
     pub setup: Setup,
     pub pointers: Pointers,
-    pub width: u32,
-    pub height: u32,
 }
 
 // Whether a blit would be done; a lawful one hands on what it goes by.

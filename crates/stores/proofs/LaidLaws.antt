@@ -4,6 +4,7 @@ use Prim.Native.Nat.{ℕ, zero, suc, _+_, _*_, _-_, _<_, _≤_}
 use native.Mathlib.Numerals.{sub-one}
 use native.Mathlib.Omega.{arith}
 use mathlib.Core.Bool.{Bool, true, _&&_}
+use lib.Dec.{eqb}
 use mathlib.Core.List.{List, [], _∷_, _++_, map, map-append}
 use lib.ListN.{length, set, length-map}
 use Rattle.word.specs.Laid.{laid}
@@ -14,13 +15,14 @@ use Rattle.area.specs.declared.types.Setup.{Setup}
 use Rattle.area.specs.declared.types.Flow.{Flow}
 use Rattle.area.specs.Setup.{shifts, setup}
 use Rattle.area.specs.Flow.{State, state, start}
-use Rattle.area.specs.With.{withCarry}
+use Rattle.area.specs.declared.types.Finished.{Finished}
+use Rattle.area.specs.With.{withPointers, withCarry}
 use Rattle.area.specs.Fetch.{fetch}
 use Rattle.area.specs.Finish.{finish}
 use Rattle.area.specs.Store.{wait, storePending}
-use Rattle.area.specs.Move.{moveOn, rowEnd}
+use Rattle.area.specs.Move.{stepped, moveOn, rowEnd}
 use Rattle.area.specs.Rows.{finishedWord, storedBefore, oneWord, words, rowStart, oneRow, rows}
-use Rattle.area.proofs.RowsLaws.{oneRow-counts}
+use Rattle.area.proofs.RowsLaws.{fetchedOn, oneWord-of-parts, oneRow-counts}
 use Rattle.stores.specs.Stores.{Store, store, rowStores, blitStores, stores, allZero}
 use Rattle.stores.proofs.StoresLaws.{rowStores-length, rows-allzero}
 
@@ -29,21 +31,38 @@ none-is-empty : (memory : List ℕ) → length memory ≡ 0 → memory ≡ []
 none-is-empty [] none = refl
 none-is-empty (word ∷ rest) none = absurd (omega arith)
 
--- a word, done on a memory of no words: it waits, with the place that it is for
-module _ (setup : Setup) (width remaining : ℕ) (flow after : Flow) (memory : List ℕ) (none : length memory ≡ 0)
-    (does : state memory after ≡ oneWord setup width remaining (state [] flow)) where
-  pub oneWord-of-none : state [] after ≡ oneWord setup width remaining (state [] flow)
-  oneWord-of-none = ap (λ (m : List ℕ). state m after) (sym (none-is-empty memory none)) ∙ does
+-- a word, done on a memory of no words
+pub nextWord-of-parts : (setup : Setup) (width remaining : ℕ) (after : List ℕ) (flow fetched stored waiting end : Flow) (made : Finished)
+    → fetched ≡ fetchedOn (setup .direction) (setup .uses) [] flow
+    → made ≡ finish setup (eqb (remaining + 1) width) (eqb remaining 0) fetched
+    → state after stored ≡ storePending (state [] (made .flow))
+    → waiting ≡ wait (setup .uses .d) (made .word) stored
+    → end
+    ≡ withPointers
+    (record {
+      a = waiting .pointers .a;
+      b = waiting .pointers .b;
+      c = waiting .pointers .c;
+      d = stepped (setup .direction) (setup .uses .d) (waiting .pointers .d);
+    })
+    waiting
+    → length after ≡ 0
+    → state [] end ≡ oneWord setup width remaining (state [] flow)
+nextWord-of-parts setup width remaining after flow fetched stored waiting end made fetches finishes stores waits moves none =
+    ap (λ (m : List ℕ). state m end) (sym (none-is-empty after none))
+    ∙ oneWord-of-parts setup width remaining [] after flow fetched stored waiting end made fetches finishes stores waits moves
 
-  pub place-of-none : (places next : List ℕ) (at : ℕ) → next ≡ set places at (after .pending .place)
+-- it waits, with the place that it is for
+module _ (setup : Setup) (width remaining : ℕ) (flow after : Flow) (does : state [] after ≡ oneWord setup width remaining (state [] flow)) where
+  pub place-that-waits : (places next : List ℕ) (at : ℕ) → next ≡ set places at (after .pending .place)
       → next ≡ set places at (flow .pointers .d .word)
   unfolding oneWord storedBefore storePending wait moveOn finishedWord finish fetch
-  place-of-none places next at puts = puts ∙ ap (λ (end : State). set places at (end .flow .pending .place)) does
+  place-that-waits places next at puts = puts ∙ ap (λ (end : State). set places at (end .flow .pending .place)) does
 
-  pub value-of-none : (values next : List ℕ) (at : ℕ) → next ≡ set values at (after .pending .word)
+  pub word-that-waits : (values next : List ℕ) (at : ℕ) → next ≡ set values at (after .pending .word)
       → next ≡ set values at (finishedWord setup width remaining (state [] flow) .word)
   unfolding oneWord storedBefore storePending wait moveOn
-  value-of-none values next at puts = puts ∙ ap (λ (end : State). set values at (end .flow .pending .word)) does
+  word-that-waits values next at puts = puts ∙ ap (λ (end : State). set values at (end .flow .pending .word)) does
 
 -- so much of each store, its place or its value
 module _ (part : Store → ℕ) (setup : Setup) (width : ℕ) where

@@ -1,6 +1,6 @@
 -- `refusal::step_refusal` meets its contract: each test is a rule of the list, in the list's order.
 use mathlib.Core.Path.{refl}
-use Rattle.refusal.proofs.RefusalLaws.{plan-lt-a, plan-lt-b, plan-lt-c, plan-lt-d, plan-is-some, plan-is-few, handed-of-plan, refused-by-line, refused-by-both-fills, refused-by-fill-upward, refused-by-leaving}
+use Rattle.refusal.proofs.RefusalLaws.{plan-lt-a, plan-lt-b, plan-lt-c, plan-lt-d, handed-of-plan, refused-by-line, refused-by-both-fills, refused-by-fill-upward, refused-by-leaving}
 use borrow.Author.Needs.{needs}
 use Rattle.refusal.proofs.step_refusal.Statement.{statement}
 use Rattle.refusal.proofs.step_refusal.Tie as tie
@@ -30,7 +30,7 @@ plan-requires : tie.Need-plan-requires
 plan-requires c κs = search needs
 
 leaving-requires : tie.Need-leaving-requires
-leaving-requires c κs = search (plan-lt-a, plan-lt-b, plan-lt-c, plan-lt-d, plan-is-some, plan-is-few)
+leaving-requires c κs = search (plan-lt-a, plan-lt-b, plan-lt-c, plan-lt-d)
 
 returns-4 : tie.Need-returns-4
 returns-4 c = (search refused-by-leaving, search handed-of-plan)

@@ -1,14 +1,11 @@
--- `blit::done::done` meets its contract: its calls are the definition's parts, in their order.
-use Rattle.blit.proofs.BlitLaws.{plan-shifts-a, plan-shifts-b, plan-is-narrow, plan-room, done-of-parts}
+-- `blit::done::done` meets its contract: what all rows leave is written back.
+use Rattle.blit.proofs.BlitLaws.{done-of-parts}
 use borrow.Author.Needs.{needs}
 use Rattle.blit.proofs.done.done.Statement.{statement}
 use Rattle.blit.proofs.done.done.Tie as tie
 
-start-from-requires : tie.Need-start-from-requires
-start-from-requires c κs = search needs
-
-area-blit-requires : tie.Need-area-blit-requires
-area-blit-requires c κs = search (plan-shifts-a, plan-shifts-b, plan-is-narrow, plan-room)
+finished-requires : tie.Need-finished-requires
+finished-requires c κs = search needs
 
 write-back-requires : tie.Need-write-back-requires
 write-back-requires c κs = search needs
@@ -26,8 +23,7 @@ pub done-spec : {M : Type 1} → statement M
 done-spec =
     tie.close
     (tie.spec
-    start-from-requires
-    area-blit-requires
+    finished-requires
     write-back-requires
     same-length
     same-length-2

@@ -18,9 +18,6 @@ abbrev μ-loop : tie.MeasureT-loop
 loop-holds : tie.Need-loop-holds Inv-loop μ-loop
 loop-holds c = search needs
 
-satisfied-requires : tie.Need-satisfied-requires Inv-loop μ-loop
-satisfied-requires c κs = search needs
-
 returns : tie.Need-returns Inv-loop μ-loop
 returns c = search firstSatisfied-at
 
@@ -43,7 +40,7 @@ first-satisfied-spec =
     Inv-loop
     μ-loop
     loop-holds
-    satisfied-requires
+    (λ c κs. search needs)
     returns
     next-tried-requires
     loop-less

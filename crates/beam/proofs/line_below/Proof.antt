@@ -4,11 +4,8 @@ use borrow.Author.Needs.{needs}
 use Rattle.beam.proofs.line_below.Statement.{statement}
 use Rattle.beam.proofs.line_below.Tie as tie
 
-mask-requires : tie.Need-mask-requires
-mask-requires c κs = search needs
-
 returns : tie.Need-returns
 returns c = search lineBelow-of-mask
 
 pub line-below-spec : {M : Type 1} → statement M
-line-below-spec = tie.close (tie.spec mask-requires returns)
+line-below-spec = tie.close (tie.spec (λ c κs. search needs) returns)

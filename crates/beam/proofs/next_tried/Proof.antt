@@ -22,38 +22,14 @@ Inv-loop first second place bits least next₀ position₀ next position =
 abbrev μ-loop : tie.MeasureT-loop
 μ-loop first second place bits least next₀ position₀ next position = 227 - position
 
-line-below-requires : tie.Need-line-below-requires Inv-loop μ-loop
-line-below-requires c κs = search needs
-
-add-result : tie.Need-add-result Inv-loop μ-loop
-add-result c = search needs
-
-mul-result : tie.Need-mul-result Inv-loop μ-loop
-mul-result c = search needs
-
 returns : tie.Need-returns Inv-loop μ-loop
 returns c = (search needs, search needs, search firstSatisfied-past-line)
-
-mask-requires : tie.Need-mask-requires Inv-loop μ-loop
-mask-requires c κs = search needs
-
-add-next : tie.Need-add-next Inv-loop μ-loop
-add-next c = search needs
-
-add-position : tie.Need-add-position Inv-loop μ-loop
-add-position c = search needs
 
 loop-holds : tie.Need-loop-holds Inv-loop μ-loop
 loop-holds c = (search firstSatisfied-past-place, search needs, search needs, search needs, search needs, search needs)
 
 returns-2 : tie.Need-returns-2 Inv-loop μ-loop
 returns-2 c = (search needs, search needs, search needs)
-
-add-next-2 : tie.Need-add-next-2 Inv-loop μ-loop
-add-next-2 c = search needs
-
-add-position-2 : tie.Need-add-position-2 Inv-loop μ-loop
-add-position-2 c = search needs
 
 loop-less : tie.Need-loop-less Inv-loop μ-loop
 loop-less c = search needs
@@ -70,17 +46,17 @@ next-tried-spec =
     (tie.spec
     Inv-loop
     μ-loop
-    line-below-requires
-    add-result
-    mul-result
+    (λ c κs. search needs)
+    (λ c. search needs)
+    (λ c. search needs)
     returns
-    mask-requires
-    add-next
-    add-position
+    (λ c κs. search needs)
+    (λ c. search needs)
+    (λ c. search needs)
     loop-holds
     returns-2
-    add-next-2
-    add-position-2
+    (λ c. search needs)
+    (λ c. search needs)
     loop-less
     loop-again
     returns-3)

@@ -4,14 +4,8 @@ use borrow.Author.Needs.{needs}
 use Rattle.beam.proofs.satisfied.Statement.{statement}
 use Rattle.beam.proofs.satisfied.Tie as tie
 
-mask-requires : tie.Need-mask-requires
-mask-requires c κs = search needs
-
-compared-requires : tie.Need-compared-requires
-compared-requires c κs = search needs
-
 returns : tie.Need-returns
 returns c = search satisfied-of-parts
 
 pub satisfied-spec : {M : Type 1} → statement M
-satisfied-spec = tie.close (tie.spec mask-requires compared-requires returns)
+satisfied-spec = tie.close (tie.spec (λ c κs. search needs) (λ c κs. search needs) returns)

@@ -20,23 +20,11 @@ abbrev μ-loop : tie.MeasureT-loop
 loop-holds : tie.Need-loop-holds Inv-loop μ-loop
 loop-holds c = search needs
 
-sub-one-word : tie.Need-sub-one-word Inv-loop μ-loop
-sub-one-word c = search needs
-
-one-word-requires : tie.Need-one-word-requires Inv-loop μ-loop
-one-word-requires c κs = search needs
-
-sub-remaining : tie.Need-sub-remaining Inv-loop μ-loop
-sub-remaining c = search needs
-
 loop-less : tie.Need-loop-less Inv-loop μ-loop
 loop-less c = search needs
 
 loop-again : tie.Need-loop-again Inv-loop μ-loop
 loop-again c = (search repeated-turn, search words-room, search needs, search needs)
-
-same-length : tie.Need-same-length Inv-loop μ-loop
-same-length c = search needs
 
 returns : tie.Need-returns Inv-loop μ-loop
 returns c = search repeated-done
@@ -48,10 +36,10 @@ words-spec =
     Inv-loop
     μ-loop
     loop-holds
-    sub-one-word
-    one-word-requires
-    sub-remaining
+    (λ c. search needs)
+    (λ c κs. search needs)
+    (λ c. search needs)
     loop-less
     loop-again
-    same-length
+    (λ c. search needs)
     returns)

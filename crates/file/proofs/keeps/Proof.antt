@@ -27,21 +27,6 @@ abbrev μ-loop : tie.MeasureT-loop
 loop-holds : tie.Need-loop-holds Inv-loop μ-loop
 loop-holds c = (refl, search needs)
 
-cast-value : tie.Need-cast-value Inv-loop μ-loop
-cast-value c = search needs
-
-mul-value : tie.Need-mul-value Inv-loop μ-loop
-mul-value c = search needs
-
-shared-slice-read-value : tie.Need-shared-slice-read-value Inv-loop μ-loop
-shared-slice-read-value c = search needs
-
-kept-requires : tie.Need-kept-requires Inv-loop μ-loop
-kept-requires c κs = search needs
-
-add-at : tie.Need-add-at Inv-loop μ-loop
-add-at c = search needs
-
 loop-less : tie.Need-loop-less Inv-loop μ-loop
 loop-less c = search needs
 
@@ -58,11 +43,11 @@ keeps-spec =
     Inv-loop
     μ-loop
     loop-holds
-    cast-value
-    mul-value
-    shared-slice-read-value
-    kept-requires
-    add-at
+    (λ c. search needs)
+    (λ c. search needs)
+    (λ c. search needs)
+    (λ c κs. search needs)
+    (λ c. search needs)
     loop-less
     loop-again
     returns)

@@ -12,11 +12,8 @@ kept-of-bits : (place value bits : ℕ) → bits ≡ getD keptBits place 0 → b
 unfolding kept
 kept-of-bits place value bits same = rw same
 
-bits-requires : tie.Need-bits-requires
-bits-requires c κs = search needs
-
 returns : tie.Need-returns
 returns c = search kept-of-bits
 
 pub kept-spec : {M : Type 1} → statement M
-kept-spec = tie.close (tie.spec bits-requires returns)
+kept-spec = tie.close (tie.spec (λ c κs. search needs) returns)

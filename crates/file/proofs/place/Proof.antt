@@ -59,9 +59,6 @@ place-past-colours : (offset : ℕ) → 0x1BE < offset → flag ≡ place offset
 unfolding registers
 place-past-colours offset from = place-of-none (λ (at : ℕ). ltb 0x1BE at) offset tt (lt-ltb 0x1BE offset from)
 
-cast-half : tie.Need-cast-half
-cast-half c = search needs
-
 returns : tie.Need-returns
 returns c = search place-when-odd
 
@@ -71,20 +68,11 @@ returns-2 c = search place-of-copcon
 returns-3 : tie.Need-returns-3
 returns-3 c = search place-when-low
 
-sub-result : tie.Need-sub-result
-sub-result c = search needs
-
 returns-4 : tie.Need-returns-4
 returns-4 c = search place-of-control
 
 returns-5 : tie.Need-returns-5
 returns-5 c = search place-past-pointers
-
-sub-result-2 : tie.Need-sub-result-2
-sub-result-2 c = search needs
-
-add-result : tie.Need-add-result
-add-result c = search needs
 
 returns-6 : tie.Need-returns-6
 returns-6 c = search place-of-modulo
@@ -92,23 +80,11 @@ returns-6 c = search place-of-modulo
 returns-7 : tie.Need-returns-7
 returns-7 c = search place-past-modulos
 
-sub-result-3 : tie.Need-sub-result-3
-sub-result-3 c = search needs
-
-add-result-2 : tie.Need-add-result-2
-add-result-2 c = search needs
-
 returns-8 : tie.Need-returns-8
 returns-8 c = search place-of-source
 
 returns-9 : tie.Need-returns-9
 returns-9 c = search place-past-data
-
-sub-result-4 : tie.Need-sub-result-4
-sub-result-4 c = search needs
-
-add-result-3 : tie.Need-add-result-3
-add-result-3 c = search needs
 
 returns-10 : tie.Need-returns-10
 returns-10 c = search place-of-colour
@@ -120,22 +96,22 @@ pub place-spec : {M : Type 1} → statement M
 place-spec =
     tie.close
     (tie.spec
-    cast-half
+    (λ c. search needs)
     returns
     returns-2
     returns-3
-    sub-result
+    (λ c. search needs)
     returns-4
     returns-5
-    sub-result-2
-    add-result
+    (λ c. search needs)
+    (λ c. search needs)
     returns-6
     returns-7
-    sub-result-3
-    add-result-2
+    (λ c. search needs)
+    (λ c. search needs)
     returns-8
     returns-9
-    sub-result-4
-    add-result-3
+    (λ c. search needs)
+    (λ c. search needs)
     returns-10
     returns-11)

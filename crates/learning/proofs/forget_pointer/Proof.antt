@@ -4,15 +4,6 @@ use borrow.Author.Needs.{needs}
 use Rattle.learning.proofs.forget_pointer.Statement.{statement}
 use Rattle.learning.proofs.forget_pointer.Tie as tie
 
-with-requires : tie.Need-with-requires
-with-requires c κs = search needs
-
-add-with : tie.Need-add-with
-add-with c = search needs
-
-with-requires-2 : tie.Need-with-requires-2
-with-requires-2 c κs = search needs
-
 returns : tie.Need-returns
 returns c = search forgetPointer-when-used
 
@@ -20,4 +11,4 @@ returns-2 : tie.Need-returns-2
 returns-2 c = search forgetPointer-when-unused
 
 pub forget-pointer-spec : {M : Type 1} → statement M
-forget-pointer-spec = tie.close (tie.spec with-requires add-with with-requires-2 returns returns-2)
+forget-pointer-spec = tie.close (tie.spec (λ c κs. search needs) (λ c. search needs) (λ c κs. search needs) returns returns-2)

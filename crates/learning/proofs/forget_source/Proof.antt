@@ -4,9 +4,6 @@ use borrow.Author.Needs.{needs}
 use Rattle.learning.proofs.forget_source.Statement.{statement}
 use Rattle.learning.proofs.forget_source.Tie as tie
 
-with-requires : tie.Need-with-requires
-with-requires c κs = search needs
-
 returns : tie.Need-returns
 returns c = search forgetSource-when-used
 
@@ -14,4 +11,4 @@ returns-2 : tie.Need-returns-2
 returns-2 c = search forgetSource-when-unused
 
 pub forget-source-spec : {M : Type 1} → statement M
-forget-source-spec = tie.close (tie.spec with-requires returns returns-2)
+forget-source-spec = tie.close (tie.spec (λ c κs. search needs) returns returns-2)

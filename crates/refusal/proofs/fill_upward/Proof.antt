@@ -5,15 +5,6 @@ use borrow.Author.Needs.{needs}
 use Rattle.refusal.proofs.fill_upward.Statement.{statement}
 use Rattle.refusal.proofs.fill_upward.Tie as tie
 
-exclusive-fill-requires : tie.Need-exclusive-fill-requires
-exclusive-fill-requires c κs = search needs
-
-inclusive-fill-requires : tie.Need-inclusive-fill-requires
-inclusive-fill-requires c κs = search needs
-
-descending-requires : tie.Need-descending-requires
-descending-requires c κs = search needs
-
 returns : tie.Need-returns
 unfolding fillUpward
 returns c = rw (c .descending .ensures, c .before .inclusive-fill .ensures, c .before .before .exclusive-fill .ensures) refl
@@ -21,4 +12,4 @@ returns c = rw (c .descending .ensures, c .before .inclusive-fill .ensures, c .b
 pub fill-upward-spec : {M : Type 1} → statement M
 fill-upward-spec =
     tie.close
-    (tie.spec exclusive-fill-requires inclusive-fill-requires descending-requires returns)
+    (tie.spec (λ c κs. search needs) (λ c κs. search needs) (λ c κs. search needs) returns)

@@ -5,20 +5,11 @@ use borrow.Author.Needs.{needs}
 use Rattle.refusal.proofs.refusal.Statement.{statement}
 use Rattle.refusal.proofs.refusal.Tie as tie
 
-memory-size-requires : tie.Need-memory-size-requires
-memory-size-requires c κs = search needs
-
 returns : tie.Need-returns
 returns c = (search refused-by-memory, refl)
 
-accepted-requires : tie.Need-accepted-requires
-accepted-requires c κs = search needs
-
 returns-2 : tie.Need-returns-2
 returns-2 c = (search refused-by-file, refl)
-
-step-refusal-requires : tie.Need-step-refusal-requires
-step-refusal-requires c κs = search needs
 
 returns-3 : tie.Need-returns-3
 returns-3 c = (search refused-by-blit, search needs)
@@ -27,9 +18,9 @@ pub refusal-spec : {M : Type 1} → statement M
 refusal-spec =
     tie.close
     (tie.spec
-    memory-size-requires
+    (λ c κs. search needs)
     returns
-    accepted-requires
+    (λ c κs. search needs)
     returns-2
-    step-refusal-requires
+    (λ c κs. search needs)
     returns-3)

@@ -5,29 +5,14 @@ use borrow.Author.Needs.{needs}
 use Rattle.refusal.proofs.step_refusal.Statement.{statement}
 use Rattle.refusal.proofs.step_refusal.Tie as tie
 
-read-requires : tie.Need-read-requires
-read-requires c κs = search needs
-
-line-requires : tie.Need-line-requires
-line-requires c κs = search needs
-
 returns : tie.Need-returns
 returns c = (search refused-by-line, refl)
-
-both-fills-requires : tie.Need-both-fills-requires
-both-fills-requires c κs = search needs
 
 returns-2 : tie.Need-returns-2
 returns-2 c = (search refused-by-both-fills, refl)
 
-fill-upward-requires : tie.Need-fill-upward-requires
-fill-upward-requires c κs = search needs
-
 returns-3 : tie.Need-returns-3
 returns-3 c = (search refused-by-fill-upward, refl)
-
-plan-requires : tie.Need-plan-requires
-plan-requires c κs = search needs
 
 leaving-requires : tie.Need-leaving-requires
 leaving-requires c κs = search (plan-lt-a, plan-lt-b, plan-lt-c, plan-lt-d)
@@ -39,13 +24,13 @@ pub step-refusal-spec : {M : Type 1} → statement M
 step-refusal-spec =
     tie.close
     (tie.spec
-    read-requires
-    line-requires
+    (λ c κs. search needs)
+    (λ c κs. search needs)
     returns
-    both-fills-requires
+    (λ c κs. search needs)
     returns-2
-    fill-upward-requires
+    (λ c κs. search needs)
     returns-3
-    plan-requires
+    (λ c κs. search needs)
     leaving-requires
     returns-4)

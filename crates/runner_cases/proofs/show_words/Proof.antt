@@ -10,32 +10,14 @@ Inv-loop name words from to at₀ t6 at = Unit
 abbrev μ-loop : tie.MeasureT-loop
 μ-loop name words from to at₀ t6 at = to - at
 
-write-all-requires : tie.Need-write-all-requires Inv-loop μ-loop
-write-all-requires c κs = search needs
-
 loop-holds : tie.Need-loop-holds Inv-loop μ-loop
 loop-holds c = search needs
-
-read-requires : tie.Need-read-requires Inv-loop μ-loop
-read-requires c κs = search needs
-
-show-word-requires : tie.Need-show-word-requires Inv-loop μ-loop
-show-word-requires c κs = search needs
-
-add-at : tie.Need-add-at Inv-loop μ-loop
-add-at c = search needs
 
 loop-less : tie.Need-loop-less Inv-loop μ-loop
 loop-less c = search needs
 
 loop-again : tie.Need-loop-again Inv-loop μ-loop
 loop-again c = search needs
-
-slice-aggregate-write-all : tie.Need-slice-aggregate-write-all Inv-loop μ-loop
-slice-aggregate-write-all c = search needs
-
-write-all-requires-2 : tie.Need-write-all-requires-2 Inv-loop μ-loop
-write-all-requires-2 c κs = search needs
 
 returns : tie.Need-returns Inv-loop μ-loop
 returns c = search needs
@@ -46,13 +28,13 @@ show-words-spec =
     (tie.spec
     Inv-loop
     μ-loop
-    write-all-requires
+    (λ c κs. search needs)
     loop-holds
-    read-requires
-    show-word-requires
-    add-at
+    (λ c κs. search needs)
+    (λ c κs. search needs)
+    (λ c. search needs)
     loop-less
     loop-again
-    slice-aggregate-write-all
-    write-all-requires-2
+    (λ c. search needs)
+    (λ c κs. search needs)
     returns)

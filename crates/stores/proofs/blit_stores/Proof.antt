@@ -33,15 +33,6 @@ abbrev μ-loop : tie.MeasureT-loop
 loop-holds : tie.Need-loop-holds Inv-loop μ-loop
 loop-holds c = search needs
 
-one-row-stores-requires : tie.Need-one-row-stores-requires Inv-loop μ-loop
-one-row-stores-requires c κs = search needs
-
-add-to : tie.Need-add-to Inv-loop μ-loop
-add-to c = search needs
-
-sub-remaining : tie.Need-sub-remaining Inv-loop μ-loop
-sub-remaining c = search needs
-
 loop-less : tie.Need-loop-less Inv-loop μ-loop
 loop-less c = search needs
 
@@ -59,12 +50,6 @@ loop-again c =
       search needs,
     )
 
-same-length : tie.Need-same-length Inv-loop μ-loop
-same-length c = search needs
-
-same-length-2 : tie.Need-same-length-2 Inv-loop μ-loop
-same-length-2 c = search needs
-
 returns : tie.Need-returns Inv-loop μ-loop
 returns c = (search blit-done, search blit-done, search repeated-done)
 
@@ -75,11 +60,11 @@ blit-stores-spec =
     Inv-loop
     μ-loop
     loop-holds
-    one-row-stores-requires
-    add-to
-    sub-remaining
+    (λ c κs. search needs)
+    (λ c. search needs)
+    (λ c. search needs)
     loop-less
     loop-again
-    same-length
-    same-length-2
+    (λ c. search needs)
+    (λ c. search needs)
     returns)

@@ -4,18 +4,6 @@ use borrow.Author.Needs.{needs}
 use Rattle.stores.proofs.final_d.Statement.{statement}
 use Rattle.stores.proofs.final_d.Tie as tie
 
-setup-requires : tie.Need-setup-requires
-setup-requires c κs = search needs
-
-pointers-requires : tie.Need-pointers-requires
-pointers-requires c κs = search needs
-
-width-requires : tie.Need-width-requires
-width-requires c κs = search needs
-
-height-requires : tie.Need-height-requires
-height-requires c κs = search needs
-
 rows-on-requires : tie.Need-rows-on-requires
 rows-on-requires c κs = search (pointer-d-lt, width-narrow)
 
@@ -26,9 +14,9 @@ pub final-d-spec : {M : Type 1} → statement M
 final-d-spec =
     tie.close
     (tie.spec
-    setup-requires
-    pointers-requires
-    width-requires
-    height-requires
+    (λ c κs. search needs)
+    (λ c κs. search needs)
+    (λ c κs. search needs)
+    (λ c κs. search needs)
     rows-on-requires
     returns)

@@ -4,21 +4,6 @@ use borrow.Author.Needs.{needs}
 use Rattle.stores.proofs.one_store.Statement.{statement}
 use Rattle.stores.proofs.one_store.Tie as tie
 
-next-word-requires : tie.Need-next-word-requires
-next-word-requires c κs = search needs
-
-put-place-requires : tie.Need-put-place-requires
-put-place-requires c κs = search needs
-
-write-requires : tie.Need-write-requires
-write-requires c κs = search needs
-
-same-length : tie.Need-same-length
-same-length c = search needs
-
-same-length-2 : tie.Need-same-length-2
-same-length-2 c = search needs
-
 returns : tie.Need-returns
 returns c = (search place-that-waits, search word-that-waits, search needs)
 
@@ -26,9 +11,9 @@ pub one-store-spec : {M : Type 1} → statement M
 one-store-spec =
     tie.close
     (tie.spec
-    next-word-requires
-    put-place-requires
-    write-requires
-    same-length
-    same-length-2
+    (λ c κs. search needs)
+    (λ c κs. search needs)
+    (λ c κs. search needs)
+    (λ c. search needs)
+    (λ c. search needs)
     returns)

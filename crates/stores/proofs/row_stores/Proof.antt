@@ -35,18 +35,6 @@ abbrev μ-loop : tie.MeasureT-loop
 loop-holds : tie.Need-loop-holds Inv-loop μ-loop
 loop-holds c = search needs
 
-sub-one-store : tie.Need-sub-one-store Inv-loop μ-loop
-sub-one-store c = search needs
-
-one-store-requires : tie.Need-one-store-requires Inv-loop μ-loop
-one-store-requires c κs = search needs
-
-add-to : tie.Need-add-to Inv-loop μ-loop
-add-to c = search needs
-
-sub-remaining : tie.Need-sub-remaining Inv-loop μ-loop
-sub-remaining c = search needs
-
 loop-less : tie.Need-loop-less Inv-loop μ-loop
 loop-less c = search needs
 
@@ -65,12 +53,6 @@ loop-again c =
       search needs,
     )
 
-same-length : tie.Need-same-length Inv-loop μ-loop
-same-length c = search needs
-
-same-length-2 : tie.Need-same-length-2 Inv-loop μ-loop
-same-length-2 c = search needs
-
 returns : tie.Need-returns Inv-loop μ-loop
 returns c = (search row-done, search row-done, search repeated-done)
 
@@ -81,12 +63,12 @@ row-stores-spec =
     Inv-loop
     μ-loop
     loop-holds
-    sub-one-store
-    one-store-requires
-    add-to
-    sub-remaining
+    (λ c. search needs)
+    (λ c κs. search needs)
+    (λ c. search needs)
+    (λ c. search needs)
     loop-less
     loop-again
-    same-length
-    same-length-2
+    (λ c. search needs)
+    (λ c. search needs)
     returns)

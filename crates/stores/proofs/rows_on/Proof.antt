@@ -19,12 +19,6 @@ abbrev μ-loop : tie.MeasureT-loop
 loop-holds : tie.Need-loop-holds Inv-loop μ-loop
 loop-holds c = search needs
 
-next-row-requires : tie.Need-next-row-requires Inv-loop μ-loop
-next-row-requires c κs = search needs
-
-sub-remaining : tie.Need-sub-remaining Inv-loop μ-loop
-sub-remaining c = search needs
-
 loop-less : tie.Need-loop-less Inv-loop μ-loop
 loop-less c = search needs
 
@@ -41,8 +35,8 @@ rows-on-spec =
     Inv-loop
     μ-loop
     loop-holds
-    next-row-requires
-    sub-remaining
+    (λ c κs. search needs)
+    (λ c. search needs)
     loop-less
     loop-again
     returns)

@@ -12,17 +12,8 @@ set-of-word : (old target next : List ℕ) (place word : ℕ) → word ≡ getD 
     → next ≡ set target place (getD (widened old) place 0)
 set-of-word old target next place word is sets = rw (← is) sets
 
-word-at-requires : tie.Need-word-at-requires
-word-at-requires c κs = search needs
-
-write-requires : tie.Need-write-requires
-write-requires c κs = search needs
-
-same-length : tie.Need-same-length
-same-length c = search needs
-
 returns : tie.Need-returns
 returns c = search set-of-word
 
 pub lay-word-spec : {M : Type 1} → statement M
-lay-word-spec = tie.close (tie.spec word-at-requires write-requires same-length returns)
+lay-word-spec = tie.close (tie.spec (λ c κs. search needs) (λ c κs. search needs) (λ c. search needs) returns)

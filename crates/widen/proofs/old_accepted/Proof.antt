@@ -7,14 +7,8 @@ use Rattle.widen.proofs.old_accepted.Tie as tie
 returns : tie.Need-returns
 returns c = search oldAccepted-of-length
 
-keeps-requires : tie.Need-keeps-requires
-keeps-requires c κs = search needs
-
-shared-slice-read-result : tie.Need-shared-slice-read-result
-shared-slice-read-result c = search needs
-
 returns-2 : tie.Need-returns-2
 returns-2 c = search oldAccepted-of-kept
 
 pub old-accepted-spec : {M : Type 1} → statement M
-old-accepted-spec = tie.close (tie.spec returns keeps-requires shared-slice-read-result returns-2)
+old-accepted-spec = tie.close (tie.spec returns (λ c κs. search needs) (λ c. search needs) returns-2)

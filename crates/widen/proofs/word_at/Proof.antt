@@ -4,14 +4,8 @@ use borrow.Author.Needs.{needs}
 use Rattle.widen.proofs.word_at.Statement.{statement}
 use Rattle.widen.proofs.word_at.Tie as tie
 
-read-requires : tie.Need-read-requires
-read-requires c κs = search needs
-
 returns : tie.Need-returns
 returns c = search widened-of-blitter
-
-read-requires-2 : tie.Need-read-requires-2
-read-requires-2 c κs = search needs
 
 returns-2 : tie.Need-returns-2
 returns-2 c = search widened-of-flag
@@ -20,4 +14,4 @@ returns-3 : tie.Need-returns-3
 returns-3 c = search widened-of-screen
 
 pub word-at-spec : {M : Type 1} → statement M
-word-at-spec = tie.close (tie.spec read-requires returns read-requires-2 returns-2 returns-3)
+word-at-spec = tie.close (tie.spec (λ c κs. search needs) returns (λ c κs. search needs) returns-2 returns-3)

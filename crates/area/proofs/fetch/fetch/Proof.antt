@@ -5,15 +5,6 @@ use borrow.Author.Needs.{needs}
 use Rattle.area.proofs.fetch.fetch.Statement.{statement}
 use Rattle.area.proofs.fetch.fetch.Tie as tie
 
-fetched-requires : tie.Need-fetched-requires
-fetched-requires c κs = search needs
-
-fetched-requires-2 : tie.Need-fetched-requires-2
-fetched-requires-2 c κs = search needs
-
-fetched-requires-3 : tie.Need-fetched-requires-3
-fetched-requires-3 c κs = search needs
-
 returns : tie.Need-returns
 unfolding fetch
 returns c =
@@ -27,4 +18,4 @@ returns c =
     ) refl
 
 pub fetch-spec : {M : Type 1} → statement M
-fetch-spec = tie.close (tie.spec fetched-requires fetched-requires-2 fetched-requires-3 returns)
+fetch-spec = tie.close (tie.spec (λ c κs. search needs) (λ c κs. search needs) (λ c κs. search needs) returns)

@@ -6,12 +6,6 @@ use borrow.Author.Needs.{needs}
 use Rattle.area.proofs.fetch.fetched.Statement.{statement}
 use Rattle.area.proofs.fetch.fetched.Tie as tie
 
-read-requires : tie.Need-read-requires
-read-requires c κs = search needs
-
-moved-requires : tie.Need-moved-requires
-moved-requires c κs = search needs
-
 returns : tie.Need-returns
 unfolding fetched stepped
 returns c = (search (needs, if-when-true), search (needs, if-when-true))
@@ -21,4 +15,4 @@ unfolding fetched stepped
 returns-2 c = (search (needs, if-when-false), search (needs, if-when-false))
 
 pub fetched-spec : {M : Type 1} → statement M
-fetched-spec = tie.close (tie.spec read-requires moved-requires returns returns-2)
+fetched-spec = tie.close (tie.spec (λ c κs. search needs) (λ c κs. search needs) returns returns-2)

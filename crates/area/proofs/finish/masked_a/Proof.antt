@@ -4,12 +4,9 @@ use borrow.Author.Needs.{needs}
 use Rattle.area.proofs.finish.masked_a.Statement.{statement}
 use Rattle.area.proofs.finish.masked_a.Tie as tie
 
-masked-requires : tie.Need-masked-requires
-masked-requires c κs = search needs
-
 returns : tie.Need-returns
 unfolding maskedA
 returns c = search needs
 
 pub masked-a-spec : {M : Type 1} → statement M
-masked-a-spec = tie.close (tie.spec masked-requires returns)
+masked-a-spec = tie.close (tie.spec (λ c κs. search needs) returns)

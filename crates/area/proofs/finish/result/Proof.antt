@@ -10,15 +10,6 @@ use borrow.Author.Needs.{needs}
 use Rattle.area.proofs.finish.result.Statement.{statement}
 use Rattle.area.proofs.finish.result.Tie as tie
 
-shifted-requires : tie.Need-shifted-requires
-shifted-requires c κs = search needs
-
-shifted-requires-2 : tie.Need-shifted-requires-2
-shifted-requires-2 c κs = search needs
-
-logic-requires : tie.Need-logic-requires
-logic-requires c κs = search needs
-
 -- the two words as shifted, and C's
 result-of-words : (setup : Setup) (flow : Flow) (masked a b made : ℕ)
     → a ≡ shifted (setup .direction) (setup .shifts .a) (flow .earlier .a) masked
@@ -32,4 +23,4 @@ returns : tie.Need-returns
 returns c = search result-of-words
 
 pub result-spec : {M : Type 1} → statement M
-result-spec = tie.close (tie.spec shifted-requires shifted-requires-2 logic-requires returns)
+result-spec = tie.close (tie.spec (λ c κs. search needs) (λ c κs. search needs) (λ c κs. search needs) returns)

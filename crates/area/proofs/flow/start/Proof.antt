@@ -5,15 +5,9 @@ use borrow.Author.Needs.{needs}
 use Rattle.area.proofs.flow.start.Statement.{statement}
 use Rattle.area.proofs.flow.start.Tie as tie
 
-pointers-requires : tie.Need-pointers-requires
-pointers-requires c κs = search needs
-
-start-from-requires : tie.Need-start-from-requires
-start-from-requires c κs = search needs
-
 returns : tie.Need-returns
 unfolding start
 returns c = rw (c .start-from .ensures, c .before .pointers .ensures) refl
 
 pub start-spec : {M : Type 1} → statement M
-start-spec = tie.close (tie.spec pointers-requires start-from-requires returns)
+start-spec = tie.close (tie.spec (λ c κs. search needs) (λ c κs. search needs) returns)

@@ -4,14 +4,8 @@ use borrow.Author.Needs.{needs}
 use Rattle.area.proofs.flow.start_from.Statement.{statement}
 use Rattle.area.proofs.flow.start_from.Tie as tie
 
-sources-requires : tie.Need-sources-requires
-sources-requires c κs = search needs
-
-nothing-requires : tie.Need-nothing-requires
-nothing-requires c κs = search needs
-
 returns : tie.Need-returns
 returns c = rw (c .nothing .ensures, c .before .sources .ensures) refl
 
 pub start-from-spec : {M : Type 1} → statement M
-start-from-spec = tie.close (tie.spec sources-requires nothing-requires returns)
+start-from-spec = tie.close (tie.spec (λ c κs. search needs) (λ c κs. search needs) returns)

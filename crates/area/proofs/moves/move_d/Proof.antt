@@ -4,14 +4,8 @@ use borrow.Author.Needs.{needs}
 use Rattle.area.proofs.moves.move_d.Statement.{statement}
 use Rattle.area.proofs.moves.move_d.Tie as tie
 
-stepped-requires : tie.Need-stepped-requires
-stepped-requires c κs = search needs
-
-with-pointers-requires : tie.Need-with-pointers-requires
-with-pointers-requires c κs = search needs
-
 returns : tie.Need-returns
 returns c = rw (c .with-pointers .ensures, c .before .stepped .ensures) refl
 
 pub move-d-spec : {M : Type 1} → statement M
-move-d-spec = tie.close (tie.spec stepped-requires with-pointers-requires returns)
+move-d-spec = tie.close (tie.spec (λ c κs. search needs) (λ c κs. search needs) returns)

@@ -5,21 +5,6 @@ use borrow.Author.Needs.{needs}
 use Rattle.area.proofs.moves.row_end.Statement.{statement}
 use Rattle.area.proofs.moves.row_end.Tie as tie
 
-turned-requires : tie.Need-turned-requires
-turned-requires c κs = search needs
-
-turned-requires-2 : tie.Need-turned-requires-2
-turned-requires-2 c κs = search needs
-
-turned-requires-3 : tie.Need-turned-requires-3
-turned-requires-3 c κs = search needs
-
-turned-requires-4 : tie.Need-turned-requires-4
-turned-requires-4 c κs = search needs
-
-with-pointers-requires : tie.Need-with-pointers-requires
-with-pointers-requires c κs = search needs
-
 returns : tie.Need-returns
 unfolding rowEnd
 returns c =
@@ -35,9 +20,9 @@ pub row-end-spec : {M : Type 1} → statement M
 row-end-spec =
     tie.close
     (tie.spec
-    turned-requires
-    turned-requires-2
-    turned-requires-3
-    turned-requires-4
-    with-pointers-requires
+    (λ c κs. search needs)
+    (λ c κs. search needs)
+    (λ c κs. search needs)
+    (λ c κs. search needs)
+    (λ c κs. search needs)
     returns)

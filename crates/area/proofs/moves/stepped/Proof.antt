@@ -5,9 +5,6 @@ use borrow.Author.Needs.{needs}
 use Rattle.area.proofs.moves.stepped.Statement.{statement}
 use Rattle.area.proofs.moves.stepped.Tie as tie
 
-moved-requires : tie.Need-moved-requires
-moved-requires c κs = search needs
-
 returns : tie.Need-returns
 unfolding stepped
 returns c = search (needs, if-when-true)
@@ -17,4 +14,4 @@ unfolding stepped
 returns-2 c = search (needs, if-when-false)
 
 pub stepped-spec : {M : Type 1} → statement M
-stepped-spec = tie.close (tie.spec moved-requires returns returns-2)
+stepped-spec = tie.close (tie.spec (λ c κs. search needs) returns returns-2)

@@ -5,9 +5,6 @@ use borrow.Author.Needs.{needs}
 use Rattle.area.proofs.moves.turned.Statement.{statement}
 use Rattle.area.proofs.moves.turned.Tie as tie
 
-passed-requires : tie.Need-passed-requires
-passed-requires c κs = search needs
-
 returns : tie.Need-returns
 unfolding turned
 returns c = search (needs, if-when-true)
@@ -17,4 +14,4 @@ unfolding turned
 returns-2 c = search (needs, if-when-false)
 
 pub turned-spec : {M : Type 1} → statement M
-turned-spec = tie.close (tie.spec passed-requires returns returns-2)
+turned-spec = tie.close (tie.spec (λ c κs. search needs) returns returns-2)

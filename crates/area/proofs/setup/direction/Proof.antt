@@ -4,9 +4,6 @@ use borrow.Author.Needs.{needs}
 use Rattle.area.proofs.setup.direction.Statement.{statement}
 use Rattle.area.proofs.setup.direction.Tie as tie
 
-descending-requires : tie.Need-descending-requires
-descending-requires c κs = search needs
-
 returns : tie.Need-returns
 returns c = search direction-when-down
 
@@ -14,4 +11,4 @@ returns-2 : tie.Need-returns-2
 returns-2 c = search direction-when-up
 
 pub direction-spec : {M : Type 1} → statement M
-direction-spec = tie.close (tie.spec descending-requires returns returns-2)
+direction-spec = tie.close (tie.spec (λ c κs. search needs) returns returns-2)

@@ -4,14 +4,8 @@ use borrow.Author.Needs.{needs}
 use Rattle.area.proofs.setup.fill.Statement.{statement}
 use Rattle.area.proofs.setup.fill.Tie as tie
 
-exclusive-fill-requires : tie.Need-exclusive-fill-requires
-exclusive-fill-requires c κs = search needs
-
 returns : tie.Need-returns
 returns c = search fill-when-exclusive
-
-inclusive-fill-requires : tie.Need-inclusive-fill-requires
-inclusive-fill-requires c κs = search needs
 
 returns-2 : tie.Need-returns-2
 returns-2 c = search fill-when-inclusive
@@ -22,4 +16,4 @@ returns-3 c = search fill-when-off
 pub fill-spec : {M : Type 1} → statement M
 fill-spec =
     tie.close
-    (tie.spec exclusive-fill-requires returns inclusive-fill-requires returns-2 returns-3)
+    (tie.spec (λ c κs. search needs) returns (λ c κs. search needs) returns-2 returns-3)

@@ -5,15 +5,9 @@ use borrow.Author.Needs.{needs}
 use Rattle.area.proofs.setup.masks.Statement.{statement}
 use Rattle.area.proofs.setup.masks.Tie as tie
 
-read-requires : tie.Need-read-requires
-read-requires c κs = search needs
-
-read-requires-2 : tie.Need-read-requires-2
-read-requires-2 c κs = search needs
-
 returns : tie.Need-returns
 unfolding masks
 returns c = rw (c .read2 .ensures, c .before .read .ensures) refl
 
 pub masks-spec : {M : Type 1} → statement M
-masks-spec = tie.close (tie.spec read-requires read-requires-2 returns)
+masks-spec = tie.close (tie.spec (λ c κs. search needs) (λ c κs. search needs) returns)

@@ -5,30 +5,6 @@ use borrow.Author.Needs.{needs}
 use Rattle.area.proofs.setup.modulos.Statement.{statement}
 use Rattle.area.proofs.setup.modulos.Tie as tie
 
-read-requires : tie.Need-read-requires
-read-requires c κs = search needs
-
-half-requires : tie.Need-half-requires
-half-requires c κs = search needs
-
-read-requires-2 : tie.Need-read-requires-2
-read-requires-2 c κs = search needs
-
-half-requires-2 : tie.Need-half-requires-2
-half-requires-2 c κs = search needs
-
-read-requires-3 : tie.Need-read-requires-3
-read-requires-3 c κs = search needs
-
-half-requires-3 : tie.Need-half-requires-3
-half-requires-3 c κs = search needs
-
-read-requires-4 : tie.Need-read-requires-4
-read-requires-4 c κs = search needs
-
-half-requires-4 : tie.Need-half-requires-4
-half-requires-4 c κs = search needs
-
 returns : tie.Need-returns
 unfolding modulos
 returns c =
@@ -47,12 +23,12 @@ pub modulos-spec : {M : Type 1} → statement M
 modulos-spec =
     tie.close
     (tie.spec
-    read-requires
-    half-requires
-    read-requires-2
-    half-requires-2
-    read-requires-3
-    half-requires-3
-    read-requires-4
-    half-requires-4
+    (λ c κs. search needs)
+    (λ c κs. search needs)
+    (λ c κs. search needs)
+    (λ c κs. search needs)
+    (λ c κs. search needs)
+    (λ c κs. search needs)
+    (λ c κs. search needs)
+    (λ c κs. search needs)
     returns)

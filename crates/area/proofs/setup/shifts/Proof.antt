@@ -5,15 +5,9 @@ use borrow.Author.Needs.{needs}
 use Rattle.area.proofs.setup.shifts.Statement.{statement}
 use Rattle.area.proofs.setup.shifts.Tie as tie
 
-shift-requires : tie.Need-shift-requires
-shift-requires c κs = search needs
-
-shift-requires-2 : tie.Need-shift-requires-2
-shift-requires-2 c κs = search needs
-
 returns : tie.Need-returns
 unfolding shifts
 returns c = rw (c .shift2 .ensures, c .before .shift .ensures) refl
 
 pub shifts-spec : {M : Type 1} → statement M
-shifts-spec = tie.close (tie.spec shift-requires shift-requires-2 returns)
+shifts-spec = tie.close (tie.spec (λ c κs. search needs) (λ c κs. search needs) returns)

@@ -5,9 +5,6 @@ use borrow.Author.Needs.{needs}
 use Rattle.area.proofs.store.counted.Statement.{statement}
 use Rattle.area.proofs.store.counted.Tie as tie
 
-add-result : tie.Need-add-result
-add-result c = search needs
-
 returns : tie.Need-returns
 unfolding countWith
 returns c = search (needs, if-when-true)
@@ -17,4 +14,4 @@ unfolding countWith
 returns-2 c = search (needs, if-when-false)
 
 pub counted-spec : {M : Type 1} → statement M
-counted-spec = tie.close (tie.spec add-result returns returns-2)
+counted-spec = tie.close (tie.spec (λ c. search needs) returns returns-2)

@@ -5,12 +5,6 @@ use borrow.Author.Needs.{needs}
 use Rattle.area.proofs.store.put.Statement.{statement}
 use Rattle.area.proofs.store.put.Tie as tie
 
-write-requires : tie.Need-write-requires
-write-requires c κs = search needs
-
-same-length : tie.Need-same-length
-same-length c = search needs
-
 returns : tie.Need-returns
 unfolding memoryWith
 returns c = search (needs, if-when-true)
@@ -20,4 +14,4 @@ unfolding memoryWith
 returns-2 c = search (needs, if-when-false)
 
 pub put-spec : {M : Type 1} → statement M
-put-spec = tie.close (tie.spec write-requires same-length returns returns-2)
+put-spec = tie.close (tie.spec (λ c κs. search needs) (λ c. search needs) returns returns-2)

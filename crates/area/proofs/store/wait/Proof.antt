@@ -4,12 +4,9 @@ use borrow.Author.Needs.{needs}
 use Rattle.area.proofs.store.wait.Statement.{statement}
 use Rattle.area.proofs.store.wait.Tie as tie
 
-with-stores-requires : tie.Need-with-stores-requires
-with-stores-requires c κs = search needs
-
 returns : tie.Need-returns
 unfolding wait
 returns c = search needs
 
 pub wait-spec : {M : Type 1} → statement M
-wait-spec = tie.close (tie.spec with-stores-requires returns)
+wait-spec = tie.close (tie.spec (λ c κs. search needs) returns)

@@ -4,20 +4,8 @@ use borrow.Author.Needs.{needs}
 use Rattle.blit.proofs.registers.put_flag.Statement.{statement}
 use Rattle.blit.proofs.registers.put_flag.Tie as tie
 
-write-requires : tie.Need-write-requires
-write-requires c κs = search needs
-
-write-requires-2 : tie.Need-write-requires-2
-write-requires-2 c κs = search needs
-
-same-length : tie.Need-same-length
-same-length c = search needs
-
 returns : tie.Need-returns
 returns c = search putFlag-when-zero
-
-same-length-2 : tie.Need-same-length-2
-same-length-2 c = search needs
 
 returns-2 : tie.Need-returns-2
 returns-2 c = search putFlag-when-some
@@ -25,4 +13,4 @@ returns-2 c = search putFlag-when-some
 pub put-flag-spec : {M : Type 1} → statement M
 put-flag-spec =
     tie.close
-    (tie.spec write-requires write-requires-2 same-length returns same-length-2 returns-2)
+    (tie.spec (λ c κs. search needs) (λ c κs. search needs) (λ c. search needs) returns (λ c. search needs) returns-2)

@@ -17,21 +17,6 @@ one-by-one : (uses : Uses) (pointers : Pointers) (file one two three four : List
 unfolding putPointers
 one-by-one uses pointers file one two three four a b c d = rw (d, c, b, a) refl
 
-put-pointer-requires : tie.Need-put-pointer-requires
-put-pointer-requires c κs = search needs
-
-put-pointer-requires-2 : tie.Need-put-pointer-requires-2
-put-pointer-requires-2 c κs = search needs
-
-put-pointer-requires-3 : tie.Need-put-pointer-requires-3
-put-pointer-requires-3 c κs = search needs
-
-put-pointer-requires-4 : tie.Need-put-pointer-requires-4
-put-pointer-requires-4 c κs = search needs
-
-same-length : tie.Need-same-length
-same-length c = search needs
-
 returns : tie.Need-returns
 returns c = search one-by-one
 
@@ -39,9 +24,9 @@ pub put-pointers-spec : {M : Type 1} → statement M
 put-pointers-spec =
     tie.close
     (tie.spec
-    put-pointer-requires
-    put-pointer-requires-2
-    put-pointer-requires-3
-    put-pointer-requires-4
-    same-length
+    (λ c κs. search needs)
+    (λ c κs. search needs)
+    (λ c κs. search needs)
+    (λ c κs. search needs)
+    (λ c. search needs)
     returns)

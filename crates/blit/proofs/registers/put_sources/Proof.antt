@@ -17,22 +17,10 @@ one-by-one : (uses : Uses) (sources : Sources) (file one two three : List ℕ)
 unfolding putSources
 one-by-one uses sources file one two three a b c = rw (c, b, a) refl
 
-put-source-requires : tie.Need-put-source-requires
-put-source-requires c κs = search needs
-
-put-source-requires-2 : tie.Need-put-source-requires-2
-put-source-requires-2 c κs = search needs
-
-put-source-requires-3 : tie.Need-put-source-requires-3
-put-source-requires-3 c κs = search needs
-
-same-length : tie.Need-same-length
-same-length c = search needs
-
 returns : tie.Need-returns
 returns c = search one-by-one
 
 pub put-sources-spec : {M : Type 1} → statement M
 put-sources-spec =
     tie.close
-    (tie.spec put-source-requires put-source-requires-2 put-source-requires-3 same-length returns)
+    (tie.spec (λ c κs. search needs) (λ c κs. search needs) (λ c κs. search needs) (λ c. search needs) returns)

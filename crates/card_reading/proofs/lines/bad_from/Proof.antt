@@ -21,20 +21,11 @@ abbrev μ-loop : tie.MeasureT-loop
 loop-holds : tie.Need-loop-holds Inv-loop μ-loop
 loop-holds c = search needs
 
-key-line-requires : tie.Need-key-line-requires Inv-loop μ-loop
-key-line-requires c κs = search needs
-
-add-result : tie.Need-add-result Inv-loop μ-loop
-add-result c = search needs
-
 returns : tie.Need-returns Inv-loop μ-loop
 returns c = search (badFrom-when-bad, not-true)
 
 add-at : tie.Need-add-at Inv-loop μ-loop
 add-at c = search (needs, keyLine-fits, not-false)
-
-add-key : tie.Need-add-key Inv-loop μ-loop
-add-key c = search needs
 
 loop-less : tie.Need-loop-less Inv-loop μ-loop
 loop-less c = search needs
@@ -55,11 +46,11 @@ bad-from-spec =
     Inv-loop
     μ-loop
     loop-holds
-    key-line-requires
-    add-result
+    (λ c κs. search needs)
+    (λ c. search needs)
     returns
     add-at
-    add-key
+    (λ c. search needs)
     loop-less
     loop-again
     returns-2

@@ -5,21 +5,9 @@ use borrow.Author.Needs.{needs}
 use Rattle.card_reading.proofs.lines.letter.Statement.{statement}
 use Rattle.card_reading.proofs.lines.letter.Tie as tie
 
-mul-result : tie.Need-mul-result
-mul-result c = search needs
-
-add-result : tie.Need-add-result
-add-result c = search needs
-
-cast-result : tie.Need-cast-result
-cast-result c = search needs
-
-array-read-result : tie.Need-array-read-result
-array-read-result c = search needs
-
 returns : tie.Need-returns
 unfolding letters
 returns c = refl
 
 pub letter-spec : {M : Type 1} → statement M
-letter-spec = tie.close (tie.spec mul-result add-result cast-result array-read-result returns)
+letter-spec = tie.close (tie.spec (λ c. search needs) (λ c. search needs) (λ c. search needs) (λ c. search needs) returns)

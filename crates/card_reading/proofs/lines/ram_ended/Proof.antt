@@ -10,12 +10,6 @@ returns c = search ramEnded-when-none
 returns-2 : tie.Need-returns-2
 returns-2 c = search ramEnded-at-end
 
-shared-slice-read-if3 : tie.Need-shared-slice-read-if3
-shared-slice-read-if3 c = search needs
-
-add-t8 : tie.Need-add-t8
-add-t8 c = search needs
-
 returns-3 : tie.Need-returns-3
 returns-3 c = search ramEnded-when-newline
 
@@ -24,4 +18,4 @@ returns-4 c = search ramEnded-when-other
 
 pub ram-ended-spec : {M : Type 1} → statement M
 ram-ended-spec =
-    tie.close (tie.spec returns returns-2 shared-slice-read-if3 add-t8 returns-3 returns-4)
+    tie.close (tie.spec returns returns-2 (λ c. search needs) (λ c. search needs) returns-3 returns-4)

@@ -20,29 +20,14 @@ Inv-loop text at₀ words₀ at words =
 abbrev μ-loop : tie.MeasureT-loop
 μ-loop text at₀ words₀ at words = length text - at
 
-ram-key-requires : tie.Need-ram-key-requires Inv-loop μ-loop
-ram-key-requires c κs = search needs
-
 returns : tie.Need-returns Inv-loop μ-loop
 returns c = search (ramRead-when-keyless, not-true)
-
-byte-requires : tie.Need-byte-requires Inv-loop μ-loop
-byte-requires c κs = search needs
 
 returns-2 : tie.Need-returns-2 Inv-loop μ-loop
 returns-2 c = search (ramRead-when-zero, not-false)
 
 loop-holds : tie.Need-loop-holds Inv-loop μ-loop
 loop-holds c = search needs
-
-shared-slice-read-here : tie.Need-shared-slice-read-here Inv-loop μ-loop
-shared-slice-read-here c = search needs
-
-decimal-digit-requires : tie.Need-decimal-digit-requires Inv-loop μ-loop
-decimal-digit-requires c κs = search needs
-
-ram-ended-requires : tie.Need-ram-ended-requires Inv-loop μ-loop
-ram-ended-requires c κs = search needs
 
 returns-3 : tie.Need-returns-3 Inv-loop μ-loop
 returns-3 c = search (ramRead-when-ended, digits-when-other, not-true, not-false)
@@ -53,17 +38,11 @@ with-digit-requires c κs = (search needs, search (decimalDigit-holds, not-false
 returns-4 : tie.Need-returns-4 Inv-loop μ-loop
 returns-4 c = search (ramRead-when-large, not-false)
 
-add-at : tie.Need-add-at Inv-loop μ-loop
-add-at c = search needs
-
 loop-less : tie.Need-loop-less Inv-loop μ-loop
 loop-less c = search needs
 
 loop-again : tie.Need-loop-again Inv-loop μ-loop
 loop-again c = (search (spelled-turn, not-false), search (digits-turn, not-false), search needs, search needs)
-
-ram-ended-requires-2 : tie.Need-ram-ended-requires-2 Inv-loop μ-loop
-ram-ended-requires-2 c κs = search needs
 
 returns-5 : tie.Need-returns-5 Inv-loop μ-loop
 returns-5 c = search (ramRead-when-ended, digits-at-end, not-false)
@@ -74,19 +53,19 @@ ram-line-spec =
     (tie.spec
     Inv-loop
     μ-loop
-    ram-key-requires
+    (λ c κs. search needs)
     returns
-    byte-requires
+    (λ c κs. search needs)
     returns-2
     loop-holds
-    shared-slice-read-here
-    decimal-digit-requires
-    ram-ended-requires
+    (λ c. search needs)
+    (λ c κs. search needs)
+    (λ c κs. search needs)
     returns-3
     with-digit-requires
     returns-4
-    add-at
+    (λ c. search needs)
     loop-less
     loop-again
-    ram-ended-requires-2
+    (λ c κs. search needs)
     returns-5)

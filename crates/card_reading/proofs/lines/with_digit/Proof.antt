@@ -4,20 +4,11 @@ use borrow.Author.Needs.{needs}
 use Rattle.card_reading.proofs.lines.with_digit.Statement.{statement}
 use Rattle.card_reading.proofs.lines.with_digit.Tie as tie
 
-mul-result : tie.Need-mul-result
-mul-result c = search needs
-
 sub-result : tie.Need-sub-result
 sub-result c = search (needs, decimalDigit-ge)
-
-cast-result : tie.Need-cast-result
-cast-result c = search needs
-
-add-result : tie.Need-add-result
-add-result c = search needs
 
 returns : tie.Need-returns
 returns c = search needs
 
 pub with-digit-spec : {M : Type 1} → statement M
-with-digit-spec = tie.close (tie.spec mul-result sub-result cast-result add-result returns)
+with-digit-spec = tie.close (tie.spec (λ c. search needs) sub-result (λ c. search needs) (λ c. search needs) returns)

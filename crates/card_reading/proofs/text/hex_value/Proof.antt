@@ -4,29 +4,17 @@ use borrow.Author.Needs.{needs}
 use Rattle.card_reading.proofs.text.hex_value.Statement.{statement}
 use Rattle.card_reading.proofs.text.hex_value.Tie as tie
 
-decimal-digit-requires : tie.Need-decimal-digit-requires
-decimal-digit-requires c κs = search needs
-
 sub-result : tie.Need-sub-result
 sub-result c = search (needs, decimalDigit-ge)
 
-cast-result : tie.Need-cast-result
-cast-result c = search needs
-
 returns : tie.Need-returns
 returns c = (search hexValue-when-decimal, search decimal-lt)
-
-capital-requires : tie.Need-capital-requires
-capital-requires c κs = search needs
 
 sub-result-2 : tie.Need-sub-result-2
 sub-result-2 c = search (needs, capital-ge)
 
 add-result : tie.Need-add-result
 add-result c = search (needs, capital-ge, capital-le)
-
-cast-result-2 : tie.Need-cast-result-2
-cast-result-2 c = search needs
 
 returns-2 : tie.Need-returns-2
 returns-2 c = (search hexValue-when-capital, search capital-lt)
@@ -38,13 +26,13 @@ pub hex-value-spec : {M : Type 1} → statement M
 hex-value-spec =
     tie.close
     (tie.spec
-    decimal-digit-requires
+    (λ c κs. search needs)
     sub-result
-    cast-result
+    (λ c. search needs)
     returns
-    capital-requires
+    (λ c κs. search needs)
     sub-result-2
     add-result
-    cast-result-2
+    (λ c. search needs)
     returns-2
     returns-3)

@@ -21,20 +21,11 @@ abbrev μ-loop : tie.MeasureT-loop
 loop-holds : tie.Need-loop-holds Inv-loop μ-loop
 loop-holds c = search needs
 
-write-step-requires : tie.Need-write-step-requires Inv-loop μ-loop
-write-step-requires c κs = search needs
-
-add-step : tie.Need-add-step Inv-loop μ-loop
-add-step c = search needs
-
 loop-less : tie.Need-loop-less Inv-loop μ-loop
 loop-less c = search needs
 
 loop-again : tie.Need-loop-again Inv-loop μ-loop
 loop-again c = (writes-turn _ _ _ _ _ _ (search needs) (c .before .before .write-step .ensures) (c .before .before .before .before .before .loop .inv .0), search needs, search needs)
-
-same-length : tie.Need-same-length Inv-loop μ-loop
-same-length c = search needs
 
 returns : tie.Need-returns Inv-loop μ-loop
 returns c = search writes-done
@@ -46,9 +37,9 @@ job-spec =
     Inv-loop
     μ-loop
     loop-holds
-    write-step-requires
-    add-step
+    (λ c κs. search needs)
+    (λ c. search needs)
     loop-less
     loop-again
-    same-length
+    (λ c. search needs)
     returns)

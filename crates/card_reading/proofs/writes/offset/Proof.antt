@@ -5,15 +5,9 @@ use borrow.Author.Needs.{needs}
 use Rattle.card_reading.proofs.writes.offset.Statement.{statement}
 use Rattle.card_reading.proofs.writes.offset.Tie as tie
 
-mul-result : tie.Need-mul-result
-mul-result c = search needs
-
-array-read-result : tie.Need-array-read-result
-array-read-result c = search needs
-
 returns : tie.Need-returns
 unfolding offsets
 returns c = refl
 
 pub offset-spec : {M : Type 1} → statement M
-offset-spec = tie.close (tie.spec mul-result array-read-result returns)
+offset-spec = tie.close (tie.spec (λ c. search needs) (λ c. search needs) returns)

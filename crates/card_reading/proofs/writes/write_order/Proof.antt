@@ -7,9 +7,6 @@ use Rattle.card_reading.proofs.writes.write_order.Tie as tie
 returns : tie.Need-returns
 returns c = (search writeOrder-before-size, search needs)
 
-add-result : tie.Need-add-result
-add-result c = search needs
-
 returns-2 : tie.Need-returns-2
 returns-2 c = (search writeOrder-after-size, search needs)
 
@@ -17,4 +14,4 @@ returns-3 : tie.Need-returns-3
 returns-3 c = (search writeOrder-of-size, search needs)
 
 pub write-order-spec : {M : Type 1} → statement M
-write-order-spec = tie.close (tie.spec returns add-result returns-2 returns-3)
+write-order-spec = tie.close (tie.spec returns (λ c. search needs) returns-2 returns-3)

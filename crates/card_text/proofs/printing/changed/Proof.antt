@@ -23,29 +23,11 @@ abbrev μ-loop : tie.MeasureT-loop
 loop-holds : tie.Need-loop-holds Inv-loop μ-loop
 loop-holds c = search needs
 
-cast-changed-word : tie.Need-cast-changed-word Inv-loop μ-loop
-cast-changed-word c = search needs
-
-mul-changed-word : tie.Need-mul-changed-word Inv-loop μ-loop
-mul-changed-word c = search needs
-
-shared-slice-read-changed-word : tie.Need-shared-slice-read-changed-word Inv-loop μ-loop
-shared-slice-read-changed-word c = search needs
-
-changed-word-requires : tie.Need-changed-word-requires Inv-loop μ-loop
-changed-word-requires c κs = search needs
-
-add-place : tie.Need-add-place Inv-loop μ-loop
-add-place c = search needs
-
 loop-less : tie.Need-loop-less Inv-loop μ-loop
 loop-less c = search needs
 
 loop-again : tie.Need-loop-again Inv-loop μ-loop
 loop-again c = (search changed-turn, search needs, search needs, search needs, search needs)
-
-same-length : tie.Need-same-length Inv-loop μ-loop
-same-length c = search needs
 
 returns : tie.Need-returns Inv-loop μ-loop
 returns c = search changed-done
@@ -57,12 +39,12 @@ changed-spec =
     Inv-loop
     μ-loop
     loop-holds
-    cast-changed-word
-    mul-changed-word
-    shared-slice-read-changed-word
-    changed-word-requires
-    add-place
+    (λ c. search needs)
+    (λ c. search needs)
+    (λ c. search needs)
+    (λ c κs. search needs)
+    (λ c. search needs)
     loop-less
     loop-again
-    same-length
+    (λ c. search needs)
     returns)

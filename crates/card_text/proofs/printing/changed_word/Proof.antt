@@ -7,14 +7,8 @@ use Rattle.card_text.proofs.printing.changed_word.Tie as tie
 returns : tie.Need-returns
 returns c = (search changedWord-when-same, search needs)
 
-word-line-requires : tie.Need-word-line-requires
-word-line-requires c κs = search needs
-
-same-length : tie.Need-same-length
-same-length c = search needs
-
 returns-2 : tie.Need-returns-2
 returns-2 c = (search changedWord-when-other, search needs)
 
 pub changed-word-spec : {M : Type 1} → statement M
-changed-word-spec = tie.close (tie.spec returns word-line-requires same-length returns-2)
+changed-word-spec = tie.close (tie.spec returns (λ c κs. search needs) (λ c. search needs) returns-2)

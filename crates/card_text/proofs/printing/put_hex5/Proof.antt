@@ -4,21 +4,9 @@ use borrow.Author.Needs.{needs}
 use Rattle.card_text.proofs.printing.put_hex5.Statement.{statement}
 use Rattle.card_text.proofs.printing.put_hex5.Tie as tie
 
-glyph-requires : tie.Need-glyph-requires
-glyph-requires c κs = search needs
-
-put-requires : tie.Need-put-requires
-put-requires c κs = search needs
-
-put-hex4-requires : tie.Need-put-hex4-requires
-put-hex4-requires c κs = search needs
-
-same-length : tie.Need-same-length
-same-length c = search needs
-
 returns : tie.Need-returns
 returns c = (search hex5-of-pieces, search needs)
 
 pub put-hex5-spec : {M : Type 1} → statement M
 put-hex5-spec =
-    tie.close (tie.spec glyph-requires put-requires put-hex4-requires same-length returns)
+    tie.close (tie.spec (λ c κs. search needs) (λ c κs. search needs) (λ c κs. search needs) (λ c. search needs) returns)

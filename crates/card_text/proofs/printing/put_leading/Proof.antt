@@ -7,21 +7,9 @@ use Rattle.card_text.proofs.printing.put_leading.Tie as tie
 returns : tie.Need-returns
 returns c = (search leading-when-small, search needs)
 
-div-glyph : tie.Need-div-glyph
-div-glyph c = search needs
-
-glyph-requires : tie.Need-glyph-requires
-glyph-requires c κs = search needs
-
-put-requires : tie.Need-put-requires
-put-requires c κs = search needs
-
-same-length : tie.Need-same-length
-same-length c = search needs
-
 returns-2 : tie.Need-returns-2
 returns-2 c = (search leading-when-reached, search needs)
 
 pub put-leading-spec : {M : Type 1} → statement M
 put-leading-spec =
-    tie.close (tie.spec returns div-glyph glyph-requires put-requires same-length returns-2)
+    tie.close (tie.spec returns (λ c. search needs) (λ c κs. search needs) (λ c κs. search needs) (λ c. search needs) returns-2)

@@ -5,12 +5,6 @@ use borrow.Author.Needs.{needs}
 use Rattle.card_text.proofs.printing.write.Statement.{statement}
 use Rattle.card_text.proofs.printing.write.Tie as tie
 
-slice-write-out : tie.Need-slice-write-out
-slice-write-out c = search needs
-
-same-length : tie.Need-same-length
-same-length c = search needs
-
 returns : tie.Need-returns
 returns c = search needs
 
@@ -18,4 +12,4 @@ returns-2 : tie.Need-returns-2
 returns-2 c = sym (set-out _ _ _ (c .if1 .left))
 
 pub write-spec : {M : Type 1} → statement M
-write-spec = tie.close (tie.spec slice-write-out same-length returns returns-2)
+write-spec = tie.close (tie.spec (λ c. search needs) (λ c. search needs) returns returns-2)

@@ -23,26 +23,11 @@ abbrev μ-loop : tie.MeasureT-loop
 loop-holds : tie.Need-loop-holds Inv-loop μ-loop
 loop-holds c = (search counted-start, search needs, search needs, search needs, search needs)
 
-cast-write : tie.Need-cast-write Inv-loop μ-loop
-cast-write c = search needs
-
-cast-write-2 : tie.Need-cast-write-2 Inv-loop μ-loop
-cast-write-2 c = search needs
-
-write-requires : tie.Need-write-requires Inv-loop μ-loop
-write-requires c κs = search needs
-
-add-at : tie.Need-add-at Inv-loop μ-loop
-add-at c = search needs
-
 loop-less : tie.Need-loop-less Inv-loop μ-loop
 loop-less c = search needs
 
 loop-again : tie.Need-loop-again Inv-loop μ-loop
 loop-again c = (search counted-turn, search needs, search needs, search needs, search needs)
-
-same-length : tie.Need-same-length Inv-loop μ-loop
-same-length c = search needs
 
 returns : tie.Need-returns Inv-loop μ-loop
 returns c = search counted-done
@@ -54,11 +39,11 @@ count-spec =
     Inv-loop
     μ-loop
     loop-holds
-    cast-write
-    cast-write-2
-    write-requires
-    add-at
+    (λ c. search needs)
+    (λ c. search needs)
+    (λ c κs. search needs)
+    (λ c. search needs)
     loop-less
     loop-again
-    same-length
+    (λ c. search needs)
     returns)

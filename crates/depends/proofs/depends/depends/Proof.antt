@@ -4,11 +4,8 @@ use borrow.Author.Needs.{needs}
 use Rattle.depends.proofs.depends.depends.Statement.{statement}
 use Rattle.depends.proofs.depends.depends.Tie as tie
 
-entry-requires : tie.Need-entry-requires
-entry-requires c κs = search needs
-
 returns : tie.Need-returns
 returns c = search told-of-entry
 
 pub depends-spec : {M : Type 1} → statement M
-depends-spec = tie.close (tie.spec entry-requires returns)
+depends-spec = tie.close (tie.spec (λ c κs. search needs) returns)

@@ -7,16 +7,10 @@ use borrow.Author.Needs.{needs}
 use Rattle.depends.proofs.table.entry.Statement.{statement}
 use Rattle.depends.proofs.table.entry.Tie as tie
 
-cast-result : tie.Need-cast-result
-cast-result c = search needs
-
-array-read-result : tie.Need-array-read-result
-array-read-result c = search needs
-
 -- the one test over the table: it is the list of the rule's values
 returns : tie.Need-returns
 unfolding entry counts changes
 returns c = values-at entry 256 (c .args .function % 256) (omega arith)
 
 pub entry-spec : {M : Type 1} → statement M
-entry-spec = tie.close (tie.spec cast-result array-read-result returns)
+entry-spec = tie.close (tie.spec (λ c. search needs) (λ c. search needs) returns)

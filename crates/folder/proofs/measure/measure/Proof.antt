@@ -23,20 +23,8 @@ Inv-loop n job out at₀ words₀ known₀ at words known =
 abbrev μ-loop : tie.MeasureT-loop
 μ-loop n job out at₀ words₀ known₀ at words known = length job - at
 
-nothing-requires : tie.Need-nothing-requires Inv-loop μ-loop
-nothing-requires c κs = search needs
-
 loop-holds : tie.Need-loop-holds Inv-loop μ-loop
 loop-holds c = (refl, search count-start, search needs, search needs)
-
-read-at-requires : tie.Need-read-at-requires Inv-loop μ-loop
-read-at-requires c κs = search needs
-
-enum-known-step : tie.Need-enum-known-step Inv-loop μ-loop
-enum-known-step c = search needs
-
-step-piece-requires : tie.Need-step-piece-requires Inv-loop μ-loop
-step-piece-requires c κs = search needs
 
 add-words : tie.Need-add-words Inv-loop μ-loop
 add-words c =
@@ -59,23 +47,11 @@ loop-again c =
       search (read-inside, steps, reads),
     )
 
-enum-told : tie.Need-enum-told Inv-loop μ-loop
-enum-told c = search needs
-
-ended-requires : tie.Need-ended-requires Inv-loop μ-loop
-ended-requires c κs = search needs
-
 returns : tie.Need-returns Inv-loop μ-loop
 returns c = search measure-of-end
 
-enum-known-why : tie.Need-enum-known-why Inv-loop μ-loop
-enum-known-why c = search needs
-
 returns-2 : tie.Need-returns-2 Inv-loop μ-loop
 returns-2 c = search measure-of-fault
-
-ended-requires-2 : tie.Need-ended-requires-2 Inv-loop μ-loop
-ended-requires-2 c κs = search needs
 
 returns-3 : tie.Need-returns-3 Inv-loop μ-loop
 returns-3 c = search measure-at-end
@@ -86,18 +62,18 @@ measure-spec =
     (tie.spec
     Inv-loop
     μ-loop
-    nothing-requires
+    (λ c κs. search needs)
     loop-holds
-    read-at-requires
-    enum-known-step
-    step-piece-requires
+    (λ c κs. search needs)
+    (λ c. search needs)
+    (λ c κs. search needs)
     add-words
     loop-less
     loop-again
-    enum-told
-    ended-requires
+    (λ c. search needs)
+    (λ c κs. search needs)
     returns
-    enum-known-why
+    (λ c. search needs)
     returns-2
-    ended-requires-2
+    (λ c κs. search needs)
     returns-3)

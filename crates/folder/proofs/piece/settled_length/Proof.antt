@@ -5,12 +5,6 @@ use borrow.Author.Needs.{needs}
 use Rattle.folder.proofs.piece.settled_length.Statement.{statement}
 use Rattle.folder.proofs.piece.settled_length.Tie as tie
 
-height-requires : tie.Need-height-requires
-height-requires c κs = search needs
-
-width-requires : tie.Need-width-requires
-width-requires c κs = search needs
-
 mul-result : tie.Need-mul-result
 mul-result c = search words-fit
 
@@ -25,4 +19,4 @@ returns c = search settledLength-of-parts
 
 pub settled-length-spec : {M : Type 1} → statement M
 settled-length-spec =
-    tie.close (tie.spec height-requires width-requires mul-result mul-result-2 add-result returns)
+    tie.close (tie.spec (λ c κs. search needs) (λ c κs. search needs) mul-result mul-result-2 add-result returns)

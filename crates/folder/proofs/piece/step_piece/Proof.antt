@@ -4,24 +4,6 @@ use borrow.Author.Needs.{needs}
 use Rattle.folder.proofs.piece.step_piece.Statement.{statement}
 use Rattle.folder.proofs.piece.step_piece.Tie as tie
 
-enum-known-step : tie.Need-enum-known-step
-enum-known-step c = search needs
-
-written-requires : tie.Need-written-requires
-written-requires c κs = search needs
-
-enum-known-step-2 : tie.Need-enum-known-step-2
-enum-known-step-2 c = search needs
-
-size-piece-requires : tie.Need-size-piece-requires
-size-piece-requires c κs = search needs
-
-enum-told : tie.Need-enum-told
-enum-told c = search needs
-
-enum-told-2 : tie.Need-enum-told-2
-enum-told-2 c = search needs
-
 returns : tie.Need-returns
 returns c = (search pieceLength-of-register, search learned-of-register)
 
@@ -38,12 +20,12 @@ pub step-piece-spec : {M : Type 1} → statement M
 step-piece-spec =
     tie.close
     (tie.spec
-    enum-known-step
-    written-requires
-    enum-known-step-2
-    size-piece-requires
-    enum-told
-    enum-told-2
+    (λ c. search needs)
+    (λ c κs. search needs)
+    (λ c. search needs)
+    (λ c κs. search needs)
+    (λ c. search needs)
+    (λ c. search needs)
     returns
     returns-2
     returns-3

@@ -5,21 +5,6 @@ use borrow.Author.Needs.{needs}
 use Rattle.folder.proofs.write.put_blit.Statement.{statement}
 use Rattle.folder.proofs.write.put_blit.Tie as tie
 
-numbers-requires : tie.Need-numbers-requires
-numbers-requires c κs = search needs
-
-slice-aggregate-put-settled : tie.Need-slice-aggregate-put-settled
-slice-aggregate-put-settled c = search needs
-
-put-settled-requires : tie.Need-put-settled-requires
-put-settled-requires c κs = search needs
-
-moved-d-requires : tie.Need-moved-d-requires
-moved-d-requires c κs = search needs
-
-same-length : tie.Need-same-length
-same-length c = search needs
-
 returns : tie.Need-returns
 returns c = (search put-blit-of-parts, search settled-known-of-parts)
 
@@ -27,9 +12,9 @@ pub put-blit-spec : {M : Type 1} → statement M
 put-blit-spec =
     tie.close
     (tie.spec
-    numbers-requires
-    slice-aggregate-put-settled
-    put-settled-requires
-    moved-d-requires
-    same-length
+    (λ c κs. search needs)
+    (λ c. search needs)
+    (λ c κs. search needs)
+    (λ c κs. search needs)
+    (λ c. search needs)
     returns)

@@ -4,11 +4,8 @@ use borrow.Author.Needs.{needs}
 use Rattle.instruction.proofs.permitted.danger.Statement.{statement}
 use Rattle.instruction.proofs.permitted.danger.Tie as tie
 
-read-requires : tie.Need-read-requires
-read-requires c κs = search needs
-
 returns : tie.Need-returns
 returns c = search danger-of-word
 
 pub danger-spec : {M : Type 1} → statement M
-danger-spec = tie.close (tie.spec read-requires returns)
+danger-spec = tie.close (tie.spec (λ c κs. search needs) returns)

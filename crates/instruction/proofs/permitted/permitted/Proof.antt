@@ -4,11 +4,8 @@ use borrow.Author.Needs.{needs}
 use Rattle.instruction.proofs.permitted.permitted.Statement.{statement}
 use Rattle.instruction.proofs.permitted.permitted.Tie as tie
 
-danger-requires : tie.Need-danger-requires
-danger-requires c κs = search needs
-
 returns : tie.Need-returns
 returns c = search permitted-of-danger
 
 pub permitted-spec : {M : Type 1} → statement M
-permitted-spec = tie.close (tie.spec danger-requires returns)
+permitted-spec = tie.close (tie.spec (λ c κs. search needs) returns)

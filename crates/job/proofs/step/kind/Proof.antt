@@ -4,9 +4,6 @@ use borrow.Author.Needs.{needs}
 use Rattle.job.proofs.step.kind.Statement.{statement}
 use Rattle.job.proofs.step.kind.Tie as tie
 
-place-requires : tie.Need-place-requires
-place-requires c κs = search needs
-
 returns : tie.Need-returns
 returns c = search kind-when-register
 
@@ -31,4 +28,4 @@ returns-7 c = search kind-when-high
 pub kind-spec : {M : Type 1} → statement M
 kind-spec =
     tie.close
-    (tie.spec place-requires returns returns-2 returns-3 returns-4 returns-5 returns-6 returns-7)
+    (tie.spec (λ c κs. search needs) returns returns-2 returns-3 returns-4 returns-5 returns-6 returns-7)

@@ -21,32 +21,11 @@ abbrev μ-loop : tie.MeasureT-loop
 loop-holds : tie.Need-loop-holds Inv-loop μ-loop
 loop-holds c = search needs
 
-mul-write : tie.Need-mul-write Inv-loop μ-loop
-mul-write c = search needs
-
-shared-slice-read-write : tie.Need-shared-slice-read-write Inv-loop μ-loop
-shared-slice-read-write c = search needs
-
-write-requires : tie.Need-write-requires Inv-loop μ-loop
-write-requires c κs = search needs
-
-add-to : tie.Need-add-to Inv-loop μ-loop
-add-to c = search needs
-
-add-here : tie.Need-add-here Inv-loop μ-loop
-add-here c = search needs
-
-sub-remaining : tie.Need-sub-remaining Inv-loop μ-loop
-sub-remaining c = search needs
-
 loop-less : tie.Need-loop-less Inv-loop μ-loop
 loop-less c = search needs
 
 loop-again : tie.Need-loop-again Inv-loop μ-loop
 loop-again c = (search copied-turn, search needs, search needs, search needs)
-
-same-length : tie.Need-same-length Inv-loop μ-loop
-same-length c = search needs
 
 returns : tie.Need-returns Inv-loop μ-loop
 returns c = search copied-done
@@ -58,13 +37,13 @@ put-copied-spec =
     Inv-loop
     μ-loop
     loop-holds
-    mul-write
-    shared-slice-read-write
-    write-requires
-    add-to
-    add-here
-    sub-remaining
+    (λ c. search needs)
+    (λ c. search needs)
+    (λ c κs. search needs)
+    (λ c. search needs)
+    (λ c. search needs)
+    (λ c. search needs)
     loop-less
     loop-again
-    same-length
+    (λ c. search needs)
     returns)

@@ -4,36 +4,6 @@ use borrow.Author.Needs.{needs}
 use Rattle.output.proofs.put.put_pointer.Statement.{statement}
 use Rattle.output.proofs.put.put_pointer.Tie as tie
 
-write-requires : tie.Need-write-requires
-write-requires c κs = search needs
-
-add-write : tie.Need-add-write
-add-write c = search needs
-
-high-requires : tie.Need-high-requires
-high-requires c κs = search needs
-
-write-requires-2 : tie.Need-write-requires-2
-write-requires-2 c κs = search needs
-
-add-write-2 : tie.Need-add-write-2
-add-write-2 c = search needs
-
-write-requires-3 : tie.Need-write-requires-3
-write-requires-3 c κs = search needs
-
-add-write-3 : tie.Need-add-write-3
-add-write-3 c = search needs
-
-low-requires : tie.Need-low-requires
-low-requires c κs = search needs
-
-write-requires-4 : tie.Need-write-requires-4
-write-requires-4 c κs = search needs
-
-same-length : tie.Need-same-length
-same-length c = search needs
-
 returns : tie.Need-returns
 returns c = search put-pointer-of-parts
 
@@ -41,14 +11,14 @@ pub put-pointer-spec : {M : Type 1} → statement M
 put-pointer-spec =
     tie.close
     (tie.spec
-    write-requires
-    add-write
-    high-requires
-    write-requires-2
-    add-write-2
-    write-requires-3
-    add-write-3
-    low-requires
-    write-requires-4
-    same-length
+    (λ c κs. search needs)
+    (λ c. search needs)
+    (λ c κs. search needs)
+    (λ c κs. search needs)
+    (λ c. search needs)
+    (λ c κs. search needs)
+    (λ c. search needs)
+    (λ c κs. search needs)
+    (λ c κs. search needs)
+    (λ c. search needs)
     returns)

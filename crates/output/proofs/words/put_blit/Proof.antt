@@ -5,26 +5,8 @@ use borrow.Author.Needs.{needs}
 use Rattle.output.proofs.words.put_blit.Statement.{statement}
 use Rattle.output.proofs.words.put_blit.Tie as tie
 
-slice-aggregate-stores : tie.Need-slice-aggregate-stores
-slice-aggregate-stores c = search needs
-
-slice-aggregate-stores-2 : tie.Need-slice-aggregate-stores-2
-slice-aggregate-stores-2 c = search needs
-
-stores-requires : tie.Need-stores-requires
-stores-requires c κs = search needs
-
-slice-aggregate-put-stores : tie.Need-slice-aggregate-put-stores
-slice-aggregate-put-stores c = search needs
-
-slice-aggregate-put-stores-2 : tie.Need-slice-aggregate-put-stores-2
-slice-aggregate-put-stores-2 c = search needs
-
 put-stores-requires : tie.Need-put-stores-requires
 put-stores-requires c κs = search (needs, many-in-run)
-
-same-length : tie.Need-same-length
-same-length c = search needs
 
 returns : tie.Need-returns
 returns c =
@@ -36,11 +18,11 @@ pub put-blit-spec : {M : Type 1} → statement M
 put-blit-spec =
     tie.close
     (tie.spec
-    slice-aggregate-stores
-    slice-aggregate-stores-2
-    stores-requires
-    slice-aggregate-put-stores
-    slice-aggregate-put-stores-2
+    (λ c. search needs)
+    (λ c. search needs)
+    (λ c κs. search needs)
+    (λ c. search needs)
+    (λ c. search needs)
     put-stores-requires
-    same-length
+    (λ c. search needs)
     returns)

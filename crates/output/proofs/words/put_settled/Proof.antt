@@ -5,20 +5,11 @@ use borrow.Author.Needs.{needs}
 use Rattle.output.proofs.words.put_settled.Statement.{statement}
 use Rattle.output.proofs.words.put_settled.Tie as tie
 
-height-requires : tie.Need-height-requires
-height-requires c κs = search needs
-
-width-requires : tie.Need-width-requires
-width-requires c κs = search needs
-
 mul-many : tie.Need-mul-many
 mul-many c = search words-fit
 
 put-blit-requires : tie.Need-put-blit-requires
 put-blit-requires c κs = search (needs, many-of-size, many-few)
-
-final-d-requires : tie.Need-final-d-requires
-final-d-requires c κs = search needs
 
 mul-put-end : tie.Need-mul-put-end
 mul-put-end c = search (thrice-fits, many-few)
@@ -29,9 +20,6 @@ add-put-end c = search (end-fits, many-few)
 put-end-requires : tie.Need-put-end-requires
 put-end-requires c κs = search (end-room, many-few)
 
-same-length : tie.Need-same-length
-same-length c = search needs
-
 returns : tie.Need-returns
 returns c = (search (settled-of-parts, many-of-size), search needs)
 
@@ -39,13 +27,13 @@ pub put-settled-spec : {M : Type 1} → statement M
 put-settled-spec =
     tie.close
     (tie.spec
-    height-requires
-    width-requires
+    (λ c κs. search needs)
+    (λ c κs. search needs)
     mul-many
     put-blit-requires
-    final-d-requires
+    (λ c κs. search needs)
     mul-put-end
     add-put-end
     put-end-requires
-    same-length
+    (λ c. search needs)
     returns)

@@ -22,41 +22,11 @@ abbrev μ-loop : tie.MeasureT-loop
 loop-holds : tie.Need-loop-holds Inv-loop μ-loop
 loop-holds c = (search paired-begin, search room-begin, search needs, search needs)
 
-cast-t10 : tie.Need-cast-t10 Inv-loop μ-loop
-cast-t10 c = search needs
-
-mul-t11 : tie.Need-mul-t11 Inv-loop μ-loop
-mul-t11 c = search needs
-
-shared-slice-read-t13 : tie.Need-shared-slice-read-t13 Inv-loop μ-loop
-shared-slice-read-t13 c = search needs
-
-cast-put-store : tie.Need-cast-put-store Inv-loop μ-loop
-cast-put-store c = search needs
-
-mul-put-store : tie.Need-mul-put-store Inv-loop μ-loop
-mul-put-store c = search needs
-
-shared-slice-read-put-store : tie.Need-shared-slice-read-put-store Inv-loop μ-loop
-shared-slice-read-put-store c = search needs
-
-put-store-requires : tie.Need-put-store-requires Inv-loop μ-loop
-put-store-requires c κs = search needs
-
-add-to : tie.Need-add-to Inv-loop μ-loop
-add-to c = search needs
-
-add-from : tie.Need-add-from Inv-loop μ-loop
-add-from c = search needs
-
 loop-less : tie.Need-loop-less Inv-loop μ-loop
 loop-less c = search needs
 
 loop-again : tie.Need-loop-again Inv-loop μ-loop
 loop-again c = (search paired-turn, search needs, search needs, search needs)
-
-same-length : tie.Need-same-length Inv-loop μ-loop
-same-length c = search needs
 
 returns : tie.Need-returns Inv-loop μ-loop
 returns c = search paired-done
@@ -68,16 +38,16 @@ put-stores-spec =
     Inv-loop
     μ-loop
     loop-holds
-    cast-t10
-    mul-t11
-    shared-slice-read-t13
-    cast-put-store
-    mul-put-store
-    shared-slice-read-put-store
-    put-store-requires
-    add-to
-    add-from
+    (λ c. search needs)
+    (λ c. search needs)
+    (λ c. search needs)
+    (λ c. search needs)
+    (λ c. search needs)
+    (λ c. search needs)
+    (λ c κs. search needs)
+    (λ c. search needs)
+    (λ c. search needs)
     loop-less
     loop-again
-    same-length
+    (λ c. search needs)
     returns)

@@ -5,20 +5,8 @@ use borrow.Author.Needs.{needs}
 use Rattle.refusal.proofs.touch.channel_leaves.Statement.{statement}
 use Rattle.refusal.proofs.touch.channel_leaves.Tie as tie
 
-cast-if2 : tie.Need-cast-if2
-cast-if2 c = search needs
-
-evenly-inside-requires : tie.Need-evenly-inside-requires
-evenly-inside-requires c κs = search needs
-
 returns : tie.Need-returns
 returns c = search (channelLeaves-when-inside, c .before .evenly-inside .ensures)
-
-cast-rows-leave : tie.Need-cast-rows-leave
-cast-rows-leave c = search needs
-
-rows-leave-requires : tie.Need-rows-leave-requires
-rows-leave-requires c κs = search needs
 
 returns-2 : tie.Need-returns-2
 returns-2 c = search channelLeaves-when-used
@@ -33,11 +21,11 @@ pub channel-leaves-spec : {M : Type 1} → statement M
 channel-leaves-spec =
     tie.close
     (tie.spec
-    cast-if2
-    evenly-inside-requires
+    (λ c. search needs)
+    (λ c κs. search needs)
     returns
-    cast-rows-leave
-    rows-leave-requires
+    (λ c. search needs)
+    (λ c κs. search needs)
     returns-2
     returns-3
     returns-4)

@@ -16,17 +16,8 @@ abbrev μ-loop : tie.MeasureT-loop
 loop-holds : tie.Need-loop-holds Inv-loop μ-loop
 loop-holds c = search needs
 
-row-leaves-requires : tie.Need-row-leaves-requires Inv-loop μ-loop
-row-leaves-requires c κs = search needs
-
 returns : tie.Need-returns Inv-loop μ-loop
 returns c = search touches-when-row-leaves
-
-next-row-requires : tie.Need-next-row-requires Inv-loop μ-loop
-next-row-requires c κs = search needs
-
-sub-remaining : tie.Need-sub-remaining Inv-loop μ-loop
-sub-remaining c = search needs
 
 loop-less : tie.Need-loop-less Inv-loop μ-loop
 loop-less c = search needs
@@ -44,10 +35,10 @@ rows-leave-spec =
     Inv-loop
     μ-loop
     loop-holds
-    row-leaves-requires
+    (λ c κs. search needs)
     returns
-    next-row-requires
-    sub-remaining
+    (λ c κs. search needs)
+    (λ c. search needs)
     loop-less
     loop-again
     returns-2)

@@ -4,15 +4,6 @@ use Rattle.runner.proofs.RunLaws.{answerNumber-of-refused}
 use Rattle.runner.proofs.answer.number.Statement.{statement}
 use Rattle.runner.proofs.answer.number.Tie as tie
 
-enum-told : tie.Need-enum-told
-enum-told c = search needs
-
-enum-known-answer : tie.Need-enum-known-answer
-enum-known-answer c = search needs
-
-refusal-number-requires : tie.Need-refusal-number-requires
-refusal-number-requires c κs = search needs
-
 returns : tie.Need-returns
 returns c = search needs
 
@@ -20,4 +11,4 @@ returns-2 : tie.Need-returns-2
 returns-2 c = search answerNumber-of-refused
 
 pub number-spec : {M : Type 1} → statement M
-number-spec = tie.close (tie.spec enum-told enum-known-answer refusal-number-requires returns returns-2)
+number-spec = tie.close (tie.spec (λ c. search needs) (λ c. search needs) (λ c κs. search needs) returns returns-2)

@@ -4,14 +4,8 @@ use borrow.Author.Needs.{needs}
 use Rattle.runner.proofs.step.flag_step.Statement.{statement}
 use Rattle.runner.proofs.step.flag_step.Tie as tie
 
-write-requires : tie.Need-write-requires
-write-requires c κs = search needs
-
-same-length : tie.Need-same-length
-same-length c = search needs
-
 returns : tie.Need-returns
 returns c = search stepEffect-of-flag
 
 pub flag-step-spec : {M : Type 1} → statement M
-flag-step-spec = tie.close (tie.spec write-requires same-length returns)
+flag-step-spec = tie.close (tie.spec (λ c κs. search needs) (λ c. search needs) returns)

@@ -7,14 +7,8 @@ use Rattle.runner.proofs.step.store_step.Tie as tie
 returns : tie.Need-returns
 returns c = search stepEffect-when-outside
 
-write-requires : tie.Need-write-requires
-write-requires c κs = search needs
-
-same-length : tie.Need-same-length
-same-length c = search needs
-
 returns-2 : tie.Need-returns-2
 returns-2 c = search stepEffect-when-inside
 
 pub store-step-spec : {M : Type 1} → statement M
-store-step-spec = tie.close (tie.spec returns write-requires same-length returns-2)
+store-step-spec = tie.close (tie.spec returns (λ c κs. search needs) (λ c. search needs) returns-2)

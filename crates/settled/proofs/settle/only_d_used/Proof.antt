@@ -4,11 +4,8 @@ use borrow.Author.Needs.{needs}
 use Rattle.settled.proofs.settle.only_d_used.Statement.{statement}
 use Rattle.settled.proofs.settle.only_d_used.Tie as tie
 
-uses-requires : tie.Need-uses-requires
-uses-requires c κs = search needs
-
 returns : tie.Need-returns
 returns c = search onlyDUsed-of-uses
 
 pub only-d-used-spec : {M : Type 1} → statement M
-only-d-used-spec = tie.close (tie.spec uses-requires returns)
+only-d-used-spec = tie.close (tie.spec (λ c κs. search needs) returns)

@@ -5,12 +5,6 @@ use borrow.Author.Needs.{needs}
 use Rattle.settled.proofs.settle.small.Statement.{statement}
 use Rattle.settled.proofs.settle.small.Tie as tie
 
-height-requires : tie.Need-height-requires
-height-requires c κs = search needs
-
-width-requires : tie.Need-width-requires
-width-requires c κs = search needs
-
 mul-result : tie.Need-mul-result
 mul-result c = search words-fit
 
@@ -18,4 +12,4 @@ returns : tie.Need-returns
 returns c = search small-of-parts
 
 pub small-spec : {M : Type 1} → statement M
-small-spec = tie.close (tie.spec height-requires width-requires mul-result returns)
+small-spec = tie.close (tie.spec (λ c κs. search needs) (λ c κs. search needs) mul-result returns)

@@ -4,11 +4,8 @@ use borrow.Author.Needs.{needs}
 use Rattle.word.proofs.control.shift.Statement.{statement}
 use Rattle.word.proofs.control.shift.Tie as tie
 
-cast-result : tie.Need-cast-result
-cast-result c = search needs
-
 returns : tie.Need-returns
 returns c = refl
 
 pub shift-spec : {M : Type 1} → statement M
-shift-spec = tie.close (tie.spec cast-result returns)
+shift-spec = tie.close (tie.spec (λ c. search needs) returns)

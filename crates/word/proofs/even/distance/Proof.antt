@@ -4,9 +4,6 @@ use borrow.Author.Needs.{needs}
 use Rattle.word.proofs.even.distance.Statement.{statement}
 use Rattle.word.proofs.even.distance.Tie as tie
 
-sub-result : tie.Need-sub-result
-sub-result c = search needs
-
 mul-result : tie.Need-mul-result
 mul-result c = search distance-fits
 
@@ -14,4 +11,4 @@ returns : tie.Need-returns
 returns c = (search needs, search distance-le)
 
 pub distance-spec : {M : Type 1} → statement M
-distance-spec = tie.close (tie.spec sub-result mul-result returns)
+distance-spec = tie.close (tie.spec (λ c. search needs) mul-result returns)

@@ -4,20 +4,8 @@ use borrow.Author.Needs.{needs}
 use Rattle.word.proofs.even.span_inside.Statement.{statement}
 use Rattle.word.proofs.even.span_inside.Tie as tie
 
-enum-told : tie.Need-enum-told
-enum-told c = search needs
-
-add-result : tie.Need-add-result
-add-result c = search needs
-
-enum-told-2 : tie.Need-enum-told-2
-enum-told-2 c = search needs
-
 returns : tie.Need-returns
 returns c = nothing-promised
-
-add-result-2 : tie.Need-add-result-2
-add-result-2 c = search needs
 
 returns-2 : tie.Need-returns-2
 returns-2 c = search SpanInside-when-ascending
@@ -27,4 +15,4 @@ returns-3 c = search SpanInside-when-descending
 
 pub span-inside-spec : {M : Type 1} → statement M
 span-inside-spec =
-    tie.close (tie.spec enum-told add-result enum-told-2 returns add-result-2 returns-2 returns-3)
+    tie.close (tie.spec (λ c. search needs) (λ c. search needs) (λ c. search needs) returns (λ c. search needs) returns-2 returns-3)

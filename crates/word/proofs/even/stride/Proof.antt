@@ -5,11 +5,8 @@ use borrow.Author.Needs.{needs}
 use Rattle.word.proofs.even.stride.Statement.{statement}
 use Rattle.word.proofs.even.stride.Tie as tie
 
-next-row-requires : tie.Need-next-row-requires
-next-row-requires c κs = search needs
-
 returns : tie.Need-returns
 returns c = (ap (λ (pointer : Pointer). pointer .word) (c .next-row .ensures .0), c .next-row .ensures .1)
 
 pub stride-spec : {M : Type 1} → statement M
-stride-spec = tie.close (tie.spec next-row-requires returns)
+stride-spec = tie.close (tie.spec (λ c κs. search needs) returns)

@@ -4,14 +4,8 @@ use borrow.Author.Needs.{needs}
 use Rattle.word.proofs.mask.masked.Statement.{statement}
 use Rattle.word.proofs.mask.masked.Tie as tie
 
-masked-when-requires : tie.Need-masked-when-requires
-masked-when-requires c κs = search needs
-
-masked-when-requires-2 : tie.Need-masked-when-requires-2
-masked-when-requires-2 c κs = search needs
-
 returns : tie.Need-returns
 returns c = search masked-of-both
 
 pub masked-spec : {M : Type 1} → statement M
-masked-spec = tie.close (tie.spec masked-when-requires masked-when-requires-2 returns)
+masked-spec = tie.close (tie.spec (λ c κs. search needs) (λ c κs. search needs) returns)

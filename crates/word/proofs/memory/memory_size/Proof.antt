@@ -4,11 +4,8 @@ use borrow.Author.Needs.{needs}
 use Rattle.word.proofs.memory.memory_size.Statement.{statement}
 use Rattle.word.proofs.memory.memory_size.Tie as tie
 
-cast-result : tie.Need-cast-result
-cast-result c = search needs
-
 returns : tie.Need-returns
 returns c = search memorySize-is-beyond
 
 pub memory-size-spec : {M : Type 1} → statement M
-memory-size-spec = tie.close (tie.spec cast-result returns)
+memory-size-spec = tie.close (tie.spec (λ c. search needs) returns)

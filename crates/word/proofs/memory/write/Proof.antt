@@ -5,15 +5,6 @@ use borrow.Author.Needs.{needs}
 use Rattle.word.proofs.memory.write.Statement.{statement}
 use Rattle.word.proofs.memory.write.Tie as tie
 
-mul-words : tie.Need-mul-words
-mul-words c = search needs
-
-slice-write-words : tie.Need-slice-write-words
-slice-write-words c = search needs
-
-same-length : tie.Need-same-length
-same-length c = search needs
-
 returns : tie.Need-returns
 returns c = search needs
 
@@ -21,4 +12,4 @@ returns-2 : tie.Need-returns-2
 returns-2 c = sym (set-out _ _ _ (c .if1 .left))
 
 pub write-spec : {M : Type 1} → statement M
-write-spec = tie.close (tie.spec mul-words slice-write-words same-length returns returns-2)
+write-spec = tie.close (tie.spec (λ c. search needs) (λ c. search needs) (λ c. search needs) returns returns-2)

@@ -4,9 +4,6 @@ use borrow.Author.Needs.{needs}
 use Rattle.word.proofs.size.height.Statement.{statement}
 use Rattle.word.proofs.size.height.Tie as tie
 
-cast-rows : tie.Need-cast-rows
-cast-rows c = search needs
-
 returns : tie.Need-returns
 returns c = search (needs, height-of-zero)
 
@@ -14,4 +11,4 @@ returns-2 : tie.Need-returns-2
 returns-2 c = search (needs, height-of-field)
 
 pub height-spec : {M : Type 1} → statement M
-height-spec = tie.close (tie.spec cast-rows returns returns-2)
+height-spec = tie.close (tie.spec (λ c. search needs) returns returns-2)

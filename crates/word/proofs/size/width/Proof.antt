@@ -4,9 +4,6 @@ use borrow.Author.Needs.{needs}
 use Rattle.word.proofs.size.width.Statement.{statement}
 use Rattle.word.proofs.size.width.Tie as tie
 
-cast-words : tie.Need-cast-words
-cast-words c = search needs
-
 returns : tie.Need-returns
 returns c = search (needs, width-of-zero)
 
@@ -14,4 +11,4 @@ returns-2 : tie.Need-returns-2
 returns-2 c = search (needs, width-of-field)
 
 pub width-spec : {M : Type 1} → statement M
-width-spec = tie.close (tie.spec cast-words returns returns-2)
+width-spec = tie.close (tie.spec (λ c. search needs) returns returns-2)

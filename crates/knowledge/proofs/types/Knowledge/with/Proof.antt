@@ -48,26 +48,14 @@ listed-with-sources self after place known behind same =
     set-in-last (controls (self .controls) ++ pointers (self .pointers) ++ modulos (self .modulos)) (sources (self .sources)) (sources after)
     place (place - 16) known (omega arith) same
 
-with-requires : tie.Need-with-requires
-with-requires c κs = search needs
-
 returns : tie.Need-returns
 returns c = search listed-with-controls
-
-with-requires-2 : tie.Need-with-requires-2
-with-requires-2 c κs = search needs
 
 returns-2 : tie.Need-returns-2
 returns-2 c = search listed-with-pointers
 
-with-requires-3 : tie.Need-with-requires-3
-with-requires-3 c κs = search needs
-
 returns-3 : tie.Need-returns-3
 returns-3 c = search listed-with-modulos
-
-with-requires-4 : tie.Need-with-requires-4
-with-requires-4 c κs = search needs
 
 returns-4 : tie.Need-returns-4
 returns-4 c = search listed-with-sources
@@ -76,11 +64,11 @@ pub with-spec : {M : Type 1} → statement M
 with-spec =
     tie.close
     (tie.spec
-    with-requires
+    (λ c κs. search needs)
     returns
-    with-requires-2
+    (λ c κs. search needs)
     returns-2
-    with-requires-3
+    (λ c κs. search needs)
     returns-3
-    with-requires-4
+    (λ c κs. search needs)
     returns-4)

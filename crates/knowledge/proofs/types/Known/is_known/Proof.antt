@@ -4,12 +4,6 @@ use borrow.Author.Needs.{needs}
 use Rattle.knowledge.proofs.types.Known.is_known.Statement.{statement}
 use Rattle.knowledge.proofs.types.Known.is_known.Tie as tie
 
-enum-told : tie.Need-enum-told
-enum-told c = search needs
-
-enum-told-2 : tie.Need-enum-told-2
-enum-told-2 c = search needs
-
 returns : tie.Need-returns
 unfolding isKnown
 returns c = search needs
@@ -19,4 +13,4 @@ unfolding isKnown
 returns-2 c = search needs
 
 pub is-known-spec : {M : Type 1} → statement M
-is-known-spec = tie.close (tie.spec enum-told enum-told-2 returns returns-2)
+is-known-spec = tie.close (tie.spec (λ c. search needs) (λ c. search needs) returns returns-2)

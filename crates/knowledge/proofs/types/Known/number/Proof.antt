@@ -4,12 +4,6 @@ use borrow.Author.Needs.{needs}
 use Rattle.knowledge.proofs.types.Known.number.Statement.{statement}
 use Rattle.knowledge.proofs.types.Known.number.Tie as tie
 
-enum-known-self : tie.Need-enum-known-self
-enum-known-self c = search needs
-
-enum-told : tie.Need-enum-told
-enum-told c = search needs
-
 returns : tie.Need-returns
 returns c = search number-when-is
 
@@ -17,4 +11,4 @@ returns-2 : tie.Need-returns-2
 returns-2 c = search number-when-unknown
 
 pub number-spec : {M : Type 1} → statement M
-number-spec = tie.close (tie.spec enum-known-self enum-told returns returns-2)
+number-spec = tie.close (tie.spec (λ c. search needs) (λ c. search needs) returns returns-2)

@@ -41,26 +41,14 @@ pointers-with-d self after place known there same =
     set-in-part (halves (self .c) ++ halves (self .b) ++ halves (self .a)) (halves (self .d)) (halves after) []
     place (place % 2) known (omega arith) (omega arith) same
 
-with-requires : tie.Need-with-requires
-with-requires c κs = search needs
-
 returns : tie.Need-returns
 returns c = search pointers-with-c
-
-with-requires-2 : tie.Need-with-requires-2
-with-requires-2 c κs = search needs
 
 returns-2 : tie.Need-returns-2
 returns-2 c = search pointers-with-b
 
-with-requires-3 : tie.Need-with-requires-3
-with-requires-3 c κs = search needs
-
 returns-3 : tie.Need-returns-3
 returns-3 c = search pointers-with-a
-
-with-requires-4 : tie.Need-with-requires-4
-with-requires-4 c κs = search needs
 
 returns-4 : tie.Need-returns-4
 returns-4 c = search pointers-with-d
@@ -75,10 +63,10 @@ pub with-spec : {M : Type 1} → statement M
 with-spec =
     tie.close
     (tie.spec
-    with-requires
-    with-requires-2
-    with-requires-3
-    with-requires-4
+    (λ c κs. search needs)
+    (λ c κs. search needs)
+    (λ c κs. search needs)
+    (λ c κs. search needs)
     returns
     returns-2
     returns-3

@@ -4,11 +4,8 @@ use borrow.Author.Needs.{needs}
 use Rattle.word.proofs.types.Pointer.plus.Statement.{statement}
 use Rattle.word.proofs.types.Pointer.plus.Tie as tie
 
-add-t5 : tie.Need-add-t5
-add-t5 c = search needs
-
 returns : tie.Need-returns
 returns c = rw sum-of-remainder
 
 pub plus-spec : {M : Type 1} → statement M
-plus-spec = tie.close (tie.spec add-t5 returns)
+plus-spec = tie.close (tie.spec (λ c. search needs) returns)

@@ -4,11 +4,8 @@ use borrow.Author.Needs.{needs}
 use Rattle.word.proofs.types.Pointer.up.Statement.{statement}
 use Rattle.word.proofs.types.Pointer.up.Tie as tie
 
-add-t3 : tie.Need-add-t3
-add-t3 c = search needs
-
 returns : tie.Need-returns
 returns c = rw sum-of-remainder
 
 pub up-spec : {M : Type 1} → statement M
-up-spec = tie.close (tie.spec add-t3 returns)
+up-spec = tie.close (tie.spec (λ c. search needs) returns)

@@ -15,7 +15,7 @@ use Rattle.word.proofs.ChoiceLaws.{and-left, and-right, and-none}
 use Rattle.card_reading.specs.declared.types.Ram.{Ram}
 use Rattle.card_reading.specs.Text.{newline, byte, decimalDigit}
 use Rattle.card_reading.specs.RamLine.{digits, withDigit, spelled, ramWords, ramEnd, ramKey, ramLine}
-use Rattle.card_reading.specs.Ram.{ramRead, ramEnded}
+use Rattle.card_reading.specs.Inner.Ram.{ramRead, ramEnded}
 
 -- the digits ended
 pub ramEnded-when-none : (text : List ℕ) (at words : ℕ) → words ≡ 0 → Ram.Bad ≡ ramEnded text at words

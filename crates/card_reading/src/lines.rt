@@ -7,7 +7,7 @@ ghost use Rattle.card_reading.specs.Text.{decimalDigit};
 ghost use Rattle.card_reading.specs.RamLine.{withDigit, ramKey};
 ghost use Rattle.card_reading.specs.Keys.{letter};
 ghost use Rattle.card_reading.specs.Reading.{keyAt, wordAt, keyLine, badFrom};
-ghost use Rattle.card_reading.specs.Ram.{ramRead, ramEnded};
+ghost use Rattle.card_reading.specs.Inner.Ram.{ramRead, ramEnded};
 use crate::text::byte;
 use crate::text::decimal_digit;
 use crate::text::hex_digit;

@@ -12,7 +12,7 @@ use Rattle.runner.specs.Run.{ended, machine, run}
 use Rattle.runner.specs.Answer.{answerNumber, answerPlace, answerStored, left}
 use Rattle.card_reading.specs.declared.types.Ram.{Ram}
 use Rattle.card_reading.specs.Reading.{badFrom, badLine}
-use Rattle.card_reading.specs.Ram.{ramRead}
+use Rattle.card_reading.specs.Inner.Ram.{ramRead}
 use Rattle.card_reading.specs.Job.{writeOrder, writes}
 use Rattle.card_text.specs.Run.{counted, zeros, cardRun}
 use Rattle.card_text.specs.Printing.{printedRun, printedBad}

@@ -1,0 +1,64 @@
+-- Laws of the sources that a function ignores: bit 4a + 2b + c of the function is the same for both values of one of them.
+use mathlib.Core.Path.{_≡_, refl, sym, ap, _∙_}
+use Prim.Native.Nat.{ℕ, _+_, _*_, _/_, _%_, _<_}
+use native.Mathlib.Nat.{div-one}
+use Rattle.word.specs.Word.{bit}
+use Rattle.word.specs.Logic.{logic}
+use Rattle.word.proofs.WordLaws.{bit-lt, bit-of-ofBits, bits-are-enough, bit-cases}
+use Rattle.word.proofs.LogicLaws.{logic-lt}
+
+pub bit-of-logic : (f a b c i : ℕ) → i < 16 → bit (logic f a b c) i ≡ bit f (4 * bit a i + 2 * bit b i + bit c i)
+unfolding logic
+bit-of-logic f a b c i inside =
+    bit-of-ofBits (λ i. bit f (4 * bit a i + 2 * bit b i + bit c i)) 16 (λ i. bit-lt f (4 * bit a i + 2 * bit b i + bit c i)) i inside
+
+logic-same : (f a b c a′ b′ c′ : ℕ)
+    → ((i : ℕ) → i < 16 → bit f (4 * bit a i + 2 * bit b i + bit c i) ≡ bit f (4 * bit a′ i + 2 * bit b′ i + bit c′ i))
+    → logic f a b c ≡ logic f a′ b′ c′
+logic-same f a b c a′ b′ c′ same =
+    bits-are-enough 16 (logic f a b c) (logic f a′ b′ c′) (logic-lt f a b c) (logic-lt f a′ b′ c′)
+    (λ i inside. bit-of-logic f a b c i inside ∙ same i inside ∙ sym (bit-of-logic f a′ b′ c′ i inside))
+
+bit-low : (f : ℕ) → f % 2 ≡ bit f 0
+bit-low f = ap (λ (x : ℕ). x % 2) (sym (div-one f))
+
+-- a choice by one bit that is the same for both its values
+same-for : (chosen : ℕ → ℕ) → chosen 1 ≡ chosen 0 → (x other : ℕ) → x < 2 → other < 2 → chosen x ≡ chosen other
+same-for chosen same x other small few = to-none x small ∙ sym (to-none other few)
+  where
+    to-none : (x : ℕ) → x < 2 → chosen x ≡ chosen 0
+    to-none x small = bit-cases (λ x. chosen x ≡ chosen 0) refl same x small
+
+module _ (f : ℕ) where
+  pub ignores-a : f / 16 % 2 ≡ f % 2 → f / 32 % 2 ≡ f / 2 % 2 → f / 64 % 2 ≡ f / 4 % 2 → f / 128 % 2 ≡ f / 8 % 2
+      → (a other b c : ℕ) → logic f a b c ≡ logic f other b c
+  ignores-a e0 e1 e2 e3 a other b c =
+      logic-same f a b c other b c
+      (λ i inside.
+      same-for (λ a. bit f (4 * a + 2 * bit b i + bit c i))
+      (bit-cases (λ b. bit f (4 * 1 + 2 * b + bit c i) ≡ bit f (4 * 0 + 2 * b + bit c i))
+      (bit-cases (λ c. bit f (4 + c) ≡ bit f (0 + c)) (e0 ∙ bit-low f) e1 (bit c i) (bit-lt c i))
+      (bit-cases (λ c. bit f (6 + c) ≡ bit f (2 + c)) e2 e3 (bit c i) (bit-lt c i)) (bit b i) (bit-lt b i))
+      (bit a i) (bit other i) (bit-lt a i) (bit-lt other i))
+
+  pub ignores-b : f / 4 % 2 ≡ f % 2 → f / 8 % 2 ≡ f / 2 % 2 → f / 64 % 2 ≡ f / 16 % 2 → f / 128 % 2 ≡ f / 32 % 2
+      → (a b other c : ℕ) → logic f a b c ≡ logic f a other c
+  ignores-b e0 e1 e2 e3 a b other c =
+      logic-same f a b c a other c
+      (λ i inside.
+      same-for (λ b. bit f (4 * bit a i + 2 * b + bit c i))
+      (bit-cases (λ a. bit f (4 * a + 2 * 1 + bit c i) ≡ bit f (4 * a + 2 * 0 + bit c i))
+      (bit-cases (λ c. bit f (2 + c) ≡ bit f (0 + c)) (e0 ∙ bit-low f) e1 (bit c i) (bit-lt c i))
+      (bit-cases (λ c. bit f (6 + c) ≡ bit f (4 + c)) e2 e3 (bit c i) (bit-lt c i)) (bit a i) (bit-lt a i))
+      (bit b i) (bit other i) (bit-lt b i) (bit-lt other i))
+
+  pub ignores-c : f / 2 % 2 ≡ f % 2 → f / 8 % 2 ≡ f / 4 % 2 → f / 32 % 2 ≡ f / 16 % 2 → f / 128 % 2 ≡ f / 64 % 2
+      → (a b c other : ℕ) → logic f a b c ≡ logic f a b other
+  ignores-c e0 e1 e2 e3 a b c other =
+      logic-same f a b c a b other
+      (λ i inside.
+      same-for (λ c. bit f (4 * bit a i + 2 * bit b i + c))
+      (bit-cases (λ a. bit f (4 * a + 2 * bit b i + 1) ≡ bit f (4 * a + 2 * bit b i + 0))
+      (bit-cases (λ b. bit f (0 + 2 * b + 1) ≡ bit f (0 + 2 * b + 0)) (e0 ∙ bit-low f) e1 (bit b i) (bit-lt b i))
+      (bit-cases (λ b. bit f (4 + 2 * b + 1) ≡ bit f (4 + 2 * b + 0)) e2 e3 (bit b i) (bit-lt b i)) (bit a i) (bit-lt a i))
+      (bit c i) (bit other i) (bit-lt c i) (bit-lt other i))

@@ -1,0 +1,9 @@
+-- The laws of a block's loops.
+pub mod EachLaws
+pub mod MaskLaws
+pub mod ShiftLaws
+pub mod IgnoresLaws
+pub mod MixLaws
+pub mod CarryLaws
+pub mod FillLaws
+pub mod PlaceLaws

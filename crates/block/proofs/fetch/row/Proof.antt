@@ -1,0 +1,28 @@
+-- `block::fetch::row` meets its contract, by the direction.
+use Rattle.block.proofs.PlaceLaws.{row-ascends, row-descends-from, row-descends-by, fetch-when}
+use borrow.Author.Needs.{needs}
+use Rattle.block.proofs.fetch.row.Statement.{statement}
+use Rattle.block.proofs.fetch.row.Tie as tie
+
+row-up-requires : tie.Need-row-up-requires
+row-up-requires c κs = (search (row-ascends, needs), search needs, search needs)
+
+row-down-requires : tie.Need-row-down-requires
+row-down-requires c κs = (search (row-descends-from, needs), search (row-descends-by, needs), search needs, search needs)
+
+returns : tie.Need-returns
+returns c = (search needs, search fetch-when)
+
+returns-2 : tie.Need-returns-2
+returns-2 c = (search needs, search fetch-when)
+
+pub row-spec : {M : Type 1} → statement M
+row-spec =
+    tie.close
+    (tie.spec
+    (λ c. search needs)
+    row-up-requires
+    (λ c. search needs)
+    row-down-requires
+    returns
+    returns-2)

@@ -1,0 +1,45 @@
+-- `block::level::level` meets its contract: each turn lays the word once more.
+use Prim.Native.Nat.{_-_, ℕ, _<_, _+_, _≤_}
+use lib.ListN.{length, set}
+use mathlib.Core.List.{List}
+use mathlib.Core.Path.{refl, _≡_}
+use Rattle.word.specs.Word.{word}
+use Rattle.area.specs.Rows.{words}
+use Rattle.block.specs.Inner.Each.{Each, levelAt}
+use Rattle.block.proofs.EachLaws.{each-turn, each-none, each-fewer}
+use borrow.Author.Needs.{needs}
+use Rattle.block.proofs.level.level.Statement.{statement}
+use Rattle.block.proofs.level.level.Tie as tie
+
+level-turn : (i word : ℕ) (words : List ℕ) → i < length words → Each i words (levelAt word) → Each (i + 1) (set words i word) (levelAt word)
+unfolding levelAt
+level-turn i word words inside all = each-turn i word words _ inside refl all
+
+abbrev Inv-loop : tie.InvT-loop
+Inv-loop word n x₀ i₀ x i = (i ≤ n) × (length x ≡ 80) × Each i x (levelAt word)
+
+abbrev μ-loop : tie.MeasureT-loop
+μ-loop word n x₀ i₀ x i = n - i
+
+loop-holds : tie.Need-loop-holds Inv-loop μ-loop
+loop-holds c = (search needs, search needs, each-none _ _)
+
+loop-again : tie.Need-loop-again Inv-loop μ-loop
+loop-again c = (search needs, search needs, level-turn _ _ _ (search needs) (c .before .loop .inv .2))
+
+returns : tie.Need-returns Inv-loop μ-loop
+returns c = (search needs, search (needs, each-fewer))
+
+pub level-spec : {M : Type 1} → statement M
+level-spec =
+    tie.close
+    (tie.spec
+    Inv-loop
+    μ-loop
+    loop-holds
+    (λ c. search needs)
+    (λ c. search needs)
+    (λ c. search needs)
+    (λ c. search needs)
+    loop-again
+    returns)

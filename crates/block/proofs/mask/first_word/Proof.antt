@@ -1,0 +1,12 @@
+-- `block::mask::first_word` meets its contract: what a slice of words holds are words.
+use native.Mathlib.Omega.{arith}
+use Rattle.word.specs.Choice.{given}
+use borrow.Author.Needs.{needs}
+use Rattle.block.proofs.mask.first_word.Statement.{statement}
+use Rattle.block.proofs.mask.first_word.Tie as tie
+
+returns : tie.Need-returns
+returns c = λ j. omega (arith, c .shared-slice-known .given j)
+
+pub first-word-spec : {M : Type 1} → statement M
+first-word-spec = tie.close (tie.spec (λ c. search needs) returns)

@@ -1,0 +1,53 @@
+-- `block::shift::shift_down` meets its contract: the first word with the one before the block, each other with the one before it.
+use Prim.Native.Nat.{_-_, _≤_, _+_}
+use lib.ListN.{length}
+use mathlib.Core.Path.{_≡_}
+use native.Mathlib.Omega.{arith}
+use Rattle.word.specs.Control.{descending}
+use Rattle.word.specs.declared.types.Direction.the-variants.{Descending}
+use Rattle.quiet.specs.Words.{shiftedAt}
+use Rattle.block.specs.Inner.Each.{Each, at}
+use Rattle.block.proofs.EachLaws.{each-fewer}
+use Rattle.block.proofs.ShiftLaws.{shift-first, shift-turn}
+use borrow.Author.Needs.{needs}
+use Rattle.block.proofs.shift.shift_down.Statement.{statement}
+use Rattle.block.proofs.shift.shift_down.Tie as tie
+
+abbrev Inv-loop : tie.InvT-loop
+Inv-loop by n earlier x y₀ i₀ y i = (i ≤ n) × (length y ≡ 80) × Each (i + 1) y (shiftedAt Descending by earlier (at x))
+
+abbrev μ-loop : tie.MeasureT-loop
+μ-loop by n earlier x y₀ i₀ y i = n - i
+
+loop-holds : tie.Need-loop-holds Inv-loop μ-loop
+loop-holds c = (search needs, search needs, shift-first _ _ _ _ (c .before .before .args .x .now) (c .before .before .args .y .now) (search needs) (c .descending .ensures))
+
+loop-again : tie.Need-loop-again Inv-loop μ-loop
+loop-again c = (search needs, search needs, shift-turn _ _ _ _ _ _ _ (search needs) (c .descending2 .ensures) (c .before .before .before .before .loop .inv .2))
+
+returns : tie.Need-returns Inv-loop μ-loop
+returns c = (search needs, each-fewer _ _ _ _ (omega arith) (c .before .loop .inv .2))
+
+pub shift-down-spec : {M : Type 1} → statement M
+shift-down-spec =
+    tie.close
+    (tie.spec
+    Inv-loop
+    μ-loop
+    (λ c. search needs)
+    (λ c κs. search needs)
+    (λ c. search needs)
+    loop-holds
+    (λ c. search needs)
+    (λ c. search needs)
+    (λ c. search needs)
+    (λ c. search needs)
+    (λ c. search needs)
+    (λ c κs. search needs)
+    (λ c. search needs)
+    (λ c. search needs)
+    (λ c. search needs)
+    (λ c. search needs)
+    (λ c. search needs)
+    loop-again
+    returns)

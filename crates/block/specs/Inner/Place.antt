@@ -1,0 +1,33 @@
+-- The places of a channel's words by sums, where no row goes round.
+use Prim.Native.Nat.{ℕ, _+_, _-_, _*_, _/_, _%_, _<_}
+use mathlib.Core.List.{List}
+use lib.ListN.{getD}
+use Rattle.word.specs.declared.types.Direction.{Direction}
+use Rattle.word.specs.declared.types.Direction.the-variants.{Ascending, Descending}
+use Rattle.word.specs.Pointer.{pointerEnd}
+use Rattle.word.specs.Inner.Even.{RowInside}
+
+-- where a row starts, each as far above the one before it
+unfoldable pub rowAt : (far from row : ℕ) → ℕ
+rowAt far from row = (from + row * far) % pointerEnd
+
+-- so many words into a row
+unfoldable pub placeIn : Direction → (start word : ℕ) → ℕ
+placeIn Ascending start word = start + word
+placeIn Descending start word = start - word
+
+-- word k of rows of so many words
+unfoldable pub placeAt : Direction → (width far from k : ℕ) → ℕ
+placeAt direction width far from k = placeIn direction (rowAt far from (k / width)) (k % width)
+
+-- so many rows lie inside memory of n words, and none goes round
+unfoldable pub EvenRows : (n : ℕ) → Direction → (width far from rows : ℕ) → Type 0
+EvenRows n direction width far from rows =
+    (row : ℕ) → row < rows → RowInside n direction width (record { word = rowAt far from row })
+
+-- what a channel fetches: word i of a row, and word k of all
+unfoldable pub fetchedIn : Direction → (memory : List ℕ) → (start i : ℕ) → ℕ
+fetchedIn direction memory start i = getD memory (placeIn direction start i) 0
+
+unfoldable pub fetchedAt : Direction → (width far from : ℕ) → (memory : List ℕ) → (k : ℕ) → ℕ
+fetchedAt direction width far from memory k = getD memory (placeAt direction width far from k) 0

@@ -1,0 +1,323 @@
+-- A quiet blit's words are those of the sequence: the definition's own steps lead from each to the next.
+use mathlib.Core.Path.{_≡_, refl, sym, ap, _∙_}
+use Prim.Native.Nat.{ℕ, zero, suc, _+_, _*_, _/_, _%_, _<_, _≤_}
+use native.Mathlib.Nat.{suc-mul, mul-le-mul-right, add-zero}
+use native.Mathlib.Omega.{arith}
+use mathlib.Core.Bool.{Bool, true, false, _&&_}
+use mathlib.Core.List.{List}
+use borrow.Author.Tests.{ne-eqb, eq-eqb}
+use lib.Dec.{eqb}
+use lib.ListN.{getD, set}
+use lib.Seq.{getD-set-other}
+use Rattle.word.specs.declared.types.Pointer.{Pointer}
+use Rattle.word.specs.Choice.{if_then_else_, every}
+use Rattle.word.specs.Repeat.{repeated}
+use Rattle.area.specs.declared.types.Pending.{Pending}
+use Rattle.area.specs.declared.types.Pointers.{Pointers}
+use Rattle.area.specs.declared.types.Setup.{Setup}
+use Rattle.area.specs.declared.types.Flow.{Flow}
+use Rattle.area.specs.Flow.{State, state, nothing}
+use Rattle.area.specs.Fetch.{fetched, fetch}
+use Rattle.area.specs.Finish.{maskedA, result, final, finish}
+use Rattle.area.specs.Store.{wait, memoryWith, countWith, storePending}
+use Rattle.area.specs.Move.{stepped, moveOn, rowEnd}
+use Rattle.area.proofs.StoreLaws.{memoryWith-of-used, memoryWith-of-unused}
+use Rattle.area.specs.Rows.{finishedWord, storedBefore, oneWord, words, rowStart, oneRow, rows, areaBlit}
+use Rattle.quiet.specs.Words.{wordBefore, maskedAt, shiftedAt, mixedAt, resultAt, carryTo, filledAt}
+use Rattle.quiet.specs.Stream.{standing, atA, atB, atC, atD, wordA, wordB, wordC, finals, finalWord, laidAt}
+use Rattle.quiet.specs.Quiet.{Unmet, Quiet, memoryAfter, pointersIn, flowAfter, QuietBlit}
+use Rattle.quiet.proofs.StreamLaws.{row-of, word-of, standing-steps, standing-turns, standing-starts, is-first, is-last}
+
+-- a store elsewhere
+memoryWith-elsewhere : (used : Bool) (at word place : ℕ) (memory : List ℕ) → (used ≡ true → at ≡ place → ⊥)
+    → getD (memoryWith (record { waits = used; place = at; word = word }) memory) place 0 ≡ getD memory place 0
+unfolding memoryWith
+memoryWith-elsewhere true at word place memory apart = getD-set-other memory at place word 0 (λ same. apart refl (sym same))
+memoryWith-elsewhere false at word place memory apart = refl
+
+countWith-by : (used known : Bool) (place word stored : ℕ) → used ≡ known
+    → countWith (record { waits = used; place = place; word = word }) stored ≡ (if known then stored + 1 else stored)
+unfolding countWith
+countWith-by used known place word stored uses = rw uses
+
+-- a source at rest gives what it gave before
+wordBefore-rests : (used : Bool) (memory : List ℕ) (fetches : ℕ → Pointer) (source k : ℕ) → used ≡ false
+    → wordBefore source (λ k. fetched used memory (fetches k) source) k ≡ source
+unfolding wordBefore fetched
+wordBefore-rests used memory fetches source zero idle = refl
+wordBefore-rests used memory fetches source (suc k) idle = rw idle
+
+module _ (setup : Setup) (width : ℕ) (memory : List ℕ) (flow : Flow) where
+  -- word k on its way to D, and memory, count and flag with the first k words stored
+  abbrev waiting : (k : ℕ) → Pending
+  waiting k = record { waits = setup .uses .d; place = atD setup width flow k .word; word = finalWord setup width memory flow k }
+
+  unfoldable memoryWords : (k : ℕ) → List ℕ
+  memoryWords zero = memory
+  memoryWords (suc k) = memoryWith (waiting k) (memoryWords k)
+
+  unfoldable countWords : (k : ℕ) → ℕ
+  countWords zero = flow .stored
+  countWords (suc k) = countWith (waiting k) (countWords k)
+
+  unfoldable zeroWords : (k : ℕ) → Bool
+  zeroWords zero = flow .allzero
+  zeroWords (suc k) = zeroWords k && eqb (finalWord setup width memory flow k) 0
+
+  -- memory, count and pending word as word k finds them: the one before it waits
+  unfoldable memoryTo : (k : ℕ) → List ℕ
+  memoryTo zero = memory
+  memoryTo (suc k) = memoryWords k
+
+  unfoldable countTo : (k : ℕ) → ℕ
+  countTo zero = flow .stored
+  countTo (suc k) = countWords k
+
+  unfoldable pendingTo : (k : ℕ) → Pending
+  pendingTo zero = nothing
+  pendingTo (suc k) = waiting k
+
+  unfoldable flowTo : Pointers → (carry k : ℕ) → Flow
+  flowTo pointers carry k =
+      record {
+        pointers = pointers;
+        sources =
+            record {
+              a = wordBefore (flow .sources .a) (wordA setup width memory flow) k;
+              b = wordBefore (flow .sources .b) (wordB setup width memory flow) k;
+              c = wordBefore (flow .sources .c) (wordC setup width memory flow) k;
+            };
+        earlier =
+            record {
+              a = wordBefore (flow .earlier .a) (maskedAt (setup .masks) width (wordA setup width memory flow)) k;
+              b = wordBefore (flow .earlier .b) (wordB setup width memory flow) k;
+            };
+        carry = carry;
+        allzero = zeroWords k;
+        stored = countTo k;
+        pending = pendingTo k;
+      }
+
+  memoryTo-stored : (k : ℕ) → memoryWith (pendingTo k) (memoryTo k) ≡ memoryWords k
+  unfolding pendingTo memoryTo memoryWords memoryWith
+  memoryTo-stored zero = refl
+  memoryTo-stored (suc k) = refl
+
+  countTo-stored : (k : ℕ) → countWith (pendingTo k) (countTo k) ≡ countWords k
+  unfolding pendingTo countTo countWords countWith
+  countTo-stored zero = refl
+  countTo-stored (suc k) = refl
+
+  -- a word, its sources given
+  module _ (remaining k : ℕ) (pointers : Pointers) (carry : ℕ)
+      (gives-a : fetched (setup .uses .a) (memoryTo k) (pointers .a) (wordBefore (flow .sources .a) (wordA setup width memory flow) k) ≡ wordA setup width memory flow k)
+      (gives-b : fetched (setup .uses .b) (memoryTo k) (pointers .b) (wordBefore (flow .sources .b) (wordB setup width memory flow) k) ≡ wordB setup width memory flow k)
+      (gives-c : fetched (setup .uses .c) (memoryTo k) (pointers .c) (wordBefore (flow .sources .c) (wordC setup width memory flow) k) ≡ wordC setup width memory flow k)
+      (comes : carry ≡ carryTo (setup .fill) (setup .carry) width (resultAt setup width (flow .earlier) (wordA setup width memory flow) (wordB setup width memory flow) (wordC setup width memory flow)) k)
+      (first : eqb (remaining + 1) width ≡ eqb (k % width) 0)
+      (last : eqb remaining 0 ≡ eqb (k % width + 1) width)
+      (stores : pointers .d .word ≡ atD setup width flow k .word) where
+    abbrev moves : Pointers
+    moves =
+        record {
+          a = stepped (setup .direction) (setup .uses .a) (pointers .a);
+          b = stepped (setup .direction) (setup .uses .b) (pointers .b);
+          c = stepped (setup .direction) (setup .uses .c) (pointers .c);
+          d = stepped (setup .direction) (setup .uses .d) (pointers .d);
+        }
+
+    oneWord-turns : oneWord setup width remaining (state (memoryTo k) (flowTo pointers carry k))
+        ≡ state (memoryTo (suc k)) (flowTo moves (finals setup width memory flow k .carry) (suc k))
+    unfolding oneWord storedBefore storePending finishedWord wait moveOn finish final result maskedA fetch flowTo memoryTo countTo pendingTo zeroWords wordBefore filledAt resultAt mixedAt shiftedAt maskedAt finalWord
+    oneWord-turns = rw (gives-a, gives-b, gives-c, comes, first, last, stores, ← memoryTo-stored k, ← countTo-stored k)
+
+  -- a place that no earlier word was stored at is as it was
+  memoryWords-elsewhere : (k place : ℕ) → ((j : ℕ) → j < k → setup .uses .d ≡ true → atD setup width flow j .word ≡ place → ⊥)
+      → getD (memoryWords k) place 0 ≡ getD memory place 0
+  unfolding memoryWords
+  memoryWords-elsewhere zero place apart = refl
+  memoryWords-elsewhere (suc k) place apart =
+      memoryWith-elsewhere (setup .uses .d) (atD setup width flow k .word) (finalWord setup width memory flow k) place (memoryWords k) (apart k (omega arith))
+      ∙ memoryWords-elsewhere k place (λ j below. apart j (omega arith))
+
+  memoryTo-elsewhere : (k place : ℕ) → ((j : ℕ) → j + 1 < k → setup .uses .d ≡ true → atD setup width flow j .word ≡ place → ⊥)
+      → getD (memoryTo k) place 0 ≡ getD memory place 0
+  unfolding memoryTo
+  memoryTo-elsewhere zero place apart = refl
+  memoryTo-elsewhere (suc k) place apart = memoryWords-elsewhere k place (λ j below. apart j (omega arith))
+
+  fetched-unmet : (used : Bool) (k n source : ℕ) (here : Pointer) (fetches : ℕ → Pointer) → here ≡ fetches k → k < n
+      → Unmet (setup .uses .d) used (atD setup width flow) fetches n
+      → fetched used (memoryTo k) here (wordBefore source (λ k. fetched used memory (fetches k) source) k) ≡ fetched used memory (fetches k) source
+  unfolding fetched Unmet
+  fetched-unmet true k n source here fetches is below unmet =
+      rw is (memoryTo-elsewhere k (fetches k .word) (λ j early uses. unmet k j below early uses refl))
+  fetched-unmet false k n source here fetches is below unmet = wordBefore-rests false memory fetches source k refl
+
+  -- the carry in a row: carry-in before its first word
+  unfoldable carryIn : (word k : ℕ) → ℕ
+  carryIn zero k = setup .carry
+  carryIn (suc word) zero = setup .carry
+  carryIn (suc word) (suc k) = finals setup width memory flow k .carry
+
+  carryIn-comes : (row word k : ℕ) → word < width → k ≡ row * width + word
+      → carryIn word k
+      ≡ carryTo (setup .fill) (setup .carry) width (resultAt setup width (flow .earlier) (wordA setup width memory flow) (wordB setup width memory flow) (wordC setup width memory flow)) k
+  unfolding carryIn carryTo filledAt
+  carryIn-comes row zero zero short is = refl
+  carryIn-comes row zero (suc k) short is = rw (eq-eqb (suc k % width) 0 (word-of width row zero (suc k) short is))
+  carryIn-comes row (suc word) zero short is = refl
+  carryIn-comes row (suc word) (suc k) short is =
+      rw (ne-eqb (suc k % width) 0 (λ none. absurd (omega (arith, word-of width row (suc word) (suc k) short is))))
+
+  abbrev stateIn : (row word k : ℕ) → State
+  stateIn row word k = state (memoryTo k) (flowTo (pointersIn setup width row word (flow .pointers)) (carryIn word k) k)
+
+  module _ (n : ℕ) (quiet : Quiet setup width n flow) where
+    oneWord-goes : (row word remaining k : ℕ) → remaining + 1 + word ≡ width → k ≡ row * width + word → k < n
+        → oneWord setup width remaining (stateIn row word k) ≡ stateIn row (suc word) (suc k)
+    unfolding Quiet wordA wordB wordC carryIn
+    oneWord-goes row word remaining k all is below =
+        let short : word < width = omega arith in
+        let row-is : k / width ≡ row = row-of width row word k short is in
+        let word-is : k % width ≡ word = word-of width row word k short is in
+        oneWord-turns remaining k (pointersIn setup width row word (flow .pointers)) (carryIn word k)
+        (fetched-unmet (setup .uses .a) k n (flow .sources .a) _ (atA setup width flow) (rw (row-is, word-is)) below (quiet .0))
+        (fetched-unmet (setup .uses .b) k n (flow .sources .b) _ (atB setup width flow) (rw (row-is, word-is)) below (quiet .1))
+        (fetched-unmet (setup .uses .c) k n (flow .sources .c) _ (atC setup width flow) (rw (row-is, word-is)) below (quiet .2))
+        (carryIn-comes row word k short is)
+        (is-first remaining word width all ∙ rw word-is)
+        (is-last remaining word width all ∙ rw word-is)
+        (rw (row-is, word-is))
+        ∙ rw (
+          standing-steps (setup .direction) width (setup .modulos .a) row (flow .pointers .a) (setup .uses .a) word,
+          standing-steps (setup .direction) width (setup .modulos .b) row (flow .pointers .b) (setup .uses .b) word,
+          standing-steps (setup .direction) width (setup .modulos .c) row (flow .pointers .c) (setup .uses .c) word,
+          standing-steps (setup .direction) width (setup .modulos .d) row (flow .pointers .d) (setup .uses .d) word,
+        )
+
+    words-go : (remaining row word k : ℕ) → remaining + word ≡ width → k ≡ row * width + word → k + remaining ≤ n
+        → words setup width remaining (stateIn row word k) ≡ stateIn row width (row * width + width)
+    unfolding repeated
+    words-go zero row word k all is below =
+        let word-is : word ≡ width = omega arith in
+        ap (λ (k : ℕ). stateIn row word k) is ∙ ap (λ (word : ℕ). stateIn row word (row * width + word)) word-is
+    words-go (suc remaining) row word k all is below =
+        ap (words setup width remaining) (oneWord-goes row word remaining k (omega arith) is (omega arith))
+        ∙ words-go remaining row (suc word) (suc k) (omega arith) (omega arith) (omega arith)
+
+    -- at a row's end the carry is the last word's
+    abbrev lastCarry : (k : ℕ) → ℕ
+    lastCarry k = wordBefore (flow .carry) (λ k. finals setup width memory flow k .carry) k
+
+    carryIn-last : (word k : ℕ) → 1 ≤ word → 1 ≤ k → carryIn word k ≡ lastCarry k
+    unfolding carryIn wordBefore
+    carryIn-last zero k some more = absurd (omega arith)
+    carryIn-last (suc word) zero some more = absurd (omega arith)
+    carryIn-last (suc word) (suc k) some more = refl
+
+    abbrev stateRow : (row k : ℕ) → State
+    stateRow row k = state (memoryTo k) (flowTo (pointersIn setup width row 0 (flow .pointers)) (lastCarry k) k)
+
+    rowStart-goes : (row k : ℕ) → rowStart setup (stateRow row k) ≡ stateIn row 0 k
+    unfolding rowStart flowTo carryIn
+    rowStart-goes row k = refl
+
+    oneRow-goes : (row : ℕ) → 1 ≤ width → row * width + width ≤ n
+        → oneRow setup width (stateRow row (row * width)) ≡ stateRow (suc row) (row * width + width)
+    unfolding oneRow rowEnd flowTo
+    oneRow-goes row some below =
+        let does : words setup width width (stateIn row 0 (row * width)) ≡ stateIn row width (row * width + width) =
+        words-go width row 0 (row * width) (omega arith) (omega arith) below in
+        rw (
+          rowStart-goes row (row * width),
+          does,
+          standing-turns (setup .direction) width (setup .modulos .a) row (flow .pointers .a) (setup .uses .a),
+          standing-turns (setup .direction) width (setup .modulos .b) row (flow .pointers .b) (setup .uses .b),
+          standing-turns (setup .direction) width (setup .modulos .c) row (flow .pointers .c) (setup .uses .c),
+          standing-turns (setup .direction) width (setup .modulos .d) row (flow .pointers .d) (setup .uses .d),
+          carryIn-last width (row * width + width) some (omega arith),
+        )
+
+    rows-go : (remaining row height k : ℕ) → 1 ≤ width → remaining + row ≡ height → k ≡ row * width → height * width ≤ n
+        → rows setup width remaining (stateRow row k) ≡ stateRow height (height * width)
+    unfolding repeated
+    rows-go zero row height k some all is below =
+        let row-is : row ≡ height = omega arith in
+        ap (λ (k : ℕ). stateRow row k) is ∙ ap (λ (row : ℕ). stateRow row (row * width)) row-is
+    rows-go (suc remaining) row height k some all is below =
+        let on : suc row * width ≡ row * width + width = suc-mul row width in
+        let fits : suc row * width ≤ height * width = mul-le-mul-right width (omega arith) in
+        ap (λ (k : ℕ). rows setup width (suc remaining) (stateRow row k)) is
+        ∙ ap (rows setup width remaining) (oneRow-goes row some (omega arith))
+        ∙ rows-go remaining (suc row) height (row * width + width) some (omega arith) (sym on) below
+
+  flowTo-starts : flow .pending ≡ nothing → flow ≡ flowTo (pointersIn setup width 0 0 (flow .pointers)) (flow .carry) 0
+  unfolding flowTo wordBefore zeroWords countTo pendingTo
+  flowTo-starts none =
+      rw (
+        ← none,
+        standing-starts (setup .direction) (setup .uses .a) width (setup .modulos .a) (flow .pointers .a),
+        standing-starts (setup .direction) (setup .uses .b) width (setup .modulos .b) (flow .pointers .b),
+        standing-starts (setup .direction) (setup .uses .c) width (setup .modulos .c) (flow .pointers .c),
+        standing-starts (setup .direction) (setup .uses .d) width (setup .modulos .d) (flow .pointers .d),
+      )
+
+  -- memory, flag and count as the theorem has them
+  memoryWords-laid : (used : Bool) (k : ℕ) → setup .uses .d ≡ used
+      → memoryWords k ≡ (if used then laidAt (λ k. atD setup width flow k .word) (finalWord setup width memory flow) k memory else memory)
+  unfolding memoryWords laidAt
+  memoryWords-laid true zero uses = refl
+  memoryWords-laid false zero uses = refl
+  memoryWords-laid true (suc k) uses =
+      memoryWith-of-used (setup .uses .d) (atD setup width flow k .word) (finalWord setup width memory flow k) (memoryWords k) uses
+      ∙ ap (λ (before : List ℕ). set before (atD setup width flow k .word) (finalWord setup width memory flow k)) (memoryWords-laid true k uses)
+  memoryWords-laid false (suc k) uses =
+      memoryWith-of-unused (setup .uses .d) (atD setup width flow k .word) (finalWord setup width memory flow k) (memoryWords k) uses
+      ∙ memoryWords-laid false k uses
+
+  countWords-sum : (used : Bool) (k : ℕ) → setup .uses .d ≡ used → countWords k ≡ flow .stored + (if used then k else 0)
+  unfolding countWords
+  countWords-sum true zero uses = omega arith
+  countWords-sum false zero uses = omega arith
+  countWords-sum true (suc k) uses =
+      countWith-by (setup .uses .d) true (atD setup width flow k .word) (finalWord setup width memory flow k) (countWords k) uses
+      ∙ omega (arith, countWords-sum true k uses)
+  countWords-sum false (suc k) uses =
+      countWith-by (setup .uses .d) false (atD setup width flow k .word) (finalWord setup width memory flow k) (countWords k) uses
+      ∙ countWords-sum false k uses
+
+  zeroWords-every : (k : ℕ) → zeroWords k ≡ (flow .allzero && every (λ k. eqb (finalWord setup width memory flow k) 0) k)
+  unfolding zeroWords
+  zeroWords-every zero = and-true (flow .allzero)
+    where
+      and-true : (test : Bool) → test ≡ (test && true)
+      and-true true = refl
+      and-true false = refl
+  zeroWords-every (suc k) =
+      rw (zeroWords-every k)
+      (turned (flow .allzero) (every (λ k. eqb (finalWord setup width memory flow k) 0) k) (eqb (finalWord setup width memory flow k) 0))
+    where
+      turned : (a b c : Bool) → ((a && b) && c) ≡ (a && (c && b))
+      turned true true true = refl
+      turned true true false = refl
+      turned true false true = refl
+      turned true false false = refl
+      turned false b c = refl
+
+pub quiet-blit : QuietBlit
+unfolding areaBlit storePending flowTo memoryTo wordBefore
+quiet-blit setup width height memory flow some none quiet =
+    let begins : state memory flow ≡ stateRow setup width memory flow (height * width) quiet 0 0 =
+    ap (state memory) (flowTo-starts setup width memory flow none) in
+    let does : rows setup width height (state memory flow) ≡ stateRow setup width memory flow (height * width) quiet height (height * width) =
+    ap (rows setup width height) begins
+    ∙ rows-go setup width memory flow (height * width) quiet height 0 height 0 some (omega arith) (omega arith) (omega arith) in
+    ap storePending does
+    ∙ rw (
+      memoryTo-stored setup width memory flow (height * width),
+      countTo-stored setup width memory flow (height * width),
+      memoryWords-laid setup width memory flow (setup .uses .d) (height * width) refl,
+      countWords-sum setup width memory flow (setup .uses .d) (height * width) refl,
+      zeroWords-every setup width memory flow (height * width),
+    )

@@ -1,0 +1,68 @@
+-- Laws of a blit's words as a sequence: their numbers, and where a channel stands.
+use mathlib.Core.Path.{_≡_, refl, sym, ap, _∙_}
+use Prim.Native.Nat.{ℕ, zero, suc, _+_, _*_, _/_, _%_, _<_}
+use native.Mathlib.Nat.{mul-add-div-right, mul-add-mod-self-right, mod-eq-of-lt, div-eq-of-lt}
+use native.Mathlib.Omega.{arith}
+use mathlib.Core.Bool.{Bool, true, false}
+use borrow.Author.Tests.{ne-eqb, eq-eqb}
+use lib.Dec.{eqb}
+use Rattle.word.specs.declared.types.Direction.{Direction}
+use Rattle.word.specs.declared.types.Pointer.{Pointer}
+use Rattle.word.specs.Repeat.{repeated}
+use Rattle.word.specs.Pointer.{moved, nextRow}
+use Rattle.area.specs.Move.{stepped, turned}
+use Rattle.quiet.specs.Stream.{standing}
+
+-- one step more comes last as well as first
+pub repeated-last : {State : Type 0} (step : State → State) (n : ℕ) (state : State)
+    → repeated (λ _. step) (suc n) state ≡ step (repeated (λ _. step) n state)
+unfolding repeated
+repeated-last step zero state = refl
+repeated-last step (suc n) state = repeated-last step n (step state)
+
+-- the row and the word in it of word k
+pub row-of : (width row word k : ℕ) → word < width → k ≡ row * width + word → k / width ≡ row
+row-of width row word k short is =
+    ap (λ (k : ℕ). k / width) is
+    ∙ mul-add-div-right {m = width} (omega arith) row word
+    ∙ ap (λ (more : ℕ). row + more) (div-eq-of-lt short)
+    ∙ omega arith
+
+pub word-of : (width row word k : ℕ) → word < width → k ≡ row * width + word → k % width ≡ word
+word-of width row word k short is =
+    ap (λ (k : ℕ). k % width) is
+    ∙ mul-add-mod-self-right row width word
+    ∙ mod-eq-of-lt short
+
+-- a word on, and a row on
+module _ (direction : Direction) (width modulo row : ℕ) (pointer : Pointer) where
+  pub standing-steps : (used : Bool) (word : ℕ)
+      → stepped direction used (standing direction used width modulo row word pointer)
+      ≡ standing direction used width modulo row (suc word) pointer
+  unfolding standing stepped
+  standing-steps true word = sym (repeated-last (moved direction) word (repeated (λ _. nextRow direction width modulo) row pointer))
+  standing-steps false word = refl
+
+  pub standing-turns : (used : Bool)
+      → turned direction used modulo (standing direction used width modulo row width pointer)
+      ≡ standing direction used width modulo (suc row) 0 pointer
+  unfolding standing turned repeated nextRow
+  standing-turns true = sym (repeated-last (nextRow direction width modulo) row pointer)
+  standing-turns false = refl
+
+pub standing-starts : (direction : Direction) (used : Bool) (width modulo : ℕ) (pointer : Pointer)
+    → standing direction used width modulo 0 0 pointer ≡ pointer
+unfolding standing repeated
+standing-starts direction true width modulo pointer = refl
+standing-starts direction false width modulo pointer = refl
+
+-- the first and the last word of a row
+pub is-first : (remaining word width : ℕ) → remaining + 1 + word ≡ width → eqb (remaining + 1) width ≡ eqb word 0
+is-first remaining zero width all = eq-eqb (remaining + 1) width (omega arith)
+is-first remaining (suc word) width all =
+    ne-eqb (remaining + 1) width (λ same. absurd (omega arith)) ∙ sym (ne-eqb (suc word) 0 (λ same. absurd (omega arith)))
+
+pub is-last : (remaining word width : ℕ) → remaining + 1 + word ≡ width → eqb remaining 0 ≡ eqb (word + 1) width
+is-last zero word width all = sym (eq-eqb (word + 1) width (omega arith))
+is-last (suc remaining) word width all =
+    ne-eqb (suc remaining) 0 (λ same. absurd (omega arith)) ∙ sym (ne-eqb (word + 1) width (λ same. absurd (omega arith)))

@@ -1,0 +1,75 @@
+-- A quiet blit: no used source fetches a word after D has stored one there. Paper 02, W2: a word is stored only after the
+-- next one's sources have been fetched, so that the word before is never met.
+use Prim.Native.Nat.{ℕ, _+_, _*_, _<_, _≤_}
+use mathlib.Core.Path.{_≡_}
+use mathlib.Core.Bool.{Bool, true, _&&_}
+use mathlib.Core.List.{List}
+use lib.Dec.{eqb}
+use Rattle.word.specs.declared.types.Pointer.{Pointer}
+use Rattle.word.specs.Choice.{if_then_else_, every}
+use Rattle.area.specs.declared.types.Pointers.{Pointers}
+use Rattle.area.specs.declared.types.Setup.{Setup}
+use Rattle.area.specs.declared.types.Flow.{Flow}
+use Rattle.area.specs.Flow.{State, state, nothing}
+use Rattle.area.specs.Rows.{areaBlit}
+use Rattle.quiet.specs.Words.{wordBefore, maskedAt}
+use Rattle.quiet.specs.Stream.{standing, atA, atB, atC, atD, wordA, wordB, wordC, finals, finalWord, laidAt}
+
+-- of the first so many words a used source fetches none where D stored an earlier one, but for the word before
+unfoldable pub Unmet : (stores used : Bool) → (place fetches : ℕ → Pointer) → (words : ℕ) → Type 0
+Unmet stores used place fetches words =
+    (i j : ℕ) → i < words → j + 1 < i → stores ≡ true → used ≡ true → place j .word ≡ fetches i .word → ⊥
+
+unfoldable pub Quiet : Setup → (width words : ℕ) → Flow → Type 0
+Quiet setup width words flow =
+    Unmet (setup .uses .d) (setup .uses .a) (atD setup width flow) (atA setup width flow) words
+    × Unmet (setup .uses .d) (setup .uses .b) (atD setup width flow) (atB setup width flow) words
+    × Unmet (setup .uses .d) (setup .uses .c) (atD setup width flow) (atC setup width flow) words
+
+-- memory after so many words: as the blit found it, with D's words laid in order
+abbrev pub memoryAfter : Setup → (width : ℕ) → (memory : List ℕ) → Flow → (words : ℕ) → List ℕ
+memoryAfter setup width memory flow words =
+    if setup .uses .d then laidAt (λ k. atD setup width flow k .word) (finalWord setup width memory flow) words memory else
+    memory
+
+-- the pointers so many rows on, so many words into that row
+abbrev pub pointersIn : Setup → (width row word : ℕ) → Pointers → Pointers
+pointersIn setup width row word pointers =
+    record {
+      a = standing (setup .direction) (setup .uses .a) width (setup .modulos .a) row word (pointers .a);
+      b = standing (setup .direction) (setup .uses .b) width (setup .modulos .b) row word (pointers .b);
+      c = standing (setup .direction) (setup .uses .c) width (setup .modulos .c) row word (pointers .c);
+      d = standing (setup .direction) (setup .uses .d) width (setup .modulos .d) row word (pointers .d);
+    }
+
+-- the flow after so many rows, all their words stored
+abbrev pub flowAfter : Setup → (width : ℕ) → (memory : List ℕ) → Flow → (rows : ℕ) → Flow
+flowAfter setup width memory flow rows =
+    record {
+      pointers = pointersIn setup width rows 0 (flow .pointers);
+      sources =
+          record {
+            a = wordBefore (flow .sources .a) (wordA setup width memory flow) (rows * width);
+            b = wordBefore (flow .sources .b) (wordB setup width memory flow) (rows * width);
+            c = wordBefore (flow .sources .c) (wordC setup width memory flow) (rows * width);
+          };
+      earlier =
+          record {
+            a = wordBefore (flow .earlier .a) (maskedAt (setup .masks) width (wordA setup width memory flow)) (rows * width);
+            b = wordBefore (flow .earlier .b) (wordB setup width memory flow) (rows * width);
+          };
+      carry = wordBefore (flow .carry) (λ k. finals setup width memory flow k .carry) (rows * width);
+      allzero = flow .allzero && every (λ k. eqb (finalWord setup width memory flow k) 0) (rows * width);
+      stored = flow .stored + (if setup .uses .d then rows * width else 0);
+      pending = nothing;
+    }
+
+-- a quiet blit's words come from the memory that it found, and that memory with D's words laid in order is what it leaves
+abbrev pub QuietBlit : Type 0
+QuietBlit =
+    (setup : Setup) (width height : ℕ) (memory : List ℕ) (flow : Flow)
+    → 1 ≤ width
+    → flow .pending ≡ nothing
+    → Quiet setup width (height * width) flow
+    → areaBlit setup width height (state memory flow)
+    ≡ state (memoryAfter setup width memory flow (height * width)) (flowAfter setup width memory flow height)

@@ -7,3 +7,4 @@ pub mod CountLaws
 pub mod ChannelLaws
 pub mod CopyLaws
 pub mod SixteenBitsLaws
+pub mod EarlyLaws

@@ -1,5 +1,5 @@
-// Blocks of whole rows: a blit's words fetched, finished and stored as many rows at a time as 64 words hold.
-pub mod block;
+// Blocks of whole rows: a blit's words fetched, finished and stored so many rows at a time, at most 64 words.
 pub mod finals;
+pub mod one;
 pub mod run;
 pub mod types;

@@ -1,16 +1,20 @@
 // All the blocks of a blit.
 ghost use mathlib.Core.Path.{_≡_};
-ghost use Prim.Native.Nat.{_+_, _*_, _<_, _≤_};
+ghost use Prim.Native.Nat.{_+_, _-_, _*_, _<_, _≤_};
 ghost use lib.ListN.{length};
 ghost use Rattle.area.specs.Flow.{state};
 ghost use Rattle.area.specs.Rows.{areaBlit};
-ghost use Rattle.blocks.specs.Inner.Placed.{Placed};
-ghost use Rattle.blocks.specs.Inner.Apart.{AllApart};
-ghost use Rattle.blocks.specs.Inner.Rests.{AllRest};
-use crate::types::Strides;
+ghost use Rattle.quiet.specs.Words.{maskedAt};
+ghost use Rattle.block.specs.Inner.Each.{levelAt};
+ghost use Rattle.apart.specs.Inner.Placed.{Placed};
+ghost use Rattle.apart.specs.Inner.Apart.{AllApart};
+ghost use Rattle.blocks.specs.Inner.Rests.{Rests, AllRest};
+use apart::types::Strides;
 use area::types::Flow;
 use area::types::Masks;
 use area::types::Setup;
+use area::types::Sources;
+use word::types::Uses;
 
 fn fewer(most: usize, remaining: usize) -> usize
     requires { ⌜ (1 ≤ most) × (1 ≤ remaining) ⌝ }
@@ -20,4 +24,126 @@ fn fewer(most: usize, remaining: usize) -> usize
         return most;
     }
     remaining
+}
+
+// Block by block: what is left is done as it would have been.
+fn run(
+    ram: &mut [u16],
+    setup: Setup,
+    far: Strides,
+    width: usize,
+    height: usize,
+    most: usize,
+    flow: Flow,
+    xa: &mut [u16; 80],
+    xb: &mut [u16; 80],
+    xc: &mut [u16; 80],
+    ya: &mut [u16; 80],
+    yb: &mut [u16; 80],
+    o: &mut [u16; 80],
+) -> Flow
+    requires { ⌜ Placed (length (now ram)) setup width height flow far × AllApart setup width (most * width) (height * width) flow
+        × (1 ≤ most) × (most * width ≤ 64) × (2 ≤ most * width) × (height ≤ 1024) × (flow .stored + height * 64 < 4294967232)
+        × (length (now xa) ≡ 80) × (length (now xb) ≡ 80) × (length (now xc) ≡ 80)
+        × (length (now ya) ≡ 80) × (length (now yb) ≡ 80) × (length (now o) ≡ 80)
+        × AllRest setup width (flow .sources) (now xa) (now xb) (now xc) ⌝ }
+    ensures { λ end. ⌜
+        state (now (ram .exit)) end
+        ≡ areaBlit setup width height (state (now (ram .entry)) flow) ⌝ }
+{
+    let mut here = flow;
+    let mut row: usize = 0;
+    while row < height {
+        let rows = fewer(most, height - row);
+        here = crate::one::one_block(ram, setup, far, width, rows, here, xa, xb, xc, ya, yb, o);
+        row = row + rows;
+    }
+    here
+}
+
+// The array of A at rest, masked.
+fn rest_a(used: bool, masks: Masks, width: usize, word: u16, x: &mut [u16; 80])
+    requires { ⌜ (1 ≤ width) × (width ≤ 64) × (length (now x) ≡ 80) ⌝ }
+    ensures { λ _. ⌜ (length (now (x .exit)) ≡ 80)
+        × Rests used width (maskedAt masks width (levelAt word)) (now (x .exit)) ⌝ }
+{
+    if used {
+        return;
+    }
+    block::level::level(word, 64, x);
+    block::mask::mask(masks, width, 64 / width, x);
+}
+
+// The array of B or C at rest.
+fn rest(used: bool, width: usize, word: u16, x: &mut [u16; 80])
+    requires { ⌜ length (now x) ≡ 80 ⌝ }
+    ensures { λ _. ⌜ (length (now (x .exit)) ≡ 80) × Rests used width (levelAt word) (now (x .exit)) ⌝ }
+{
+    if used {
+        return;
+    }
+    block::level::level(word, 64, x);
+}
+
+fn all_rest(
+    uses: Uses,
+    masks: Masks,
+    width: usize,
+    sources: Sources,
+    xa: &mut [u16; 80],
+    xb: &mut [u16; 80],
+    xc: &mut [u16; 80],
+)
+    requires { ⌜ (1 ≤ width) × (width ≤ 64) × (length (now xa) ≡ 80) × (length (now xb) ≡ 80) × (length (now xc) ≡ 80) ⌝ }
+    ensures { λ _. ⌜ (length (now (xa .exit)) ≡ 80) × (length (now (xb .exit)) ≡ 80) × (length (now (xc .exit)) ≡ 80)
+        × Rests (uses .a) width (maskedAt masks width (levelAt (sources .a))) (now (xa .exit))
+        × Rests (uses .b) width (levelAt (sources .b)) (now (xb .exit))
+        × Rests (uses .c) width (levelAt (sources .c)) (now (xc .exit)) ⌝ }
+{
+    rest_a(uses.a, masks, width, sources.a, xa);
+    rest(uses.b, width, sources.b, xb);
+    rest(uses.c, width, sources.c, xc);
+}
+
+// A whole blit, so many rows at a time.
+pub fn blocks(
+    ram: &mut [u16],
+    setup: Setup,
+    far: Strides,
+    width: usize,
+    height: usize,
+    most: usize,
+    flow: Flow,
+) -> Flow
+    requires { ⌜ Placed (length (now ram)) setup width height flow far × AllApart setup width (most * width) (height * width) flow
+        × (1 ≤ most) × (most * width ≤ 64) × (2 ≤ most * width) × (height ≤ 1024) × (flow .stored + height * 64 < 4294967232) ⌝ }
+    ensures { λ end. ⌜
+        state (now (ram .exit)) end
+        ≡ areaBlit setup width height (state (now (ram .entry)) flow) ⌝ }
+{
+    let mut xa: [u16; 80] = [0; 80];
+    let mut xb: [u16; 80] = [0; 80];
+    let mut xc: [u16; 80] = [0; 80];
+    let mut ya: [u16; 80] = [0; 80];
+    let mut yb: [u16; 80] = [0; 80];
+    let mut o: [u16; 80] = [0; 80];
+    let uses = setup.uses;
+    let masks = setup.masks;
+    let sources = flow.sources;
+    all_rest(uses, masks, width, sources, &mut xa, &mut xb, &mut xc);
+    run(
+        ram,
+        setup,
+        far,
+        width,
+        height,
+        most,
+        flow,
+        &mut xa,
+        &mut xb,
+        &mut xc,
+        &mut ya,
+        &mut yb,
+        &mut o,
+    )
 }

@@ -1,7 +1,8 @@
 -- A quiet blit's words are those of the sequence: the definition's own steps lead from each to the next.
 use mathlib.Core.Path.{_≡_, refl, sym, ap, _∙_}
-use Prim.Native.Nat.{ℕ, zero, suc, _+_, _*_, _/_, _%_, _<_, _≤_}
+use Prim.Native.Nat.{ℕ, zero, suc, _+_, _-_, _*_, _/_, _%_, _<_, _≤_}
 use native.Mathlib.Nat.{suc-mul, mul-le-mul-right, add-zero}
+use native.Mathlib.Numerals.{sub-one}
 use native.Mathlib.Omega.{arith}
 use mathlib.Core.Bool.{Bool, true, false, _&&_}
 use mathlib.Core.List.{List}
@@ -49,7 +50,7 @@ wordBefore-rests used memory fetches source (suc k) idle = rw idle
 
 module _ (setup : Setup) (width : ℕ) (memory : List ℕ) (flow : Flow) where
   -- word k on its way to D, and memory, count and flag with the first k words stored
-  abbrev waiting : (k : ℕ) → Pending
+  abbrev pub waiting : (k : ℕ) → Pending
   waiting k = record { waits = setup .uses .d; place = atD setup width flow k .word; word = finalWord setup width memory flow k }
 
   unfoldable memoryWords : (k : ℕ) → List ℕ
@@ -305,15 +306,31 @@ module _ (setup : Setup) (width : ℕ) (memory : List ℕ) (flow : Flow) where
       turned true false false = refl
       turned false b c = refl
 
+-- all rows, the last word waiting
+module _ (setup : Setup) (width height : ℕ) (memory : List ℕ) (flow : Flow) (some : 1 ≤ width) (none : flow .pending ≡ nothing)
+    (quiet : Quiet setup width (height * width) flow) where
+  rows-are : rows setup width height (state memory flow) ≡ stateRow setup width memory flow (height * width) quiet height (height * width)
+  unfolding memoryTo wordBefore
+  rows-are =
+      ap (rows setup width height) (ap (state memory) (flowTo-starts setup width memory flow none))
+      ∙ rows-go setup width memory flow (height * width) quiet height 0 height 0 some (omega arith) (omega arith) (omega arith)
+
+  pub rows-pointers : rows setup width height (state memory flow) .flow .pointers ≡ pointersIn setup width height 0 (flow .pointers)
+  unfolding flowTo
+  rows-pointers = ap (λ (end : State). end .flow .pointers) rows-are
+
+  pub rows-pending : 1 ≤ height * width → rows setup width height (state memory flow) .flow .pending ≡ waiting setup width memory flow (height * width - 1)
+  unfolding flowTo pendingTo
+  rows-pending more = ap (λ (end : State). end .flow .pending) rows-are ∙ last (height * width) more
+    where
+      last : (n : ℕ) → 1 ≤ n → pendingTo setup width memory flow n ≡ waiting setup width memory flow (n - 1)
+      last zero none = absurd (omega arith)
+      last (suc k) more = ap (waiting setup width memory flow) (sym (sub-one (suc k)))
+
 pub quiet-blit : QuietBlit
-unfolding areaBlit storePending flowTo memoryTo wordBefore
+unfolding areaBlit storePending flowTo
 quiet-blit setup width height memory flow some none quiet =
-    let begins : state memory flow ≡ stateRow setup width memory flow (height * width) quiet 0 0 =
-    ap (state memory) (flowTo-starts setup width memory flow none) in
-    let does : rows setup width height (state memory flow) ≡ stateRow setup width memory flow (height * width) quiet height (height * width) =
-    ap (rows setup width height) begins
-    ∙ rows-go setup width memory flow (height * width) quiet height 0 height 0 some (omega arith) (omega arith) (omega arith) in
-    ap storePending does
+    ap storePending (rows-are setup width height memory flow some none quiet)
     ∙ rw (
       memoryTo-stored setup width memory flow (height * width),
       countTo-stored setup width memory flow (height * width),

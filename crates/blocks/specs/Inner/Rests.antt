@@ -11,7 +11,7 @@ use Rattle.area.specs.declared.types.Flow.{Flow}
 use Rattle.quiet.specs.Words.{maskedAt}
 use Rattle.block.specs.Inner.Each.{Each, levelAt}
 use Rattle.block.specs.Inner.Place.{fetchedAt}
-use Rattle.blocks.specs.declared.types.Strides.{Strides}
+use Rattle.apart.specs.declared.types.Strides.{Strides}
 
 unfoldable pub givenAt : (used : Bool) → Direction → (width far from : ℕ) → (memory : List ℕ) → (source k : ℕ) → ℕ
 givenAt used direction width far from memory source k =

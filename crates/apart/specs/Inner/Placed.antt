@@ -9,7 +9,7 @@ use Rattle.area.specs.declared.types.Setup.{Setup}
 use Rattle.area.specs.declared.types.Flow.{Flow}
 use Rattle.area.specs.Flow.{nothing}
 use Rattle.block.specs.Inner.Place.{EvenRows}
-use Rattle.blocks.specs.declared.types.Strides.{Strides}
+use Rattle.apart.specs.declared.types.Strides.{Strides}
 
 -- a channel's rows are evenly apart, so many words; if it is used, they lie inside memory and none goes round
 pub record Channel (n : ℕ) (direction : Direction) (width rows modulo : ℕ) (used : Bool) (pointer : Pointer) (far : ℕ) : Type 0 where

@@ -11,11 +11,11 @@ ghost use Rattle.quiet.specs.Words.{maskedAt};
 ghost use Rattle.quiet.specs.Stream.{laidAt};
 ghost use Rattle.block.specs.Inner.Each.{at, Each, levelAt, nought};
 ghost use Rattle.block.specs.Inner.Place.{rowAt, placeAt, EvenRows};
-ghost use Rattle.blocks.specs.Inner.Placed.{Placed};
-ghost use Rattle.blocks.specs.Inner.Apart.{AllApart};
+ghost use Rattle.apart.specs.Inner.Placed.{Placed};
+ghost use Rattle.apart.specs.Inner.Apart.{AllApart};
 ghost use Rattle.blocks.specs.Inner.Rests.{givenAt, Rests, AllRest, Given};
 use crate::types::Ended;
-use crate::types::Strides;
+use apart::types::Strides;
 use area::types::Flow;
 use area::types::Masks;
 use area::types::Pending;
@@ -222,7 +222,7 @@ fn counted(used: bool, stored: u32, words: usize) -> u32
 }
 
 // One block of a blit: as a blit of so many rows.
-pub fn block(
+pub fn one_block(
     ram: &mut [u16],
     setup: Setup,
     far: Strides,

@@ -1,0 +1,2 @@
+-- The laws of the test before blocks.
+pub mod PlacedLaws

@@ -1,0 +1,204 @@
+-- One block is a blit of its rows: its words are those of the quiet blit.
+use mathlib.Core.Path.{_≡_, refl, sym, ap, _∙_}
+use Prim.Native.Nat.{ℕ, zero, suc, _+_, _-_, _*_, _<_, _≤_}
+use native.Mathlib.Numerals.{sub-one}
+use native.Mathlib.Omega.{arith}
+use mathlib.Core.Bool.{Bool, true, false, _&&_}
+use mathlib.Core.List.{List}
+use lib.Dec.{eqb}
+use lib.ListN.{getD}
+use Rattle.word.specs.declared.types.Direction.{Direction}
+use Rattle.word.specs.declared.types.Pointer.{Pointer}
+use Rattle.word.specs.declared.types.Filled.{Filled}
+use Rattle.word.specs.Choice.{if_then_else_, every}
+use Rattle.word.specs.Pointer.{pointerEnd}
+use Rattle.area.specs.declared.types.Pointers.{Pointers}
+use Rattle.area.specs.declared.types.Sources.{Sources}
+use Rattle.area.specs.declared.types.Earlier.{Earlier}
+use Rattle.area.specs.declared.types.Setup.{Setup}
+use Rattle.area.specs.declared.types.Flow.{Flow}
+use Rattle.area.specs.Flow.{State, state, nothing}
+use Rattle.area.specs.Fetch.{fetched}
+use Rattle.area.specs.Rows.{areaBlit}
+use Rattle.quiet.specs.Words.{wordBefore, maskedAt, mixedAt, resultAt, finalAt}
+use Rattle.quiet.specs.Stream.{standingAt, atA, atB, atC, atD, wordA, wordB, wordC, finals, finalWord, laidAt}
+use Rattle.quiet.specs.Quiet.{Unmet, Quiet, memoryAfter, pointersIn, flowAfter}
+use Rattle.quiet.proofs.QuietLaws.{quiet-blit}
+use Rattle.block.specs.Inner.Each.{at, Each, levelAt, finalWordAt, nought}
+use Rattle.block.specs.Inner.Place.{rowAt, placeAt, fetchedAt}
+use Rattle.block.proofs.PlaceLaws.{laidAt-same}
+use Rattle.apart.specs.declared.types.Strides.{Strides}
+use Rattle.apart.specs.Inner.Placed.{Channel, Placed}
+use Rattle.apart.specs.Inner.Apart.{Apart, AllApart}
+use Rattle.apart.proofs.PlacedLaws.{channel-place, channel-rows}
+use Rattle.blocks.specs.declared.types.Ended.{Ended}
+use Rattle.blocks.specs.Inner.Rests.{givenAt, Rests, AllRest, givenA, givenB, givenC, Given}
+use Rattle.blocks.proofs.FinalsLaws.{shiftedAt-same, filledAt-same}
+
+-- what a source gives is what the blit fetches
+given-fetched : (n : ℕ) (direction : Direction) (width rows modulo : ℕ) (used : Bool) (pointer : Pointer) (far : ℕ) → Channel n direction width rows modulo used pointer far
+    → n ≤ pointerEnd → 1 ≤ width → width ≤ 64 → (memory : List ℕ) (source k : ℕ) → k < rows * width
+    → givenAt used direction width far (pointer .word) memory source k ≡ fetched used memory (standingAt direction used width modulo pointer k) source
+unfolding givenAt fetched fetchedAt
+given-fetched n direction width rows modulo true pointer far channel most some narrow memory source k below =
+    ap (λ (place : ℕ). getD memory place 0) (sym (channel-place n direction width rows modulo true pointer far channel most some narrow refl k below))
+given-fetched n direction width rows modulo false pointer far channel most some narrow memory source k below = refl
+
+-- no fetch meets a store of the same block
+unmet-apart : (stores used : Bool) (place fetches : ℕ → Pointer) (words : ℕ) → Apart stores used place fetches words words → Unmet stores used place fetches words
+unfolding Apart Unmet
+unmet-apart stores used place fetches words apart i j below early = apart i j below (omega arith) (omega arith)
+
+pub apart-quiet : (setup : Setup) (width words : ℕ) (flow : Flow) → AllApart setup width words words flow → Quiet setup width words flow
+unfolding Quiet
+apart-quiet setup width words flow apart = (
+  unmet-apart (setup .uses .d) (setup .uses .a) (atD setup width flow) (atA setup width flow) words (apart .a),
+  unmet-apart (setup .uses .d) (setup .uses .b) (atD setup width flow) (atB setup width flow) words (apart .b),
+  unmet-apart (setup .uses .d) (setup .uses .c) (atD setup width flow) (atC setup width flow) words (apart .c),
+)
+
+-- the last of some words
+before-last : (first : ℕ) (word : ℕ → ℕ) (n : ℕ) → 1 ≤ n → wordBefore first word n ≡ word (n - 1)
+unfolding wordBefore
+before-last first word zero none = absurd (omega arith)
+before-last first word (suc k) some = ap word (sym (sub-one (suc k)))
+
+same-sources : {a b c a′ b′ c′ : ℕ} → a ≡ a′ → b ≡ b′ → c ≡ c′ → _≡_ {A = Sources} (record { a = a; b = b; c = c }) (record { a = a′; b = b′; c = c′ })
+same-sources first second third = rw (first, second, third)
+
+same-earlier : {a b a′ b′ : ℕ} → a ≡ a′ → b ≡ b′ → _≡_ {A = Earlier} (record { a = a; b = b }) (record { a = a′; b = b′ })
+same-earlier first second = rw (first, second)
+
+module _ (n : ℕ) (setup : Setup) (width rows : ℕ) (far : Strides) (flow : Flow) (memory : List ℕ) (placed : Placed n setup width rows flow far) where
+  given-a : (k : ℕ) → k < rows * width → givenA setup width far flow memory k ≡ wordA setup width memory flow k
+  unfolding wordA
+  given-a = given-fetched n (setup .direction) width rows (setup .modulos .a) (setup .uses .a) (flow .pointers .a) (far .a) (placed .a) (placed .most) (placed .some) (placed .narrow) memory (flow .sources .a)
+
+  given-b : (k : ℕ) → k < rows * width → givenB setup width far flow memory k ≡ wordB setup width memory flow k
+  unfolding wordB
+  given-b = given-fetched n (setup .direction) width rows (setup .modulos .b) (setup .uses .b) (flow .pointers .b) (far .b) (placed .b) (placed .most) (placed .some) (placed .narrow) memory (flow .sources .b)
+
+  given-c : (k : ℕ) → k < rows * width → givenC setup width far flow memory k ≡ wordC setup width memory flow k
+  unfolding wordC
+  given-c = given-fetched n (setup .direction) width rows (setup .modulos .c) (setup .uses .c) (flow .pointers .c) (far .c) (placed .c) (placed .most) (placed .some) (placed .narrow) memory (flow .sources .c)
+
+  module _ (xa xb xc o after : List ℕ) (last : Sources) (end : Ended) (next : Flow) (some : 1 ≤ rows * width) (apart : AllApart setup width (rows * width) (rows * width) flow)
+      (given : Given setup width rows far flow memory xa xb xc last)
+      (earlier : end .earlier ≡ record { a = getD xa (rows * width - 1) 0; b = getD xb (rows * width - 1) 0 })
+      (words : (a : ℕ → ℕ) → Each (rows * width) xa (maskedAt (setup .masks) width a)
+      → Each (rows * width) o (finalWordAt setup width (flow .earlier) a (at xb) (at xc))
+      × (end .carry ≡ finalAt setup width (flow .earlier) a (at xb) (at xc) (rows * width - 1) .carry))
+      (stores : after ≡ (if setup .uses .d then laidAt (placeAt (setup .direction) width (far .d) (flow .pointers .d .word)) (at o) (rows * width) memory else memory))
+      (is-next : next ≡ record {
+        pointers =
+            record {
+              a = if setup .uses .a then record { word = rowAt (far .a) (flow .pointers .a .word) rows } else flow .pointers .a;
+              b = if setup .uses .b then record { word = rowAt (far .b) (flow .pointers .b .word) rows } else flow .pointers .b;
+              c = if setup .uses .c then record { word = rowAt (far .c) (flow .pointers .c .word) rows } else flow .pointers .c;
+              d = if setup .uses .d then record { word = rowAt (far .d) (flow .pointers .d .word) rows } else flow .pointers .d;
+            };
+        sources = last;
+        earlier = end .earlier;
+        carry = end .carry;
+        allzero = flow .allzero && nought (rows * width) (at o);
+        stored = flow .stored + (if setup .uses .d then rows * width else 0);
+        pending = nothing;
+      }) where
+    -- the sources by what they fetch
+    masked-a : Each (rows * width) xa (maskedAt (setup .masks) width (wordA setup width memory flow))
+    unfolding Each maskedAt
+    masked-a j below = given .a j below ∙ rw (given-a j below)
+
+    fetched-b : (j : ℕ) → j < rows * width → at xb j ≡ wordB setup width memory flow j
+    unfolding at Each
+    fetched-b j below = given .b j below ∙ given-b j below
+
+    fetched-c : (j : ℕ) → j < rows * width → at xc j ≡ wordC setup width memory flow j
+    unfolding at Each
+    fetched-c j below = given .c j below ∙ given-c j below
+
+    -- so the final words are the blit's
+    finals-same : (k : ℕ) → k < rows * width
+        → finalAt setup width (flow .earlier) (wordA setup width memory flow) (at xb) (at xc) k ≡ finals setup width memory flow k
+    unfolding resultAt mixedAt
+    finals-same =
+        filledAt-same (setup .fill) (setup .carry) width _ _ (rows * width)
+        (λ j below.
+        rw (shiftedAt-same (setup .direction) (setup .shifts .b) (flow .earlier .b) (at xb) (wordB setup width memory flow) (rows * width) fetched-b j below, fetched-c j below))
+
+    final-here : (j : ℕ) → j < rows * width → at o j ≡ finalWord setup width memory flow j
+    unfolding at Each finalWordAt finalWord
+    final-here j below = words (wordA setup width memory flow) masked-a .0 j below ∙ ap (λ (made : Filled). made .word) (finals-same j below)
+
+    memory-after : after ≡ memoryAfter setup width memory flow (rows * width)
+    memory-after = stores ∙ by (setup .uses .d) refl
+      where
+        by : (used : Bool) → setup .uses .d ≡ used
+            → (if used then laidAt (placeAt (setup .direction) width (far .d) (flow .pointers .d .word)) (at o) (rows * width) memory else memory)
+            ≡ (if used then laidAt (λ k. atD setup width flow k .word) (finalWord setup width memory flow) (rows * width) memory else memory)
+        by true uses =
+            laidAt-same _ _ _ _ (rows * width) memory
+            (λ i below. sym (channel-place n (setup .direction) width rows (setup .modulos .d) (setup .uses .d) (flow .pointers .d) (far .d) (placed .d) (placed .most) (placed .some) (placed .narrow) uses i below))
+            final-here
+        by false idle = refl
+
+    nought-after : (k : ℕ) → k ≤ rows * width → nought k (at o) ≡ every (λ k. eqb (finalWord setup width memory flow k) 0) k
+    unfolding nought
+    nought-after zero below = refl
+    nought-after (suc k) below = rw (final-here k (omega arith), nought-after k (omega arith))
+
+    -- what is handed on
+    abbrev lastWord : ℕ
+    lastWord = rows * width - 1
+
+    sources-after : last ≡ record { a = wordA setup width memory flow lastWord; b = wordB setup width memory flow lastWord; c = wordC setup width memory flow lastWord }
+    sources-after =
+        same-sources (given .last-a ∙ given-a lastWord (omega arith)) (given .last-b ∙ given-b lastWord (omega arith)) (given .last-c ∙ given-c lastWord (omega arith))
+
+    earlier-after : end .earlier ≡ record { a = maskedAt (setup .masks) width (wordA setup width memory flow) lastWord; b = wordB setup width memory flow lastWord }
+    unfolding at Each
+    earlier-after = earlier ∙ same-earlier (masked-a lastWord (omega arith)) (fetched-b lastWord (omega arith))
+
+    carry-after : end .carry ≡ finals setup width memory flow lastWord .carry
+    carry-after = words (wordA setup width memory flow) masked-a .1 ∙ ap (λ (made : Filled). made .carry) (finals-same lastWord (omega arith))
+
+    flow-after : next ≡ flowAfter setup width memory flow rows
+    flow-after =
+        is-next
+        ∙ rw (
+          channel-rows n (setup .direction) width rows (setup .modulos .a) (setup .uses .a) (flow .pointers .a) (far .a) (placed .a) (placed .most) (placed .some) (placed .narrow) rows,
+          channel-rows n (setup .direction) width rows (setup .modulos .b) (setup .uses .b) (flow .pointers .b) (far .b) (placed .b) (placed .most) (placed .some) (placed .narrow) rows,
+          channel-rows n (setup .direction) width rows (setup .modulos .c) (setup .uses .c) (flow .pointers .c) (far .c) (placed .c) (placed .most) (placed .some) (placed .narrow) rows,
+          channel-rows n (setup .direction) width rows (setup .modulos .d) (setup .uses .d) (flow .pointers .d) (far .d) (placed .d) (placed .most) (placed .some) (placed .narrow) rows,
+          before-last (flow .sources .a) (wordA setup width memory flow) (rows * width) some,
+          before-last (flow .sources .b) (wordB setup width memory flow) (rows * width) some,
+          before-last (flow .sources .c) (wordC setup width memory flow) (rows * width) some,
+          before-last (flow .earlier .a) (maskedAt (setup .masks) width (wordA setup width memory flow)) (rows * width) some,
+          before-last (flow .earlier .b) (wordB setup width memory flow) (rows * width) some,
+          before-last (flow .carry) (λ k. finals setup width memory flow k .carry) (rows * width) some,
+          ← sources-after,
+          ← earlier-after,
+          ← carry-after,
+          ← nought-after (rows * width) (omega arith),
+        )
+
+    pub block-is : state after next ≡ areaBlit setup width rows (state memory flow)
+    block-is =
+        rw (memory-after, flow-after)
+        (sym (quiet-blit setup width rows memory flow (placed .some) (placed .none) (apart-quiet setup width (rows * width) flow apart)))
+
+-- a source at rest stays what it is
+source-rests : (used : Bool) (direction : Direction) (width far from : ℕ) (memory : List ℕ) (source last k : ℕ) → used ≡ false
+    → last ≡ givenAt used direction width far from memory source k → source ≡ last
+unfolding givenAt
+source-rests used direction width far from memory source last k idle is = sym (is ∙ rw idle)
+
+pub rests-on : (setup : Setup) (width rows : ℕ) (far : Strides) (flow : Flow) (memory xa xb xc : List ℕ) (last : Sources)
+    → Given setup width rows far flow memory xa xb xc last → AllRest setup width (flow .sources) xa xb xc → AllRest setup width last xa xb xc
+unfolding Rests
+rests-on setup width rows far flow memory xa xb xc last given rests =
+    record {
+      a = λ idle. rw (← source-rests (setup .uses .a) _ _ _ _ _ _ _ _ idle (given .last-a)) (rests .a idle);
+      b = λ idle. rw (← source-rests (setup .uses .b) _ _ _ _ _ _ _ _ idle (given .last-b)) (rests .b idle);
+      c = λ idle. rw (← source-rests (setup .uses .c) _ _ _ _ _ _ _ _ idle (given .last-c)) (rests .c idle);
+    }

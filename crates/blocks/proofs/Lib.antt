@@ -1,0 +1,5 @@
+-- The laws of a block, and of all the blocks of a blit.
+pub mod FinalsLaws
+pub mod GivenLaws
+pub mod BlockLaws
+pub mod RunLaws

@@ -1,0 +1,38 @@
+-- `blocks::one::given_a` meets its contract: fetched and masked, or at rest.
+use Rattle.area.specs.Fetch.{fetch}
+use Rattle.blocks.proofs.GivenLaws.{given-masked, given-last, rests-not, given-rests, given-idle}
+use borrow.Author.Needs.{needs}
+use Rattle.blocks.proofs.one.given_a.Statement.{statement}
+use Rattle.blocks.proofs.one.given_a.Tie as tie
+
+fetch-requires : tie.Need-fetch-requires
+fetch-requires c κs = (c .before .before .before .pre .0 (c .before .if1 .taken), search needs, search needs, search needs, search needs, search needs)
+
+returns : tie.Need-returns
+returns c = (
+  search needs,
+  given-masked _ _ _ _ _ _ _ _ _ _ _ (c .before .before .before .before .before .if1 .taken) (c .before .before .before .fetch .ensures .1) (c .mask .ensures .1),
+  given-last _ _ _ _ _ _ _ _ _ (c .before .before .before .before .before .if1 .taken) (c .before .before .before .before .before .before .before .pre .2) (c .before .before .before .fetch .ensures .1),
+  rests-not _ _ _ _ (c .before .before .before .before .before .if1 .taken),
+)
+
+returns-2 : tie.Need-returns-2
+returns-2 c = (
+  search needs,
+  given-rests _ _ _ _ _ _ _ _ _ _ (c .if1 .left) (c .before .before .pre .1) (c .before .before .pre .7),
+  given-idle _ _ _ _ _ _ _ _ (c .if1 .left),
+  search needs,
+)
+
+pub given-a-spec : {M : Type 1} → statement M
+given-a-spec =
+    tie.close
+    (tie.spec
+    fetch-requires
+    (λ c. search needs)
+    (λ c. search needs)
+    (λ c. search needs)
+    (λ c. search needs)
+    (λ c κs. search needs)
+    returns
+    returns-2)

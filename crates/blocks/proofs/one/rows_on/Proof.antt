@@ -1,0 +1,30 @@
+-- `blocks::one::rows_on` meets its contract: so many strides on.
+use native.Mathlib.Omega.{arith}
+use Rattle.word.proofs.ChoiceLaws.{if-when-false}
+use Rattle.blocks.proofs.GivenLaws.{rows-far, pointer-on}
+use borrow.Author.Needs.{needs}
+use Rattle.blocks.proofs.one.rows_on.Statement.{statement}
+use Rattle.blocks.proofs.one.rows_on.Tie as tie
+
+mul-t7 : tie.Need-mul-t7
+mul-t7 c = omega (arith, rows-far _ _ (c .before .before .pre .2) (c .before .before .pre .1))
+
+add-t8 : tie.Need-add-t8
+add-t8 c = omega (arith, rows-far _ _ (c .before .before .pre .2) (c .before .before .pre .1))
+
+returns : tie.Need-returns
+returns c = search (needs, pointer-on)
+
+returns-2 : tie.Need-returns-2
+returns-2 c = search (needs, if-when-false)
+
+pub rows-on-spec : {M : Type 1} → statement M
+rows-on-spec =
+    tie.close
+    (tie.spec
+    (λ c. search needs)
+    mul-t7
+    add-t8
+    (λ c. search needs)
+    returns
+    returns-2)

@@ -1,0 +1,43 @@
+-- `blocks::one::sources` meets its contract, source by source.
+use Rattle.word.specs.Choice.{given}
+use Rattle.apart.proofs.PlacedLaws.{stride-lt}
+use borrow.Author.Needs.{needs}
+use Rattle.blocks.proofs.one.sources.Statement.{statement}
+use Rattle.blocks.proofs.one.sources.Tie as tie
+
+given-a-requires : tie.Need-given-a-requires
+given-a-requires c κs = (c .before .before .before .before .before .pre .0 .a .inside, c .before .before .before .before .before .pre .1, c .before .before .before .before .before .pre .2, c .before .before .before .before .before .pre .0 .some, c .before .before .before .before .before .pre .0 .a .small, stride-lt _ _ _ _ _ _ _ _ (c .before .before .before .before .before .pre .0 .a) (c .before .before .before .before .before .pre .0 .most) (c .before .before .before .before .before .pre .0 .some) (c .before .before .before .before .before .pre .0 .narrow), search needs, c .before .before .before .before .before .pre .6 .a)
+
+given-requires : tie.Need-given-requires
+given-requires c κs = (c .before .before .before .before .before .before .before .before .pre .0 .b .inside, c .before .before .before .before .before .before .before .before .pre .1, c .before .before .before .before .before .before .before .before .pre .2, c .before .before .before .before .before .before .before .before .pre .0 .some, c .before .before .before .before .before .before .before .before .pre .0 .b .small, stride-lt _ _ _ _ _ _ _ _ (c .before .before .before .before .before .before .before .before .pre .0 .b) (c .before .before .before .before .before .before .before .before .pre .0 .most) (c .before .before .before .before .before .before .before .before .pre .0 .some) (c .before .before .before .before .before .before .before .before .pre .0 .narrow), search needs, c .before .before .before .before .before .before .before .before .pre .6 .b)
+
+given-requires-2 : tie.Need-given-requires-2
+given-requires-2 c κs = (c .before .before .before .before .before .before .before .before .before .before .before .pre .0 .c .inside, c .before .before .before .before .before .before .before .before .before .before .before .pre .1, c .before .before .before .before .before .before .before .before .before .before .before .pre .2, c .before .before .before .before .before .before .before .before .before .before .before .pre .0 .some, c .before .before .before .before .before .before .before .before .before .before .before .pre .0 .c .small, stride-lt _ _ _ _ _ _ _ _ (c .before .before .before .before .before .before .before .before .before .before .before .pre .0 .c) (c .before .before .before .before .before .before .before .before .before .before .before .pre .0 .most) (c .before .before .before .before .before .before .before .before .before .before .before .pre .0 .some) (c .before .before .before .before .before .before .before .before .before .before .before .pre .0 .narrow), c .before .before .before .before .before .before .before .before .before .before .before .pre .5, c .before .before .before .before .before .before .before .before .before .before .before .pre .6 .c)
+
+returns : tie.Need-returns
+returns c = (
+  c .before .before .before .before .before .before .given-a .ensures .0,
+  c .before .before .before .given .ensures .0,
+  c .given2 .ensures .0,
+  record {
+    a = c .before .before .before .before .before .before .given-a .ensures .1;
+    b = c .before .before .before .given .ensures .1;
+    c = c .given2 .ensures .1;
+    last-a = c .before .before .before .before .before .before .given-a .ensures .2;
+    last-b = c .before .before .before .given .ensures .2;
+    last-c = c .given2 .ensures .2;
+  },
+  record { a = c .before .before .before .before .before .before .given-a .ensures .3; b = c .before .before .before .given .ensures .3; c = c .given2 .ensures .3 },
+)
+
+pub sources-spec : {M : Type 1} → statement M
+sources-spec =
+    tie.close
+    (tie.spec
+    (λ c. search needs)
+    given-a-requires
+    (λ c. search needs)
+    given-requires
+    (λ c. search needs)
+    given-requires-2
+    returns)

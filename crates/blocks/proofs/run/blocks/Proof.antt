@@ -1,0 +1,37 @@
+-- `blocks::run::blocks` meets its contract: the arrays of the sources at rest are laid, then the blocks run.
+use mathlib.Core.Path.{refl}
+use borrow.Author.Needs.{needs}
+use Rattle.blocks.proofs.run.blocks.Statement.{statement}
+use Rattle.blocks.proofs.run.blocks.Tie as tie
+
+all-rest-requires : tie.Need-all-rest-requires
+all-rest-requires c κs = (c .before .before .before .before .before .before .before .pre .0 .some, c .before .before .before .before .before .before .before .pre .0 .narrow, search needs, search needs, search needs)
+
+run-requires : tie.Need-run-requires
+run-requires c κs =
+    let rest = c .before .before .before .before .before .before .before .all-rest .ensures in
+    (
+      c .before .before .before .before .before .before .before .before .before .before .before .before .before .before .before .pre .0,
+      c .before .before .before .before .before .before .before .before .before .before .before .before .before .before .before .pre .1,
+      c .before .before .before .before .before .before .before .before .before .before .before .before .before .before .before .pre .2,
+      c .before .before .before .before .before .before .before .before .before .before .before .before .before .before .before .pre .3,
+      c .before .before .before .before .before .before .before .before .before .before .before .before .before .before .before .pre .4,
+      c .before .before .before .before .before .before .before .before .before .before .before .before .before .before .before .pre .5,
+      c .before .before .before .before .before .before .before .before .before .before .before .before .before .before .before .pre .6,
+      rest .0,
+      rest .1,
+      rest .2,
+      refl,
+      refl,
+      refl,
+      record { a = rest .3; b = rest .4; c = rest .5 },
+    )
+
+pub blocks-spec : {M : Type 1} → statement M
+blocks-spec =
+    tie.close
+    (tie.spec
+    all-rest-requires
+    run-requires
+    (λ c. search needs)
+    (λ c. search needs))

@@ -1,0 +1,14 @@
+-- `blocks::run::rest` meets its contract: the word laid 64 times.
+use Rattle.blocks.proofs.GivenLaws.{rests-not, rests-level}
+use borrow.Author.Needs.{needs}
+use Rattle.blocks.proofs.run.rest.Statement.{statement}
+use Rattle.blocks.proofs.run.rest.Tie as tie
+
+returns : tie.Need-returns
+returns c = (search needs, rests-not _ _ _ _ (search needs))
+
+returns-2 : tie.Need-returns-2
+returns-2 c = (search needs, rests-level _ _ _ _ (c .level .ensures .1))
+
+pub rest-spec : {M : Type 1} → statement M
+rest-spec = tie.close (tie.spec returns (λ c κs. search needs) returns-2)

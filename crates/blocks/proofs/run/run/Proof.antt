@@ -1,0 +1,84 @@
+-- `blocks::run::run` meets its contract, block by block. The facts are named, for `search` reads too few.
+use Prim.Native.Nat.{_-_}
+use lib.ListN.{length}
+use mathlib.Core.Path.{_≡_, refl}
+use native.Mathlib.Nat.{mul-le-mul-right}
+use native.Mathlib.Omega.{arith}
+use Rattle.word.specs.Size.{width, height}
+use Rattle.area.specs.Flow.{sources}
+use Rattle.area.specs.Setup.{setup}
+use Rattle.blocks.specs.Inner.Rests.{AllRest}
+use Rattle.blocks.proofs.RunLaws.{Running, running-starts, placed-on, apart-on, one-word, few-rows, room-here, running-on, running-done}
+use borrow.Author.Needs.{needs}
+use Rattle.blocks.proofs.run.run.Statement.{statement}
+use Rattle.blocks.proofs.run.run.Tie as tie
+
+abbrev Inv-loop : tie.InvT-loop
+Inv-loop ram₀ setup far width height most xa₀ xb₀ xc₀ ya₀ yb₀ o₀ here₀ row₀ ram xa xb xc ya yb o here row =
+    Running (length ram₀) setup width height here₀ row here ram ram₀ × (length xa ≡ 80) × (length xb ≡ 80) × (length xc ≡ 80)
+    × (length ya ≡ 80) × (length yb ≡ 80) × (length o ≡ 80) × AllRest setup width (here .sources) xa xb xc
+
+abbrev μ-loop : tie.MeasureT-loop
+μ-loop ram₀ setup far width height most xa₀ xb₀ xc₀ ya₀ yb₀ o₀ here₀ row₀ ram xa xb xc ya yb o here row = height - row
+
+loop-holds : tie.Need-loop-holds Inv-loop μ-loop
+loop-holds c = (running-starts _ _ _ _ _ _ _ _ (c .before .pre .0) (c .before .pre .1) refl (c .before .pre .6), c .before .pre .7, c .before .pre .8, c .before .pre .9, c .before .pre .10, c .before .pre .11, c .before .pre .12, c .before .pre .13)
+
+one-block-requires : tie.Need-one-block-requires Inv-loop μ-loop
+one-block-requires c κs =
+    let running = c .before .before .before .before .before .before .before .before .before .loop .inv in
+    let few = c .before .before .before .before .before .before .before .fewer .ensures in
+    (
+      rw (running .0 .long) (placed-on _ _ _ _ (c .before .before .before .before .before .before .before .before .before .before .before .args .most) _ _ _ (c .before .before .before .before .before .before .before .before .before .before .before .pre .0) (c .before .before .before .before .before .before .before .before .before .before .before .pre .1) _ _ _ _ (running .0) (omega arith)),
+      apart-on _ _ _ _ _ _ _ _ (c .before .before .before .before .before .before .before .before .before .before .before .pre .0) (c .before .before .before .before .before .before .before .before .before .before .before .pre .1) _ _ _ _ (running .0) (omega arith) (mul-le-mul-right _ (few .1)),
+      omega (arith, mul-le-mul-right (c .before .before .before .before .before .before .before .before .before .before .before .args .width) (few .1), c .before .before .before .before .before .before .before .before .before .before .before .pre .3),
+      one-word _ _ (few .0) (c .before .before .before .before .before .before .before .before .before .before .before .pre .0 .some),
+      few-rows _ _ _ (c .before .before .before .before .before .before .before .before .before .before .before .pre .0 .some) (c .before .before .before .before .before .before .before .before .before .before .before .pre .3) (few .1),
+      room-here _ _ _ (running .0 .room) (c .before .before .before .before .before .before .before .before .loop-test .taken),
+      running .1,
+      running .2,
+      running .3,
+      running .4,
+      running .5,
+      running .6,
+      running .7,
+    )
+
+add-row : tie.Need-add-row Inv-loop μ-loop
+add-row c = omega (arith, c .before .before .before .before .before .before .before .before .before .before .fewer .ensures .2, c .before .before .before .before .before .before .before .before .before .before .before .before .loop .inv .0 .within, c .before .before .before .before .before .before .before .before .before .before .before .before .before .before .pre .5)
+
+loop-again : tie.Need-loop-again Inv-loop μ-loop
+loop-again c =
+    let running = c .before .before .before .before .before .before .before .before .before .before .before .before .loop .inv in
+    let few = c .before .before .before .before .before .before .before .before .before .before .fewer .ensures in
+    let block = c .before .before .one-block .ensures in
+    (
+      running-on _ _ _ _ _ _ _ _ (c .before .before .before .before .before .before .before .before .before .before .before .before .before .before .pre .0) (c .before .before .before .before .before .before .before .before .before .before .before .before .before .before .pre .1) _ _ _ _ (running .0) (omega arith) _ _ (few .0) (one-word _ _ (few .0) (c .before .before .before .before .before .before .before .before .before .before .before .before .before .before .pre .0 .some))
+          (omega (arith, mul-le-mul-right (c .before .before .before .before .before .before .before .before .before .before .before .before .before .before .args .width) (few .1), c .before .before .before .before .before .before .before .before .before .before .before .before .before .before .pre .3)) (mul-le-mul-right _ (few .1)) (c .before .before .before .before .before .before .before .before .before .before .before .before .before .before .pre .4) (block .7),
+      block .0,
+      block .1,
+      block .2,
+      block .3,
+      block .4,
+      block .5,
+      block .6,
+    )
+
+returns : tie.Need-returns Inv-loop μ-loop
+returns c = running-done _ _ _ _ _ _ _ _ _ (omega arith) (c .before .loop .inv .0)
+
+pub run-spec : {M : Type 1} → statement M
+run-spec =
+    tie.close
+    (tie.spec
+    Inv-loop
+    μ-loop
+    loop-holds
+    (λ c. search needs)
+    (λ c κs. search needs)
+    one-block-requires
+    add-row
+    (λ c. search needs)
+    loop-again
+    (λ c. search needs)
+    returns)

@@ -1,5 +1,5 @@
 -- Laws of the blit: what it writes back, and how it is put together from its parts.
-use mathlib.Core.Path.{_≡_, refl}
+use mathlib.Core.Path.{_≡_, refl, ap}
 use Prim.Native.Nat.{ℕ, _+_, _*_, _<_, _≤_}
 use mathlib.Core.Bool.{Bool, true, false}
 use mathlib.Core.List.{List}
@@ -9,7 +9,7 @@ use lib.Dec.{eqb}
 use lib.ListN.{length, set, length-set}
 use Rattle.word.specs.declared.types.Pointer.{Pointer}
 use Rattle.word.specs.declared.types.Uses.{Uses}
-use Rattle.word.specs.Pointer.{high, low}
+use Rattle.word.specs.Pointer.{pointerEnd, high, low}
 use Rattle.word.specs.Size.{height, width}
 use Rattle.word.proofs.ChoiceLaws.{if-either}
 use Rattle.word.proofs.SizeLaws.{height-le, words-le}
@@ -23,13 +23,13 @@ use Rattle.refusal.specs.declared.types.Verdict.the-variants as verdicts
 use Rattle.blit.specs.declared.types.Answer.{Answer}
 use Rattle.blit.specs.declared.types.Answer.the-variants.{Done, Refused}
 use Rattle.area.specs.Setup.{shifts, setup}
-use Rattle.area.specs.Flow.{State, state, sources, startFrom, start}
+use Rattle.area.specs.Flow.{State, state, nothing, sources, startFrom, start}
 use Rattle.area.specs.Store.{storePending, countWith}
 use Rattle.area.specs.Rows.{areaBlit}
 use Rattle.area.proofs.RowsLaws.{areaBlit-keeps-length}
 use Rattle.area.proofs.CountLaws.{each, rows-count-all}
 use Rattle.refusal.specs.Refusal.{plan, stepRefusal, refusal, verdictNumber, handed}
-use Rattle.refusal.proofs.RefusalLaws.{refusal-is-some}
+use Rattle.refusal.proofs.RefusalLaws.{plan-lt-a, plan-lt-b, plan-lt-c, plan-lt-d, refusal-is-some}
 use Rattle.blit.specs.WriteBack.{putPointer, putPointers, putSource, putSources, putFlag, writeBack}
 use Rattle.blit.specs.Blit.{Outcome, finished, done, refused, answered, blitStep, blit, left}
 
@@ -56,7 +56,7 @@ pub writeBack-of-parts : (uses : Uses) (end : Flow) (file one two three : List �
 writeBack-of-parts uses end file one two three points sources flags = rw (flags, sources, points)
 
 -- what a blit goes by
-module _ (file : List ℕ) (by : Plan) (same : by ≡ plan file) where
+module _ (file : List ℕ) (size : ℕ) (by : Plan) (same : by ≡ plan file size) where
   pub plan-shifts-a : by .setup .shifts .a < 16
   unfolding setup shifts
   plan-shifts-a = rw same (omega arith)
@@ -65,27 +65,41 @@ module _ (file : List ℕ) (by : Plan) (same : by ≡ plan file) where
   unfolding setup shifts
   plan-shifts-b = rw same (omega arith)
 
--- a blit starts with none stored and has at most 1,024 rows
-pub start-room : (file : List ℕ) (at : Pointers) (size rows : ℕ) (flow : Flow) → flow ≡ startFrom at (sources file) → rows ≡ height size
-    → flow .stored + rows * 64 < 4294967295
-start-room file at size rows flow starts tall = rw (starts, tall) (omega (arith, height-le size))
+-- how a blit starts: where its pointers stand, with none waiting and none stored
+module _ (file : List ℕ) (size : ℕ) (by : Plan) (flow : Flow) (same : by ≡ plan file size) (starts : flow ≡ startFrom (by .pointers) (sources file)) where
+  pub start-a : flow .pointers .a .word < pointerEnd
+  start-a = rw starts (plan-lt-a file size by same)
 
-pub finished-of-parts : (file : List ℕ) (by : Plan) (size wide tall : ℕ) (memory after : List ℕ) (flow end : Flow)
-    → by ≡ plan file → wide ≡ width size → tall ≡ height size
+  pub start-b : flow .pointers .b .word < pointerEnd
+  start-b = rw starts (plan-lt-b file size by same)
+
+  pub start-c : flow .pointers .c .word < pointerEnd
+  start-c = rw starts (plan-lt-c file size by same)
+
+  pub start-d : flow .pointers .d .word < pointerEnd
+  start-d = rw starts (plan-lt-d file size by same)
+
+  pub start-nothing : flow .pending ≡ nothing
+  start-nothing = ap (λ (flow : Flow). flow .pending) starts
+
+  pub start-room : flow .stored + by .height * 64 < 4294967232
+  start-room = rw (starts, same) (omega (arith, height-le size))
+
+pub finished-of-parts : (file : List ℕ) (size : ℕ) (by : Plan) (memory after : List ℕ) (flow end : Flow)
+    → by ≡ plan file size
     → flow ≡ startFrom (by .pointers) (sources file)
-    → state after end ≡ areaBlit (by .setup) wide tall (state memory flow)
+    → state after end ≡ areaBlit (by .setup) (by .width) (by .height) (state memory flow)
     → state after end ≡ finished memory file size
 unfolding finished start
-finished-of-parts file by size wide tall memory after flow end same widths heights starts does =
-    rw (starts, widths, heights, same) at does
+finished-of-parts file size by memory after flow end same starts does = rw (starts, same) at does
 
-pub done-of-parts : (file : List ℕ) (by : Plan) (size : ℕ) (memory after changed : List ℕ) (end : Flow)
-    → by ≡ plan file
+pub done-of-parts : (file : List ℕ) (size : ℕ) (by : Plan) (memory after changed : List ℕ) (end : Flow)
+    → by ≡ plan file size
     → state after end ≡ finished memory file size
     → changed ≡ writeBack (by .setup .uses) end file
     → left (Done (end .stored)) after changed ≡ done file (finished memory file size)
 unfolding done
-done-of-parts file by size memory after changed end same does writes = rw (← does, writes, same)
+done-of-parts file size by memory after changed end same does writes = rw (← does, writes, same)
 
 pub answered-when-done : (memory file after changed : List ℕ) (size stored : ℕ) (verdict : Verdict) (by : Plan)
     → verdict ≡ verdicts.Lawful by → left (Done stored) after changed ≡ done file (finished memory file size)
@@ -93,9 +107,9 @@ pub answered-when-done : (memory file after changed : List ℕ) (size stored : �
 unfolding answered
 answered-when-done memory file after changed size stored verdict by lawful does = rw lawful does
 
-pub plan-of-verdict : (file : List ℕ) (verdict : Verdict) (by : Plan) → verdict ≡ verdicts.Lawful by
-    → handed verdict (plan file) ≡ plan file → by ≡ plan file
-plan-of-verdict file verdict by lawful hands = rw lawful at hands
+pub plan-of-verdict : (file : List ℕ) (size : ℕ) (verdict : Verdict) (by : Plan) → verdict ≡ verdicts.Lawful by
+    → handed verdict (plan file size) ≡ plan file size → by ≡ plan file size
+plan-of-verdict file size verdict by lawful hands = rw lawful at hands
 
 pub answered-when-refused : (memory file : List ℕ) (size : ℕ) (why : Refusal) (verdict : Verdict)
     → verdict ≡ verdicts.Refused why → left (Refused why) memory file ≡ answered (verdictNumber verdict) memory file size

@@ -140,10 +140,10 @@ one-row-inside direction n wide modulo rows pointer one stays =
     or-left (leaves n (rowTouches direction wide pointer)) (leaves n [])
     (sym (leaves-of-append n (rowTouches direction wide pointer) []) ∙ rw one at stays)
 
-d-inside : (n : ℕ) (by : Plan) (size : ℕ) → by .setup .uses .d ≡ true → height size ≡ 1 → leaving n by size ≡ 0
-    → leaves n (rowTouches (by .setup .direction) (width size) (by .pointers .d)) ≡ false
-d-inside n by size uses one stays =
-    one-row-inside (by .setup .direction) n (width size) (by .setup .modulos .d) (height size) (by .pointers .d) one (leaving-of-d n by size uses stays)
+d-inside : (n : ℕ) (by : Plan) → by .setup .uses .d ≡ true → by .height ≡ 1 → leaving n by ≡ 0
+    → leaves n (rowTouches (by .setup .direction) (by .width) (by .pointers .d)) ≡ false
+d-inside n by uses one stays =
+    one-row-inside (by .setup .direction) n (by .width) (by .setup .modulos .d) (by .height) (by .pointers .d) one (leaving-of-d n by uses stays)
 
 -- a file that copies has a set-up that copies
 setup-direction : (way : Direction) (file : List ℕ) → con1 file ≡ plain way → setup file .direction ≡ way
@@ -195,7 +195,7 @@ blit-copies memory file size all copying one lawful apart i within =
     (blit-of-lawful memory file size lawful ∙ one-row-is-words (setup file) (width size) (height size) (state memory (start file)) one)
     ∙ row-copies (setup file) copying (width size) (width size) begin (width-le size) all all (zero-lt-suc 65535) (pointerAt-lt file pointerD)
     (spot-inside (setup file .direction) (length memory) (width size) (start file .pointers .d)
-    (d-inside (length memory) (plan file) size (copying .d) one (refusal-of-none (length memory) file size lawful)))
+    (d-inside (length memory) (plan file size) (copying .d) one (refusal-of-none (length memory) file size lawful)))
     (λ i later few. refl) apart i within
 
 pub copy-of-one-row : CopyOfOneRow

@@ -10,24 +10,18 @@ use refusal::types::Verdict;
 
 // All rows of a blit that nothing refuses, by its plan.
 fn finished(ram: &mut [u16], file: &[u16], size: u16, by: Plan) -> Flow
-    requires { ⌜ by ≡ plan (now file) ⌝ }
+    requires { ⌜ by ≡ plan (now file) size ⌝ }
     ensures { λ end. ⌜ state (now (ram .exit)) end ≡ finished (now (ram .entry)) (now (file .entry)) size ⌝ }
 {
     let setup = by.setup;
     let from = by.pointers;
     let flow = area::flow::start_from(from, file);
-    engine::rows::area_blit(
-        ram,
-        setup,
-        word::size::width(size),
-        word::size::height(size),
-        flow,
-    )
+    engine::area_blit(ram, setup, by.width as u32, by.height as u32, flow)
 }
 
 // Does it, writes back what it leaves, and answers the count of words stored.
 fn done(ram: &mut [u16], file: &mut [u16], size: u16, by: Plan) -> u32
-    requires { ⌜ by ≡ plan (now file) ⌝ }
+    requires { ⌜ by ≡ plan (now file) size ⌝ }
     ensures { λ stored. ⌜
         left (Answer.Done stored) (now (ram .exit)) (now (file .exit))
         ≡ done (now (file .entry)) (finished (now (ram .entry)) (now (file .entry)) size) ⌝ }
@@ -39,7 +33,7 @@ fn done(ram: &mut [u16], file: &mut [u16], size: u16, by: Plan) -> u32
 
 // Does a blit, or refuses it as the verdict says.
 pub fn answered(ram: &mut [u16], file: &mut [u16], size: u16, verdict: Verdict) -> Answer
-    requires { ⌜ handed verdict (plan (now file)) ≡ plan (now file) ⌝ }
+    requires { ⌜ handed verdict (plan (now file) size) ≡ plan (now file) size ⌝ }
     ensures { λ answer. ⌜
         left answer (now (ram .exit)) (now (file .exit))
         ≡ answered (verdictNumber verdict) (now (ram .entry)) (now (file .entry)) size ⌝ }

@@ -1,4 +1,2 @@
--- The laws of the rows together.
-pub mod EndLaws
-pub mod BaseLaws
-pub mod RestLaws
+-- The laws of the choice between blocks and words.
+pub mod EngineLaws

@@ -1,3 +1,60 @@
-// The straight engine: rows that lie inside memory by their loops, all other rows word by word, as area does them.
-pub mod row;
-pub mod rows;
+// An area blit: by blocks of rows where no source meets what D stored, else word by word.
+ghost use mathlib.Core.Path.{_≡_};
+ghost use Prim.Native.Nat.{_+_, _*_, _<_, _≤_};
+ghost use Rattle.word.specs.Pointer.{pointerEnd};
+ghost use Rattle.area.specs.Flow.{state, nothing};
+ghost use Rattle.area.specs.Rows.{rows, areaBlit};
+use area::types::Flow;
+use area::types::Setup;
+
+fn rows(ram: &mut [u16], setup: Setup, width: u32, height: u32, flow: Flow) -> Flow
+    requires { ⌜ (setup .shifts .a < 16) × (setup .shifts .b < 16)
+        × (width ≤ 64) × (flow .stored + height * 64 < 4294967296) ⌝ }
+    ensures { λ after. ⌜
+        state (now (ram .exit)) after
+        ≡ rows setup width height (state (now (ram .entry)) flow) ⌝ }
+{
+    let mut here = flow;
+    let mut remaining = height;
+    while 0 < remaining {
+        let rest = by_word::some_rows(ram, setup, width, remaining, here);
+        remaining = rest.remaining;
+        here = rest.flow;
+    }
+    here
+}
+
+// Word by word, and the last word stored at the end.
+fn word_by_word(ram: &mut [u16], setup: Setup, width: u32, height: u32, flow: Flow) -> Flow
+    requires { ⌜ (setup .shifts .a < 16) × (setup .shifts .b < 16)
+        × (width ≤ 64) × (flow .stored + height * 64 < 4294967295) ⌝ }
+    ensures { λ after. ⌜
+        state (now (ram .exit)) after
+        ≡ areaBlit setup width height (state (now (ram .entry)) flow) ⌝ }
+{
+    let end = rows(ram, setup, width, height, flow);
+    area::store::store_pending(ram, end)
+}
+
+// So many rows at a time as the test before it allows. Two words at least: one alone would be stored before the next is
+// fetched.
+pub fn area_blit(ram: &mut [u16], setup: Setup, width: u32, height: u32, flow: Flow) -> Flow
+    requires { ⌜ (setup .shifts .a < 16) × (setup .shifts .b < 16) × (1 ≤ width) × (width ≤ 64) × (1 ≤ height) × (height ≤ 1024)
+        × (flow .pointers .a .word < pointerEnd) × (flow .pointers .b .word < pointerEnd)
+        × (flow .pointers .c .word < pointerEnd) × (flow .pointers .d .word < pointerEnd)
+        × (flow .pending ≡ nothing) × (flow .stored + height * 64 < 4294967232) ⌝ }
+    ensures { λ after. ⌜
+        state (now (ram .exit)) after
+        ≡ areaBlit setup width height (state (now (ram .entry)) flow) ⌝ }
+{
+    if ram.len() <= 262144 {
+        let wide = width as usize;
+        let tall = height as usize;
+        let far = apart::strides(setup, width);
+        let most = apart::rows_at_once(ram.len(), setup, wide, tall, flow, far);
+        if 2 <= most * wide {
+            return blocks::run::blocks(ram, setup, far, wide, tall, most, flow);
+        }
+    }
+    word_by_word(ram, setup, width, height, flow)
+}

@@ -62,8 +62,8 @@ verdict-is-unique by (Refused why) (Refused reason) same hands again = ap Refuse
 
 pub one-answer : OneAnswer
 one-answer n file size first second promise again =
-    verdict-is-unique (plan file) first second (promise .0 ∙ sym (again .0)) (promise .1) (again .1)
+    verdict-is-unique (plan file size) first second (promise .0 ∙ sym (again .0)) (promise .1) (again .1)
 
 pub one-step-answer : OneStepAnswer
 one-step-answer n file size first second promise again =
-    verdict-is-unique (plan file) first second (promise .0 ∙ sym (again .0)) (promise .1) (again .1)
+    verdict-is-unique (plan file size) first second (promise .0 ∙ sym (again .0)) (promise .1) (again .1)

@@ -8,7 +8,7 @@ use lib.Dec.{eqb}
 use Rattle.word.specs.Choice.{if_then_else_, given}
 use Rattle.word.specs.Pointer.{pointerEnd, pointer}
 use Rattle.word.specs.Size.{height, width}
-use Rattle.word.proofs.SizeLaws.{width-le, width-positive}
+use Rattle.word.proofs.SizeLaws.{height-positive, height-le, width-le, width-positive}
 use Rattle.file.specs.File.{accepted, con1}
 use Rattle.file.specs.Places.{pointerA, pointerB, pointerC, pointerD}
 use Rattle.area.specs.Setup.{setup}
@@ -26,7 +26,7 @@ pub pointerAt-lt : (file : List ℕ) (place : ℕ) → pointerAt file place .wor
 unfolding pointerAt pointer
 pointerAt-lt file place = omega arith
 
-module _ (file : List ℕ) (by : Plan) (same : by ≡ plan file) where
+module _ (file : List ℕ) (size : ℕ) (by : Plan) (same : by ≡ plan file size) where
   pub plan-lt-a : by .pointers .a .word < pointerEnd
   unfolding pointers
   plan-lt-a = rw same (pointerAt-lt file pointerA)
@@ -43,40 +43,46 @@ module _ (file : List ℕ) (by : Plan) (same : by ≡ plan file) where
   unfolding pointers
   plan-lt-d = rw same (pointerAt-lt file pointerD)
 
-pub width-is-some : (size words : ℕ) → words ≡ width size → 1 ≤ words
-width-is-some size words wide = rw wide (width-positive size)
+  pub plan-some-words : 1 ≤ by .width
+  plan-some-words = rw same (width-positive size)
 
-pub width-is-few : (size words : ℕ) → words ≡ width size → words ≤ 64
-width-is-few size words wide = rw wide (width-le size)
+  pub plan-few-words : by .width ≤ 64
+  plan-few-words = rw same (width-le size)
+
+  pub plan-some-rows : 1 ≤ by .height
+  plan-some-rows = rw same (height-positive size)
+
+  pub plan-few-rows : by .height ≤ 1024
+  plan-few-rows = rw same (height-le size)
 
 -- the channels one after the other: the first that leaves decides
-module _ (n : ℕ) (by : Plan) (size wide tall : ℕ) (width-is : wide ≡ width size) (height-is : tall ≡ height size) (a : Bool)
-    (of-a : a ≡ channelLeaves n (by .setup .direction) (by .setup .uses .a) wide (by .setup .modulos .a) tall (by .pointers .a)) where
-  pub leaving-by-a : a ≡ true → 14 ≡ leaving n by size
+module _ (n : ℕ) (by : Plan) (a : Bool)
+    (of-a : a ≡ channelLeaves n (by .setup .direction) (by .setup .uses .a) (by .width) (by .setup .modulos .a) (by .height) (by .pointers .a)) where
+  pub leaving-by-a : a ≡ true → 14 ≡ leaving n by
   unfolding leaving given
-  leaving-by-a outside = rw (← width-is, ← height-is, ← of-a, outside)
+  leaving-by-a outside = rw (← of-a, outside)
 
   module _ (a-stays : a ≡ false) (b : Bool)
-      (of-b : b ≡ channelLeaves n (by .setup .direction) (by .setup .uses .b) wide (by .setup .modulos .b) tall (by .pointers .b)) where
-    pub leaving-by-b : b ≡ true → 15 ≡ leaving n by size
+      (of-b : b ≡ channelLeaves n (by .setup .direction) (by .setup .uses .b) (by .width) (by .setup .modulos .b) (by .height) (by .pointers .b)) where
+    pub leaving-by-b : b ≡ true → 15 ≡ leaving n by
     unfolding leaving given
-    leaving-by-b outside = rw (← width-is, ← height-is, ← of-a, ← of-b, a-stays, outside)
+    leaving-by-b outside = rw (← of-a, ← of-b, a-stays, outside)
 
     module _ (b-stays : b ≡ false) (c : Bool)
-        (of-c : c ≡ channelLeaves n (by .setup .direction) (by .setup .uses .c) wide (by .setup .modulos .c) tall (by .pointers .c)) where
-      pub leaving-by-c : c ≡ true → 16 ≡ leaving n by size
+        (of-c : c ≡ channelLeaves n (by .setup .direction) (by .setup .uses .c) (by .width) (by .setup .modulos .c) (by .height) (by .pointers .c)) where
+      pub leaving-by-c : c ≡ true → 16 ≡ leaving n by
       unfolding leaving given
-      leaving-by-c outside = rw (← width-is, ← height-is, ← of-a, ← of-b, ← of-c, a-stays, b-stays, outside)
+      leaving-by-c outside = rw (← of-a, ← of-b, ← of-c, a-stays, b-stays, outside)
 
       module _ (c-stays : c ≡ false) (d : Bool)
-          (of-d : d ≡ channelLeaves n (by .setup .direction) (by .setup .uses .d) wide (by .setup .modulos .d) tall (by .pointers .d)) where
-        pub leaving-by-d : d ≡ true → 17 ≡ leaving n by size
+          (of-d : d ≡ channelLeaves n (by .setup .direction) (by .setup .uses .d) (by .width) (by .setup .modulos .d) (by .height) (by .pointers .d)) where
+        pub leaving-by-d : d ≡ true → 17 ≡ leaving n by
         unfolding leaving given
-        leaving-by-d outside = rw (← width-is, ← height-is, ← of-a, ← of-b, ← of-c, ← of-d, a-stays, b-stays, c-stays, outside)
+        leaving-by-d outside = rw (← of-a, ← of-b, ← of-c, ← of-d, a-stays, b-stays, c-stays, outside)
 
-        pub leaving-by-none : d ≡ false → 0 ≡ leaving n by size
+        pub leaving-by-none : d ≡ false → 0 ≡ leaving n by
         unfolding leaving given
-        leaving-by-none stays = rw (← width-is, ← height-is, ← of-a, ← of-b, ← of-c, ← of-d, a-stays, b-stays, c-stays, stays)
+        leaving-by-none stays = rw (← of-a, ← of-b, ← of-c, ← of-d, a-stays, b-stays, c-stays, stays)
 
 -- the rules of a blit, one after the other
 module _ (n size : ℕ) (file : List ℕ) (control : ℕ) (reads : control ≡ con1 file) (lines : Bool) (of-lines : lines ≡ line control) where
@@ -95,15 +101,15 @@ module _ (n size : ℕ) (file : List ℕ) (control : ℕ) (reads : control ≡ c
       refused-by-fill-upward holds = rw (← reads, ← of-lines, area, ← of-both, one, ← of-upward, holds)
 
       pub refused-by-leaving : upward ≡ false → (by : Plan) (number : ℕ)
-          → by ≡ plan file → number ≡ leaving n by size → number ≡ stepRefusal n file size
+          → by ≡ plan file size → number ≡ leaving n by → number ≡ stepRefusal n file size
       unfolding stepRefusal given leaving
       refused-by-leaving downward by number of-by gives =
           rw (← reads, ← of-lines, area, ← of-both, one, ← of-upward, downward) (rw of-by at gives)
 
 -- what is handed on
-pub handed-of-plan : (file : List ℕ) (by : Plan) (verdict : Verdict) → by ≡ plan file → handed verdict by ≡ by
-    → handed verdict (plan file) ≡ plan file
-handed-of-plan file by verdict same hands = rw same at hands
+pub handed-of-plan : (file : List ℕ) (size : ℕ) (by : Plan) (verdict : Verdict) → by ≡ plan file size → handed verdict by ≡ by
+    → handed verdict (plan file size) ≡ plan file size
+handed-of-plan file size by verdict same hands = rw same at hands
 
 -- memory and file, then the rules of the blit
 module _ (n size : ℕ) (file : List ℕ) (bad : Bool) (of-bad : bad ≡ memorySize n) where
@@ -153,7 +159,7 @@ numbered memory file line both upward channel =
 pub refusal-is-numbered : (n : ℕ) (file : List ℕ) (size : ℕ)
     → refusal n file size
     ≡ numbered (memorySize n) (not (accepted file)) (line (con1 file)) (bothFills (con1 file)) (fillUpward (con1 file))
-    (leaving n (plan file) size)
+    (leaving n (plan file size))
 unfolding refusal given leaving
 refusal-is-numbered n file size = refl
 
@@ -166,17 +172,17 @@ numbered-of-none false false false false true channel lawful = absurd (omega ari
 numbered-of-none false false false false false channel lawful = lawful
 
 -- a blit that nothing refuses doesn't leave memory
-pub refusal-of-none : (n : ℕ) (file : List ℕ) (size : ℕ) → refusal n file size ≡ 0 → leaving n (plan file) size ≡ 0
+pub refusal-of-none : (n : ℕ) (file : List ℕ) (size : ℕ) → refusal n file size ≡ 0 → leaving n (plan file size) ≡ 0
 refusal-of-none n file size lawful =
     numbered-of-none (memorySize n) (not (accepted file)) (line (con1 file)) (bothFills (con1 file)) (fillUpward (con1 file))
-    (leaving n (plan file) size) (sym (refusal-is-numbered n file size) ∙ lawful)
+    (leaving n (plan file size)) (sym (refusal-is-numbered n file size) ∙ lawful)
 
 -- the same of a job's blit
-pub stepRefusal-of-none : (n : ℕ) (file : List ℕ) (size : ℕ) → stepRefusal n file size ≡ 0 → leaving n (plan file) size ≡ 0
+pub stepRefusal-of-none : (n : ℕ) (file : List ℕ) (size : ℕ) → stepRefusal n file size ≡ 0 → leaving n (plan file size) ≡ 0
 unfolding stepRefusal given leaving
 stepRefusal-of-none n file size lawful =
     numbered-of-none false false (line (con1 file)) (bothFills (con1 file)) (fillUpward (con1 file))
-    (leaving n (plan file) size) lawful
+    (leaving n (plan file size)) lawful
 
 -- then D, if it is used, stays inside
 last-of-none : (a b c used outside : Bool) → used ≡ true → channelNumbered a b c (used && outside) ≡ 0 → outside ≡ false
@@ -187,12 +193,12 @@ last-of-none false false false true true uses none = absurd (omega arith)
 last-of-none false false false false true uses none = sym uses
 last-of-none false false false used false uses none = refl
 
-pub leaving-of-d : (n : ℕ) (by : Plan) (size : ℕ) → by .setup .uses .d ≡ true → leaving n by size ≡ 0
-    → leaves n (touches (by .setup .direction) (width size) (by .setup .modulos .d) (height size) (by .pointers .d)) ≡ false
+pub leaving-of-d : (n : ℕ) (by : Plan) → by .setup .uses .d ≡ true → leaving n by ≡ 0
+    → leaves n (touches (by .setup .direction) (by .width) (by .setup .modulos .d) (by .height) (by .pointers .d)) ≡ false
 unfolding leaving given channelLeaves
-leaving-of-d n by size uses none =
+leaving-of-d n by uses none =
     last-of-none
-    (goesOut n by size (by .setup .uses .a) (by .setup .modulos .a) (by .pointers .a))
-    (goesOut n by size (by .setup .uses .b) (by .setup .modulos .b) (by .pointers .b))
-    (goesOut n by size (by .setup .uses .c) (by .setup .modulos .c) (by .pointers .c))
-    (by .setup .uses .d) (leaves n (touches (by .setup .direction) (width size) (by .setup .modulos .d) (height size) (by .pointers .d))) uses none
+    (goesOut n by (by .setup .uses .a) (by .setup .modulos .a) (by .pointers .a))
+    (goesOut n by (by .setup .uses .b) (by .setup .modulos .b) (by .pointers .b))
+    (goesOut n by (by .setup .uses .c) (by .setup .modulos .c) (by .pointers .c))
+    (by .setup .uses .d) (leaves n (touches (by .setup .direction) (by .width) (by .setup .modulos .d) (by .height) (by .pointers .d))) uses none

@@ -9,11 +9,11 @@ use Rattle.refusal.specs.Refusal.{plan, stepRefusal, refusal, verdictNum
 -- what the calls promise
 abbrev pub Meets : (n : ℕ) → (file : List ℕ) → (size : ℕ) → Verdict → Type 0
 Meets n file size verdict =
-    (verdictNumber verdict ≡ refusal n file size) × (handed verdict (plan file) ≡ plan file)
+    (verdictNumber verdict ≡ refusal n file size) × (handed verdict (plan file size) ≡ plan file size)
 
 abbrev pub MeetsStep : (n : ℕ) → (file : List ℕ) → (size : ℕ) → Verdict → Type 0
 MeetsStep n file size verdict =
-    (verdictNumber verdict ≡ stepRefusal n file size) × (handed verdict (plan file) ≡ plan file)
+    (verdictNumber verdict ≡ stepRefusal n file size) × (handed verdict (plan file size) ≡ plan file size)
 
 abbrev pub OneAnswer : Type 0
 OneAnswer =

@@ -28,25 +28,31 @@ unfoldable pub fillUpward : (con1 : ℕ) → Bool
 fillUpward con1 = (exclusiveFill con1 || inclusiveFill con1) && not (descending con1)
 
 -- what a blit goes by
-abbrev pub plan : (file : List ℕ) → Plan
-plan file = record { setup = setup file; pointers = pointers file }
+abbrev pub plan : (file : List ℕ) → (size : ℕ) → Plan
+plan file size =
+    record {
+      setup = setup file;
+      pointers = pointers file;
+      width = width size;
+      height = height size;
+    }
 
 -- a channel of a blit leaves memory
-abbrev pub goesOut : (n : ℕ) → Plan → (size : ℕ) → (used : Bool) → (modulo : ℕ) → Pointer → Bool
-goesOut n by size used modulo at = channelLeaves n (by .setup .direction) used (width size) modulo (height size) at
+abbrev pub goesOut : (n : ℕ) → Plan → (used : Bool) → (modulo : ℕ) → Pointer → Bool
+goesOut n by used modulo at = channelLeaves n (by .setup .direction) used (by .width) modulo (by .height) at
 
 -- "the first channel, in the order A, B, C, D, of which any word lies at N or above", whichever leaves earlier
-abbrev pub leavingRules : (n : ℕ) → Plan → (size : ℕ) → List Rule
-leavingRules n by size =
-    14 when goesOut n by size (by .setup .uses .a) (by .setup .modulos .a) (by .pointers .a)
-    ∷ 15 when goesOut n by size (by .setup .uses .b) (by .setup .modulos .b) (by .pointers .b)
-    ∷ 16 when goesOut n by size (by .setup .uses .c) (by .setup .modulos .c) (by .pointers .c)
-    ∷ 17 when goesOut n by size (by .setup .uses .d) (by .setup .modulos .d) (by .pointers .d)
+abbrev pub leavingRules : (n : ℕ) → Plan → List Rule
+leavingRules n by =
+    14 when goesOut n by (by .setup .uses .a) (by .setup .modulos .a) (by .pointers .a)
+    ∷ 15 when goesOut n by (by .setup .uses .b) (by .setup .modulos .b) (by .pointers .b)
+    ∷ 16 when goesOut n by (by .setup .uses .c) (by .setup .modulos .c) (by .pointers .c)
+    ∷ 17 when goesOut n by (by .setup .uses .d) (by .setup .modulos .d) (by .pointers .d)
     ∷ []
 
 -- the number of a blit that "leaves memory"; 0 where none of its channels does
-unfoldable pub leaving : (n : ℕ) → Plan → (size : ℕ) → ℕ
-leaving n by size = given (leavingRules n by size)
+unfoldable pub leaving : (n : ℕ) → Plan → ℕ
+leaving n by = given (leavingRules n by)
 
 -- the rules of a job's blit, for which memory and file have been taken: 7, 8, 9, then the channels'
 abbrev pub blitRules : (n : ℕ) → (file : List ℕ) → (size : ℕ) → List Rule
@@ -54,7 +60,7 @@ blitRules n file size =
     7 when line (con1 file)
     ∷ 8 when bothFills (con1 file)
     ∷ 9 when fillUpward (con1 file)
-    ∷ leavingRules n (plan file) size
+    ∷ leavingRules n (plan file size)
 
 abbrev pub refusals : (n : ℕ) → (file : List ℕ) → (size : ℕ) → List Rule
 refusals n file size =

@@ -4,7 +4,7 @@ mod touch;
 pub mod types;
 
 ghost use mathlib.Core.Path.{_≡_};
-ghost use Prim.Native.Nat.{_<_};
+ghost use Prim.Native.Nat.{_<_, _≤_};
 ghost use Rattle.word.specs.Pointer.{pointerEnd};
 ghost use Rattle.refusal.specs.Refusal.{bothFills, fillUpward, plan, leaving, stepRefusal, refusal};
 ghost use Rattle.refusal.specs.Refusal.{refusalNumber, verdictNumber, handed};
@@ -26,27 +26,35 @@ fn fill_upward(con1: u16) -> bool
 }
 
 // What a blit goes by.
-fn plan(file: &[u16]) -> Plan
-    ensures { λ by. ⌜ by ≡ plan (now (file .entry)) ⌝ }
+fn plan(file: &[u16], size: u16) -> Plan
+    ensures { λ by. ⌜ by ≡ plan (now (file .entry)) size ⌝ }
 {
     let setup = area::setup::setup(file);
     let pointers = area::flow::pointers(file);
-    Plan { setup, pointers }
+    let width = word::size::width(size) as u8;
+    let height = word::size::height(size) as u16;
+    Plan {
+        setup,
+        pointers,
+        width,
+        height,
+    }
 }
 
 // The channels in the order A, B, C, D: the first that leaves memory is told.
-fn leaving(n: usize, by: Plan, size: u16) -> Verdict
+fn leaving(n: usize, by: Plan) -> Verdict
     requires { ⌜ (by .pointers .a .word < pointerEnd) × (by .pointers .b .word < pointerEnd)
-        × (by .pointers .c .word < pointerEnd) × (by .pointers .d .word < pointerEnd) ⌝ }
-    ensures { λ verdict. ⌜ (verdictNumber verdict ≡ leaving n by size) × (handed verdict by ≡ by) ⌝ }
+        × (by .pointers .c .word < pointerEnd) × (by .pointers .d .word < pointerEnd)
+        × (1 ≤ by .width) × (by .width ≤ 64) ⌝ }
+    ensures { λ verdict. ⌜ (verdictNumber verdict ≡ leaving n by) × (handed verdict by ≡ by) ⌝ }
 {
     let setup = by.setup;
     let pointers = by.pointers;
     let uses = setup.uses;
     let modulos = setup.modulos;
     let direction = setup.direction;
-    let width = word::size::width(size);
-    let height = word::size::height(size);
+    let width = by.width as u32;
+    let height = by.height as u32;
     let a = pointers.a;
     let b = pointers.b;
     let c = pointers.c;
@@ -69,7 +77,7 @@ fn leaving(n: usize, by: Plan, size: u16) -> Verdict
 // The refusal of a job's blit, whose memory and file have been taken.
 pub fn step_refusal(n: usize, file: &[u16], size: u16) -> Verdict
     ensures { λ verdict. ⌜ (verdictNumber verdict ≡ stepRefusal n (now (file .entry)) size)
-        × (handed verdict (plan (now (file .entry))) ≡ plan (now (file .entry))) ⌝ }
+        × (handed verdict (plan (now (file .entry)) size) ≡ plan (now (file .entry)) size) ⌝ }
 {
     let con1 = word::memory::read(file, file::CONTROL_1);
     if word::control::line(con1) {
@@ -81,14 +89,14 @@ pub fn step_refusal(n: usize, file: &[u16], size: u16) -> Verdict
     if fill_upward(con1) {
         return Verdict::Refused(Refusal::FillUpward);
     }
-    let by = plan(file);
-    leaving(n, by, size)
+    let by = plan(file, size);
+    leaving(n, by)
 }
 
 // The refusal alone, from N, file and size: whether a blit on n words of memory would be done.
 pub fn refusal(n: usize, file: &[u16], size: u16) -> Verdict
     ensures { λ verdict. ⌜ (verdictNumber verdict ≡ refusal n (now (file .entry)) size)
-        × (handed verdict (plan (now (file .entry))) ≡ plan (now (file .entry))) ⌝ }
+        × (handed verdict (plan (now (file .entry)) size) ≡ plan (now (file .entry)) size) ⌝ }
 {
     if word::memory::memory_size(n) {
         return Verdict::Refused(Refusal::MemorySize);

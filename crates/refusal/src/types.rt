@@ -15,10 +15,13 @@ pub enum Refusal {
     DLeaves,
 }
 
-// What a blit goes by, decoded once from the register file: its set-up and its pointers.
+// What a blit goes by, decoded once from register file and size. Types as narrow as width and height are tell the
+// compiler how small they stay.
 pub struct Plan {
     pub setup: Setup,
     pub pointers: Pointers,
+    pub width: u8,
+    pub height: u16,
 }
 
 // Whether a blit would be done; a lawful one hands on what it goes by.

@@ -43,11 +43,11 @@ last-alone : (a b c d x y z w : Bool) → a ≡ false → b ≡ false → c ≡ 
     → channelNumbered (a && x) (b && y) (c && z) (d && w) ≡ channelNumbered false false false w
 last-alone a b c d x y z w no-a no-b no-c yes-d = rw (no-a, no-b, no-c, yes-d)
 
-leaving-of-only-d : (n : ℕ) (by : Plan) (size : ℕ) → OnlyD (by .setup .uses)
-    → leaving n by size
-    ≡ channelNumbered false false false (leaves n (touches (by .setup .direction) (width size) (by .setup .modulos .d) (height size) (by .pointers .d)))
+leaving-of-only-d : (n : ℕ) (by : Plan) → OnlyD (by .setup .uses)
+    → leaving n by
+    ≡ channelNumbered false false false (leaves n (touches (by .setup .direction) (by .width) (by .setup .modulos .d) (by .height) (by .pointers .d)))
 unfolding leaving given channelLeaves
-leaving-of-only-d n by size only =
+leaving-of-only-d n by only =
     last-alone (by .setup .uses .a) (by .setup .uses .b) (by .setup .uses .c) (by .setup .uses .d) _ _ _ _ (only .a) (only .b) (only .c) (only .d)
 
 touches-alike : (n wide tall : ℕ) (way way′ : Direction) (modulo modulo′ : ℕ) (at at′ : Pointer) → way ≡ way′ → modulo ≡ modulo′ → at ≡ at′
@@ -107,10 +107,10 @@ module _ (this other : List ℕ) (agree : Agree this other) where
   stepRefusal-alike n size only =
       ap₂ (λ (control channel : ℕ). numbered false false (line control) (bothFills control) (fillUpward control) channel)
       (agree .control1)
-      (leaving-of-only-d n (plan this) size only
+      (leaving-of-only-d n (plan this size) only
       ∙ touches-alike n (width size) (height size) (setup this .direction) (setup other .direction) (setup this .modulos .d) (setup other .modulos .d) (pointers this .d) (pointers other .d)
       (setup-alike .direction) (setup-alike .modulo) pointers-alike
-      ∙ sym (leaving-of-only-d n (plan other) size (uses-alike only)))
+      ∙ sym (leaving-of-only-d n (plan other size) (uses-alike only)))
 
   pub finalD-alike : (size : ℕ) → finalD this size ≡ finalD other size
   unfolding finalD

@@ -97,7 +97,7 @@ module _ (memory file : List ℕ) (size : ℕ) (only : OnlyD (setup file .uses))
     unfolding stores start pointers
     stores-inside =
         blitStores-inside (setup file) only (width size) (length memory) (height size) (state [] (start file)) (pointerAt-lt file pointerD)
-        (leaving-of-d (length memory) (plan file) size (only .d) (stepRefusal-of-none (length memory) file size lawful))
+        (leaving-of-d (length memory) (plan file size) (only .d) (stepRefusal-of-none (length memory) file size lawful))
 
     -- what a settled blit leaves in the file
     pub blitStep-file : blitStep memory file size .file

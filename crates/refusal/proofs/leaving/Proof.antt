@@ -1,36 +1,30 @@
 -- `refusal::leaving` meets its contract: the channels one after the other, the first that leaves decides.
-use Rattle.refusal.proofs.RefusalLaws.{width-is-some, width-is-few, leaving-by-a, leaving-by-b, leaving-by-c, leaving-by-d, leaving-by-none}
+use Rattle.refusal.proofs.RefusalLaws.{leaving-by-a, leaving-by-b, leaving-by-c, leaving-by-d, leaving-by-none}
 use mathlib.Core.Path.{refl}
 use borrow.Author.Needs.{needs}
 use Rattle.refusal.proofs.leaving.Statement.{statement}
 use Rattle.refusal.proofs.leaving.Tie as tie
 
-width-requires : tie.Need-width-requires
-width-requires c κs = search needs
-
-height-requires : tie.Need-height-requires
-height-requires c κs = search needs
-
 channel-leaves-requires : tie.Need-channel-leaves-requires
-channel-leaves-requires c κs = search (needs, width-is-some, width-is-few)
+channel-leaves-requires c κs = search needs
 
 returns : tie.Need-returns
 returns c = (search leaving-by-a, refl)
 
 channel-leaves-requires-2 : tie.Need-channel-leaves-requires-2
-channel-leaves-requires-2 c κs = search (needs, width-is-some, width-is-few)
+channel-leaves-requires-2 c κs = search needs
 
 returns-2 : tie.Need-returns-2
 returns-2 c = (search leaving-by-b, refl)
 
 channel-leaves-requires-3 : tie.Need-channel-leaves-requires-3
-channel-leaves-requires-3 c κs = search (needs, width-is-some, width-is-few)
+channel-leaves-requires-3 c κs = search needs
 
 returns-3 : tie.Need-returns-3
 returns-3 c = (search leaving-by-c, refl)
 
 channel-leaves-requires-4 : tie.Need-channel-leaves-requires-4
-channel-leaves-requires-4 c κs = search (needs, width-is-some, width-is-few)
+channel-leaves-requires-4 c κs = search needs
 
 returns-4 : tie.Need-returns-4
 returns-4 c = (search leaving-by-d, refl)
@@ -42,8 +36,8 @@ pub leaving-spec : {M : Type 1} → statement M
 leaving-spec =
     tie.close
     (tie.spec
-    width-requires
-    height-requires
+    (λ c. search needs)
+    (λ c. search needs)
     channel-leaves-requires
     returns
     channel-leaves-requires-2

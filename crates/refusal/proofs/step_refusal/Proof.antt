@@ -1,6 +1,6 @@
 -- `refusal::step_refusal` meets its contract: each test is a rule of the list, in the list's order.
 use mathlib.Core.Path.{refl}
-use Rattle.refusal.proofs.RefusalLaws.{plan-lt-a, plan-lt-b, plan-lt-c, plan-lt-d, handed-of-plan, refused-by-line, refused-by-both-fills, refused-by-fill-upward, refused-by-leaving}
+use Rattle.refusal.proofs.RefusalLaws.{plan-lt-a, plan-lt-b, plan-lt-c, plan-lt-d, plan-some-words, plan-few-words, handed-of-plan, refused-by-line, refused-by-both-fills, refused-by-fill-upward, refused-by-leaving}
 use borrow.Author.Needs.{needs}
 use Rattle.refusal.proofs.step_refusal.Statement.{statement}
 use Rattle.refusal.proofs.step_refusal.Tie as tie
@@ -15,7 +15,7 @@ returns-3 : tie.Need-returns-3
 returns-3 c = (search refused-by-fill-upward, refl)
 
 leaving-requires : tie.Need-leaving-requires
-leaving-requires c κs = search (plan-lt-a, plan-lt-b, plan-lt-c, plan-lt-d)
+leaving-requires c κs = search (plan-lt-a, plan-lt-b, plan-lt-c, plan-lt-d, plan-some-words, plan-few-words)
 
 returns-4 : tie.Need-returns-4
 returns-4 c = (search refused-by-leaving, search handed-of-plan)

@@ -1,2 +1,0 @@
--- The laws of the loops for A alone.
-pub mod AloneLaws

@@ -1,2 +1,0 @@
--- The laws of a column.
-pub mod ColumnLaws

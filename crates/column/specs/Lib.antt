@@ -1,2 +1,0 @@
--- What the contracts of a column speak of.
-pub mod Column

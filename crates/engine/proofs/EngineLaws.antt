@@ -1,0 +1,15 @@
+-- Laws of the choice between blocks and words.
+use mathlib.Core.Path.{_≡_, _∙_}
+use Prim.Native.Nat.{ℕ, zero, suc, _+_, _*_, _<_, _≤_}
+use native.Mathlib.Nat.{zero-mul}
+use native.Mathlib.Omega.{arith}
+use Rattle.area.specs.Flow.{State}
+
+-- some rows, where there are some words
+pub one-row : (rows width : ℕ) → 2 ≤ rows * width → 1 ≤ rows
+one-row zero width some = absurd (omega (arith, zero-mul width))
+one-row (suc rows) width some = omega arith
+
+-- what goes on to the same end
+pub goes-on : {End : Type 0} (here before whole : End) → here ≡ before → before ≡ whole → here ≡ whole
+goes-on here before whole on same = on ∙ same

@@ -1,2 +1,0 @@
--- The laws of the loops for D alone.
-pub mod SameLaws

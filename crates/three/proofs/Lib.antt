@@ -1,2 +1,0 @@
--- The laws of the loops for three sources.
-pub mod ThreeLaws

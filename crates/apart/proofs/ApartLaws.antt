@@ -86,11 +86,10 @@ pub all-apart : (n : ℕ) (setup : Setup) (width height : ℕ) (flow : Flow) (fa
     → (1 ≤ b → setup .uses .b ≡ true → Told n (setup .direction) width height (setup .uses .d) low high (far .d) (far .b) (flow .pointers .d .word) (flow .pointers .b .word) b)
     → (1 ≤ c → setup .uses .c ≡ true → Told n (setup .direction) width height (setup .uses .d) low high (far .d) (far .c) (flow .pointers .d .word) (flow .pointers .c .word) c)
     → b ≤ a → c ≤ b → 1 ≤ c → Placed n setup width height flow far × AllApart setup width (c * width) (height * width) flow
-all-apart n setup width height flow far low high fine inside a b c known spans fits holds to-a to-b to-c first second some =
-    (
-      is-placed n setup width height flow far low high c known (λ stores. spans (fits holds stores)) of-a of-b (to-c some),
-      is-apart n setup width height flow far low high c known (λ stores. spans (fits holds stores)) of-a of-b (to-c some),
-    )
+all-apart n setup width height flow far low high fine inside a b c known spans fits holds to-a to-b to-c first second some = (
+  is-placed n setup width height flow far low high c known (λ stores. spans (fits holds stores)) of-a of-b (to-c some),
+  is-apart n setup width height flow far low high c known (λ stores. spans (fits holds stores)) of-a of-b (to-c some),
+)
   where
     of-a : setup .uses .a ≡ true → Told n (setup .direction) width height (setup .uses .d) low high (far .d) (far .a) (flow .pointers .d .word) (flow .pointers .a .word) c
     of-a uses = told-fewer n _ _ _ _ _ _ _ _ _ _ a c (omega arith) (to-a (omega arith) uses)

@@ -19,7 +19,14 @@ fn fewer(most: usize, rows: usize) -> usize
 
 // D goes along with the source upward, rows evenly apart and none over the next: at the source or behind it D never meets
 // it, ahead of it by so many strides it may be done so many rows at a time.
-fn calm_up(width: usize, height: usize, far: usize, startd: usize, startx: usize, most: usize) -> usize
+fn calm_up(
+    width: usize,
+    height: usize,
+    far: usize,
+    startd: usize,
+    startx: usize,
+    most: usize,
+) -> usize
     requires { ⌜ 1 ≤ width ⌝ }
     ensures { λ rows. ⌜ (rows ≤ most)
         × (1 ≤ rows → (n lowD highD lowX highX : ℕ) → Spans n Ascending width far startd height lowD highD
@@ -38,7 +45,14 @@ fn calm_up(width: usize, height: usize, far: usize, startd: usize, startx: usize
 }
 
 // Downward the same.
-fn calm_down(width: usize, height: usize, far: usize, startd: usize, startx: usize, most: usize) -> usize
+fn calm_down(
+    width: usize,
+    height: usize,
+    far: usize,
+    startd: usize,
+    startx: usize,
+    most: usize,
+) -> usize
     requires { ⌜ (1 ≤ width) × (width ≤ 64) × (far < pointerEnd) ⌝ }
     ensures { λ rows. ⌜ (rows ≤ most)
         × (1 ≤ rows → (n lowD highD lowX highX : ℕ) → Spans n Descending width far startd height lowD highD
@@ -130,7 +144,18 @@ pub fn source_rows(
         let x = crate::span::span(n, direction, startx, farx, width, height);
         if x.fine {
             if stores {
-                return calm(direction, width, height, d, x, fard, farx, startd, startx, most);
+                return calm(
+                    direction,
+                    width,
+                    height,
+                    d,
+                    x,
+                    fard,
+                    farx,
+                    startd,
+                    startx,
+                    most,
+                );
             }
             return most;
         }

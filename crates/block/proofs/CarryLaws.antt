@@ -70,8 +70,7 @@ module _ (start width s i over here next : ℕ) (words before : List ℕ) (below
   unfolding RowFilled overIn wordBefore filledIn filledWordAt filledAt filled
   row-filled-turn so-far word row at-s small prefixes =
       let is : here ≡ filledIn start width s word i =
-      filled-here word row at-s (small (s + i)) (prefixes i below) (so-far word row at-s small prefixes .1) in
-      (
+      filled-here word row at-s (small (s + i)) (prefixes i below) (so-far word row at-s small prefixes .1) in (
         laid-turn s i here words before (filledIn start width s word) inside is (so-far word row at-s small prefixes .0),
         rw (add-one i)
             (spreads
@@ -99,8 +98,7 @@ pub rows-filled-turn : (start width n row s over next : ℕ) (words before after
 unfolding RowsFilled RowFilled Kept Each filledIn overIn overAt wordBefore
 rows-filled-turn start width n row s over next words before after some at-s room kept so-far filling word small prefixes =
     let this : Laid s width after words (filledIn start width s word) × (next ≡ overIn start width s word width) =
-    filling word row at-s small (λ i below. kept (s + i) (omega arith) ∙ prefixes (s + i) (omega arith)) in
-    (
+    filling word row at-s small (λ i below. kept (s + i) (omega arith) ∙ prefixes (s + i) (omega arith)) in (
       each-of-laid s width after words _ (filledIn start width s word) (filledIn-at word) (so-far word small prefixes .0) (this .0),
       this .1 ∙ over-goes word width some,
     )

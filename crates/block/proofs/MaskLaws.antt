@@ -55,16 +55,16 @@ module _ (masks : Masks) (width row s : ℕ) (words before after : List ℕ) (so
   unfolding Laid maskedAt at masked Kept maskedWhen
   mask-row-laid = (
     λ j below.
-    touched j
-    ∙ rw (ne-eqb j (s + width - 1) (λ same. absurd (omega arith)), ne-eqb j s (λ same. absurd (omega arith))),
+        touched j
+        ∙ rw (ne-eqb j (s + width - 1) (λ same. absurd (omega arith)), ne-eqb j s (λ same. absurd (omega arith))),
     λ i below.
-    touched (s + i)
-    ∙ rw (
-      word-of width row i (s + i) below (ap (λ (s : ℕ). s + i) at-s),
-      same-test (s + i) (s + width - 1) (i + 1) width (λ same. omega arith) (λ same. omega arith),
-      same-test (s + i) s i 0 (λ same. omega arith) (λ same. omega arith),
-      kept (s + i) (omega arith),
-    ),
+        touched (s + i)
+        ∙ rw (
+          word-of width row i (s + i) below (ap (λ (s : ℕ). s + i) at-s),
+          same-test (s + i) (s + width - 1) (i + 1) width (λ same. omega arith) (λ same. omega arith),
+          same-test (s + i) s i 0 (λ same. omega arith) (λ same. omega arith),
+          kept (s + i) (omega arith),
+        ),
   )
 
   pub mask-row-kept : Kept (s + width) after before

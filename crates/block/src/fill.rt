@@ -104,7 +104,14 @@ fn either(n: usize, q: &[u16; 80], o: &mut [u16; 80])
 }
 
 // Without fill the words stay as they are. The answer is the last word's carry.
-pub fn fill(kind: Fill, start: u16, width: usize, rows: usize, o: &mut [u16; 80], q: &mut [u16; 80]) -> u16
+pub fn fill(
+    kind: Fill,
+    start: u16,
+    width: usize,
+    rows: usize,
+    o: &mut [u16; 80],
+    q: &mut [u16; 80],
+) -> u16
     requires { ⌜ (1 ≤ width) × (1 ≤ rows * width) × (rows * width ≤ 64) × (length (now o) ≡ 80) × (length (now q) ≡ 80) ⌝ }
     ensures { λ carry. ⌜ (length (now (o .exit)) ≡ 80) × (length (now (q .exit)) ≡ 80)
         × Each (rows * width) (now (o .exit)) (filledWordAt kind start width (at (now (o .entry))))

@@ -159,8 +159,7 @@ module _ (n : ℕ) (setup : Setup) (width height most : ℕ) (flow : Flow) (far 
     seam-on : 1 ≤ rows * width → 2 ≤ most * width → 1 ≤ height - row - rows → Seam setup width rows here
     unfolding Seam
     seam-on some two more stores =
-        let left : row * width + rows * width < height * width = ends in
-        (
+        let left : row * width + rows * width < height * width = ends in (
           seam-here (setup .uses .a) (setup .modulos .d) (setup .modulos .a) _ _ _ _ at-d (ap (λ (at : Pointers). at .a) (running .pointers)) some two left (apart .a) stores,
           seam-here (setup .uses .b) (setup .modulos .d) (setup .modulos .b) _ _ _ _ at-d (ap (λ (at : Pointers). at .b) (running .pointers)) some two left (apart .b) stores,
           seam-here (setup .uses .c) (setup .modulos .d) (setup .modulos .c) _ _ _ _ at-d (ap (λ (at : Pointers). at .c) (running .pointers)) some two left (apart .c) stores,

@@ -104,7 +104,7 @@ fn sources(
     let uses = setup.uses;
     let direction = setup.direction;
     let masks = setup.masks;
-        let a = given_a(
+    let a = given_a(
         uses.a,
         direction,
         masks,
@@ -252,7 +252,16 @@ pub fn one_block(
     let from = flow.pointers;
     let sources = sources(ram, setup, far, width, rows, flow, xa, xb, xc);
     let end = crate::finals::finals(setup, width, rows, before, xa, xb, xc, ya, yb, o);
-    stored(ram, uses.d, direction, flow.pointers.d.word as usize, far.d, width, rows, o);
+    stored(
+        ram,
+        uses.d,
+        direction,
+        flow.pointers.d.word as usize,
+        far.d,
+        width,
+        rows,
+        o,
+    );
     let pointers = pointers(setup, far, rows, from);
     let earlier = end.earlier;
     let pending = Pending {

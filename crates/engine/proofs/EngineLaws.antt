@@ -1,9 +1,8 @@
 -- Laws of the choice between blocks and words.
 use mathlib.Core.Path.{_≡_, _∙_}
 use Prim.Native.Nat.{ℕ, zero, suc, _+_, _*_, _<_, _≤_}
-use native.Mathlib.Nat.{zero-mul}
+use native.Mathlib.Nat.{zero-mul, mul-le-mul}
 use native.Mathlib.Omega.{arith}
-use Rattle.area.specs.Flow.{State}
 
 -- some rows, where there are some words
 pub one-row : (rows width : ℕ) → 2 ≤ rows * width → 1 ≤ rows
@@ -13,3 +12,7 @@ one-row (suc rows) width some = omega arith
 -- what goes on to the same end
 pub goes-on : {End : Type 0} (here before whole : End) → here ≡ before → before ≡ whole → here ≡ whole
 goes-on here before whole on same = on ∙ same
+
+-- a few words: 1,024 rows of 64 at most
+pub words-le : (width height : ℕ) → width ≤ 64 → height ≤ 1024 → width * height ≤ 65536
+words-le width height narrow few = mul-le-mul narrow few

@@ -1,5 +1,6 @@
 // An area blit: by blocks of rows where no source meets what D stored, else word by word.
 ghost use mathlib.Core.Path.{_≡_};
+ghost use mathlib.Core.Bool.{true};
 ghost use Prim.Native.Nat.{_+_, _*_, _<_, _≤_};
 ghost use Rattle.word.specs.Pointer.{pointerEnd};
 ghost use Rattle.area.specs.Flow.{state, nothing};
@@ -36,6 +37,13 @@ fn word_by_word(ram: &mut [u16], setup: Setup, width: u32, height: u32, flow: Fl
     area::store::store_pending(ram, end)
 }
 
+// A few words cost less one by one; and blocks take memory that a pointer can't leave for no more than it is.
+fn worth_a_block(n: usize, words: u32) -> bool
+    ensures { λ worth. ⌜ (worth ≡ true → n ≤ pointerEnd) ⌝ }
+{
+    (n <= 262144) & (3 < words)
+}
+
 // So many rows at a time as the test before it allows. Two words at least: one alone would be stored before the next is
 // fetched.
 pub fn area_blit(ram: &mut [u16], setup: Setup, width: u32, height: u32, flow: Flow) -> Flow
@@ -47,7 +55,7 @@ pub fn area_blit(ram: &mut [u16], setup: Setup, width: u32, height: u32, flow: F
         state (now (ram .exit)) after
         ≡ areaBlit setup width height (state (now (ram .entry)) flow) ⌝ }
 {
-    if ram.len() <= 262144 {
+    if worth_a_block(ram.len(), width * height) {
         let wide = width as usize;
         let tall = height as usize;
         let far = apart::strides(setup, width);
@@ -55,6 +63,7 @@ pub fn area_blit(ram: &mut [u16], setup: Setup, width: u32, height: u32, flow: F
         if 2 <= most * wide {
             return blocks::run::blocks(ram, setup, far, wide, tall, most, flow);
         }
+        return word_by_word(ram, setup, width, height, flow);
     }
     word_by_word(ram, setup, width, height, flow)
 }

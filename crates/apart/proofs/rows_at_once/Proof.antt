@@ -28,8 +28,7 @@ returns-2 : tie.Need-returns-2
 returns-2 c =
     let a = c .before .before .before .before .source-rows .ensures in
     let b = c .before .before .source-rows2 .ensures in
-    let d = c .before .before .before .before .before .before .before .before .span .ensures in
-    (
+    let d = c .before .before .before .before .before .before .before .before .span .ensures in (
       rows-room _ _ (omega (arith, a .0, b .0, c .source-rows3 .ensures .0)),
       all-apart _ _ _ _ _ _ _ _ _ _ _ _ _ (c .before .before .before .before .before .before .before .before .before .before .before .pre) d (c .before .before .before .before .before .before .before .fits2 .ensures) (not-false _ (c .before .before .before .before .before .before .if1 .left)) (a .1) (b .1) (c .source-rows3 .ensures .1) (b .0) (c .source-rows3 .ensures .0),
     )

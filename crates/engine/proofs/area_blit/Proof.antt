@@ -1,7 +1,8 @@
 -- `engine::area_blit` meets its contract: by blocks or word by word, as the test says.
 use native.Mathlib.Omega.{arith}
+use Rattle.word.specs.Size.{width, height}
 use Rattle.area.specs.Rows.{rows}
-use Rattle.engine.proofs.EngineLaws.{one-row}
+use Rattle.engine.proofs.EngineLaws.{words-le, one-row}
 use borrow.Author.Needs.{needs}
 use Rattle.engine.proofs.area_blit.Statement.{statement}
 use Rattle.engine.proofs.area_blit.Tie as tie
@@ -9,19 +10,22 @@ use Rattle.engine.proofs.area_blit.Tie as tie
 rows-at-once-requires : tie.Need-rows-at-once-requires
 rows-at-once-requires c κs =
     record {
-      most = search needs;
-      some = c .before .before .before .pre .2;
-      narrow = c .before .before .before .pre .3;
-      rows = c .before .before .before .pre .4;
-      few = c .before .before .before .pre .5;
-      shift-a = c .before .before .before .pre .0;
-      shift-b = c .before .before .before .pre .1;
-      none = c .before .before .before .pre .10;
-      a = record { stride = c .strides .ensures .a; small = c .before .before .before .pre .6 };
-      b = record { stride = c .strides .ensures .b; small = c .before .before .before .pre .7 };
-      c = record { stride = c .strides .ensures .c; small = c .before .before .before .pre .8 };
-      d = record { stride = c .strides .ensures .d; small = c .before .before .before .pre .9 };
+      most = c .before .before .worth-a-block .ensures (c .before .if1 .taken);
+      some = c .before .before .before .before .pre .2;
+      narrow = c .before .before .before .before .pre .3;
+      rows = c .before .before .before .before .pre .4;
+      few = c .before .before .before .before .pre .5;
+      shift-a = c .before .before .before .before .pre .0;
+      shift-b = c .before .before .before .before .pre .1;
+      none = c .before .before .before .before .pre .10;
+      a = record { stride = c .strides .ensures .a; small = c .before .before .before .before .pre .6 };
+      b = record { stride = c .strides .ensures .b; small = c .before .before .before .before .pre .7 };
+      c = record { stride = c .strides .ensures .c; small = c .before .before .before .before .pre .8 };
+      d = record { stride = c .strides .ensures .d; small = c .before .before .before .before .pre .9 };
     }
+
+mul-worth-a-block : tie.Need-mul-worth-a-block
+mul-worth-a-block c = omega (arith, words-le (c .before .args .width) (c .before .args .height) (c .before .pre .3) (c .before .pre .5))
 
 mul-if2 : tie.Need-mul-if2
 mul-if2 c = omega (arith, c .rows-at-once .ensures .0)
@@ -30,16 +34,21 @@ blocks-requires : tie.Need-blocks-requires
 blocks-requires c κs =
     let told = c .before .before .rows-at-once .ensures in
     let some = one-row _ _ (c .before .if2 .taken) in
-    (told .1 some .0, told .1 some .1, some, told .0, c .before .if2 .taken, c .before .before .before .before .before .before .pre .5, c .before .before .before .before .before .before .pre .11)
+    (told .1 some .0, told .1 some .1, some, told .0, c .before .if2 .taken, c .before .before .before .before .before .before .before .pre .5, c .before .before .before .before .before .before .before .pre .11)
 
 pub area-blit-spec : {M : Type 1} → statement M
 area-blit-spec =
     tie.close
     (tie.spec
+    mul-worth-a-block
+    (λ c κs. search needs)
     (λ c κs. search needs)
     rows-at-once-requires
     mul-if2
     blocks-requires
+    (λ c. search needs)
+    (λ c. search needs)
+    (λ c κs. search needs)
     (λ c. search needs)
     (λ c. search needs)
     (λ c κs. search needs)

@@ -8,8 +8,7 @@ use Rattle.blit.proofs.done.finished.Tie as tie
 area-blit-requires : tie.Need-area-blit-requires
 area-blit-requires c κs =
     let same = c .before .before .before .before .before .before .before .before .pre in
-    let starts = c .before .before .before .start-from .ensures in
-    (
+    let starts = c .before .before .before .start-from .ensures in (
       plan-shifts-a _ _ _ same,
       plan-shifts-b _ _ _ same,
       plan-some-words _ _ _ same,

@@ -31,13 +31,13 @@ add-s c = omega (arith, s-room _ _ (c .before .before .before .loop .row) _ (c .
 
 loop-again : tie.Need-loop-again Inv-loop μ-loop
 loop-again c = (
-    search needs,
-    s-room _ _ (c .before .before .before .loop .row) _ (c .before .before .before .before .pre .1) (c .before .before .loop-test .taken) (c .before .before .before .loop .inv .2),
-    s-next _ _ _ (c .before .before .before .loop .inv .2),
-    search needs,
-    kept-over _ _ _ _ _ (c .carry-row .ensures .1) (c .before .before .before .loop .inv .4),
-    rows-filled-turn _ _ _ (c .before .before .before .loop .row) _ _ _ _ _ _ (search needs) (c .before .before .before .loop .inv .2) (s-most _ _ (c .before .before .before .loop .row) _ (c .before .before .loop-test .taken) (c .before .before .before .loop .inv .2)) (c .before .before .before .loop .inv .4) (c .before .before .before .loop .inv .5) (c .carry-row .ensures .2),
-  )
+  search needs,
+  s-room _ _ (c .before .before .before .loop .row) _ (c .before .before .before .before .pre .1) (c .before .before .loop-test .taken) (c .before .before .before .loop .inv .2),
+  s-next _ _ _ (c .before .before .before .loop .inv .2),
+  search needs,
+  kept-over _ _ _ _ _ (c .carry-row .ensures .1) (c .before .before .before .loop .inv .4),
+  rows-filled-turn _ _ _ (c .before .before .before .loop .row) _ _ _ _ _ _ (search needs) (c .before .before .before .loop .inv .2) (s-most _ _ (c .before .before .before .loop .row) _ (c .before .before .loop-test .taken) (c .before .before .before .loop .inv .2)) (c .before .before .before .loop .inv .4) (c .before .before .before .loop .inv .5) (c .carry-row .ensures .2),
+)
 
 returns : tie.Need-returns Inv-loop μ-loop
 returns c = (search needs, rows-filled-done _ _ _ _ _ _ _ (s-done _ _ _ _ (c .before .loop .inv .0) (omega arith) (c .before .loop .inv .2)) (c .before .loop .inv .5))

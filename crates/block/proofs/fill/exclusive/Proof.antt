@@ -9,8 +9,7 @@ use Rattle.block.proofs.fill.exclusive.Tie as tie
 returns : tie.Need-returns
 returns c =
     let some = c .before .before .before .before .before .before .pre .1 in
-    let small = c .before .before .before .before .first-word .ensures in
-    (
+    let small = c .before .before .before .before .first-word .ensures in (
       search needs,
       exclusive-words _ _ _ _ _ _ _ some small (each-fewer _ _ _ _ (omega arith) (c .before .before .prefixes .ensures .1)) (c .carry-rows .ensures .1),
       exclusive-carry _ _ _ _ _ _ _ some small (each-fewer _ _ _ _ (omega arith) (c .before .before .prefixes .ensures .1)) (c .carry-rows .ensures .1),

@@ -9,8 +9,7 @@ use Rattle.blocks.proofs.finals.finals.Tie as tie
 returns : tie.Need-returns
 returns c =
     let results = c .before .before .before .before .before .results .ensures .3 in
-    let some = c .before .before .before .before .before .before .before .before .before .pre .3 in
-    (
+    let some = c .before .before .before .before .before .before .before .before .before .pre .3 in (
       search needs,
       search needs,
       search needs,

@@ -37,8 +37,7 @@ counted-requires c κs = (c .before .before .before .before .before .before .bef
 returns : tie.Need-returns
 returns c =
     let given = c .before .before .before .before .before .before .before .before .before .before .before .before .before .before .before .before .before .before .sources .ensures in
-    let end = c .before .before .before .before .before .before .before .before .before .before .before .finals .ensures in
-    (
+    let end = c .before .before .before .before .before .before .before .before .before .before .before .finals .ensures in (
       given .0,
       given .1,
       given .2,

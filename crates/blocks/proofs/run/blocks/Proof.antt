@@ -9,8 +9,7 @@ all-rest-requires c κs = (c .before .before .before .before .before .before .be
 
 run-requires : tie.Need-run-requires
 run-requires c κs =
-    let rest = c .before .before .before .before .before .before .before .all-rest .ensures in
-    (
+    let rest = c .before .before .before .before .before .before .before .all-rest .ensures in (
       c .before .before .before .before .before .before .before .before .before .before .before .before .before .before .before .pre .0,
       c .before .before .before .before .before .before .before .before .before .before .before .before .before .before .before .pre .1,
       c .before .before .before .before .before .before .before .before .before .before .before .before .before .before .before .pre .2,

@@ -27,8 +27,7 @@ loop-holds c = (running-starts _ _ _ _ _ _ _ _ (c .before .pre .0) (c .before .p
 one-block-requires : tie.Need-one-block-requires Inv-loop μ-loop
 one-block-requires c κs =
     let running = c .before .before .before .before .before .before .before .before .before .loop .inv in
-    let few = c .before .before .before .before .before .before .before .fewer .ensures in
-    (
+    let few = c .before .before .before .before .before .before .before .fewer .ensures in (
       rw (running .0 .long) (placed-on _ _ _ _ (c .before .before .before .before .before .before .before .before .before .before .before .args .most) _ _ _ (c .before .before .before .before .before .before .before .before .before .before .before .pre .0) (c .before .before .before .before .before .before .before .before .before .before .before .pre .1) _ _ _ _ (running .0) (omega arith)),
       apart-on _ _ _ _ _ _ _ _ (c .before .before .before .before .before .before .before .before .before .before .before .pre .0) (c .before .before .before .before .before .before .before .before .before .before .before .pre .1) _ _ _ _ (running .0) (omega arith) (mul-le-mul-right _ (few .1)),
       omega (arith, mul-le-mul-right (c .before .before .before .before .before .before .before .before .before .before .before .args .width) (few .1), c .before .before .before .before .before .before .before .before .before .before .before .pre .3),
@@ -51,8 +50,7 @@ loop-again : tie.Need-loop-again Inv-loop μ-loop
 loop-again c =
     let running = c .before .before .before .before .before .before .before .before .before .before .before .before .loop .inv in
     let few = c .before .before .before .before .before .before .before .before .before .before .fewer .ensures in
-    let block = c .before .before .one-block .ensures in
-    (
+    let block = c .before .before .one-block .ensures in (
       running-on _ _ _ _ _ _ _ _ (c .before .before .before .before .before .before .before .before .before .before .before .before .before .before .pre .0) (c .before .before .before .before .before .before .before .before .before .before .before .before .before .before .pre .1) _ _ _ _ (running .0) (omega arith) _ _ (few .0) (one-word _ _ (few .0) (c .before .before .before .before .before .before .before .before .before .before .before .before .before .before .pre .0 .some))
           (omega (arith, mul-le-mul-right (c .before .before .before .before .before .before .before .before .before .before .before .before .before .before .args .width) (few .1), c .before .before .before .before .before .before .before .before .before .before .before .before .before .before .pre .3)) (mul-le-mul-right _ (few .1)) (c .before .before .before .before .before .before .before .before .before .before .before .before .before .before .pre .4) (block .7),
       block .0,

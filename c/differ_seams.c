@@ -1,6 +1,7 @@
-/* Cases at the seams of an engine that does rows by straight loops and goes back to the order word by word where it
- * must. Widths, gaps between a source and D, sets of channels, edges of memory and rows of a column are gone through
- * one by one; function, shifts, masks, data registers and what memory holds are drawn, by the case's number. */
+/* Cases at the seams of an engine that does rows by blocks of at most 64 words and goes back to the order word by word
+ * where it must. Widths, gaps between a source and D, sets of channels, edges of memory, rows of a column and rows that
+ * fill a block are gone through one by one; function, shifts, masks, data registers and what memory holds are drawn, by
+ * the case's number. */
 #include <inttypes.h>
 #include <stdio.h>
 #include <string.h>
@@ -244,6 +245,34 @@ static bool columns(const struct set *set, bool descending)
     return true;
 }
 
+/* One or two blocks filled exactly, a row fewer or a row more, D so many strides ahead of the source, or nearly. */
+static bool block_ends(const struct set *set, bool descending, uint32_t rows, uint32_t width, uint32_t strides)
+{
+    for (int32_t near = -1; near <= (set->source == D_CHANNEL ? -1 : 1); near++)
+        for (int modulos = NONE; modulos <= ALIKE; modulos++) {
+            make_beside(set, descending, rows, width, modulos, 0);
+            if (set->source != D_CHANNEL)
+                lay_beside(set->source, (int32_t)strides * ((int32_t)width + half_of(set->source)) + near);
+            if (!alike(lay(0)))
+                return false;
+        }
+    return true;
+}
+
+static bool blocks(const struct set *set, bool descending)
+{
+    for (uint32_t width = 1; width <= WIDEST; width++) {
+        uint32_t most = WIDEST / width;
+        const uint32_t rows[] = {most > 1 ? most - 1 : 1, most, most + 1, 2 * most, 2 * most + 1};
+        const uint32_t strides[] = {0, 1, 2, most};
+        for (size_t i = 0; i < 5; i++)
+            for (size_t j = 0; j < 4; j++)
+                if (!block_ends(set, descending, rows[i], width, strides[j]))
+                    return false;
+    }
+    return true;
+}
+
 /* All sources beside D at once: C at D, one before it or one behind it, B and A near. */
 static bool crowds(const struct set *set, bool descending)
 {
@@ -331,8 +360,8 @@ static bool edges(const struct set *set, bool descending)
 static bool all_of(const struct set *set, bool descending)
 {
     bool many = (set->uses & (USE_B | USE_C)) == (USE_B | USE_C);
-    return gaps(set, descending) && columns(set, descending) && rounds(set, descending) && edges(set, descending)
-        && (!many || crowds(set, descending)) && (!descending || fills(set));
+    return gaps(set, descending) && columns(set, descending) && blocks(set, descending) && rounds(set, descending)
+        && edges(set, descending) && (!many || crowds(set, descending)) && (!descending || fills(set));
 }
 
 uint64_t seams(void)

@@ -45,7 +45,7 @@ fn row(direction: Direction, ram: &[u16], start: usize, width: usize, s: usize, 
     }
 }
 
-fn rows(
+pub fn rows(
     direction: Direction,
     ram: &[u16],
     from: usize,
@@ -71,7 +71,7 @@ fn rows(
 }
 
 // Rows of one, two or three words: a width that the compiler knows makes a row one move.
-fn narrow_rows(
+pub fn narrow_rows(
     direction: Direction,
     ram: &[u16],
     from: usize,
@@ -94,25 +94,4 @@ fn narrow_rows(
         return;
     }
     crate::fetch::rows(direction, ram, from, far, 3, rows, x);
-}
-
-pub fn fetch(
-    direction: Direction,
-    ram: &[u16],
-    from: usize,
-    far: usize,
-    width: usize,
-    rows: usize,
-    x: &mut [u16; 80],
-)
-    requires { ⌜ EvenRows (length (now ram)) direction width far from rows × (rows * width ≤ 64) × (1 ≤ width)
-        × (from < pointerEnd) × (far < pointerEnd) × (length (now x) ≡ 80) ⌝ }
-    ensures { λ _. ⌜ (length (now (x .exit)) ≡ 80)
-        × Each (rows * width) (now (x .exit)) (fetchedAt direction width far from (now (ram .entry))) ⌝ }
-{
-    if width < 4 {
-        narrow_rows(direction, ram, from, far, width, rows, x);
-        return;
-    }
-    crate::fetch::rows(direction, ram, from, far, width, rows, x);
 }

@@ -48,7 +48,7 @@ fn row(direction: Direction, ram: &mut [u16], start: usize, width: usize, s: usi
     }
 }
 
-fn rows(
+pub fn rows(
     direction: Direction,
     ram: &mut [u16],
     from: usize,
@@ -75,7 +75,7 @@ fn rows(
 }
 
 // Rows of one, two or three words: a width that the compiler knows makes a row one move.
-fn narrow_rows(
+pub fn narrow_rows(
     direction: Direction,
     ram: &mut [u16],
     from: usize,
@@ -99,26 +99,4 @@ fn narrow_rows(
         return;
     }
     crate::store::rows(direction, ram, from, far, 3, rows, x);
-}
-
-pub fn store(
-    direction: Direction,
-    ram: &mut [u16],
-    from: usize,
-    far: usize,
-    width: usize,
-    rows: usize,
-    x: &[u16; 80],
-)
-    requires { ⌜ EvenRows (length (now ram)) direction width far from rows × (rows * width ≤ 64) × (1 ≤ width)
-        × (from < pointerEnd) × (far < pointerEnd) ⌝ }
-    ensures { λ _. ⌜
-        now (ram .exit)
-        ≡ laidAt (placeAt direction width far from) (at (now (x .entry))) (rows * width) (now (ram .entry)) ⌝ }
-{
-    if width < 4 {
-        narrow_rows(direction, ram, from, far, width, rows, x);
-        return;
-    }
-    crate::store::rows(direction, ram, from, far, width, rows, x);
 }

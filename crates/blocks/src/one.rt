@@ -47,7 +47,13 @@ fn given_a(
         × Rests used width (maskedAt masks width (levelAt source)) (now (x .exit)) ⌝ }
 {
     if used {
-        block::fetch::fetch(direction, ram, from, far, width, rows, x);
+        if width < 4 {
+            block::fetch::narrow_rows(direction, ram, from, far, width, rows, x);
+            let last = x[rows * width - 1];
+            block::mask::mask(masks, width, rows, x);
+            return last;
+        }
+        block::fetch::rows(direction, ram, from, far, width, rows, x);
         let last = x[rows * width - 1];
         block::mask::mask(masks, width, rows, x);
         return last;
@@ -76,7 +82,11 @@ fn given(
         × Rests used width (levelAt source) (now (x .exit)) ⌝ }
 {
     if used {
-        block::fetch::fetch(direction, ram, from, far, width, rows, x);
+        if width < 4 {
+            block::fetch::narrow_rows(direction, ram, from, far, width, rows, x);
+            return x[rows * width - 1];
+        }
+        block::fetch::rows(direction, ram, from, far, width, rows, x);
         return x[rows * width - 1];
     }
     source
@@ -160,7 +170,11 @@ fn stored(
         else now (ram .entry)) ⌝ }
 {
     if used {
-        block::store::store(direction, ram, from, far, width, rows, o);
+        if width < 4 {
+            block::store::narrow_rows(direction, ram, from, far, width, rows, o);
+            return;
+        }
+        block::store::rows(direction, ram, from, far, width, rows, o);
     }
 }
 

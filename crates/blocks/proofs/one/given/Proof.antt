@@ -1,23 +1,34 @@
 -- `blocks::one::given` meets its contract: fetched, or at rest.
-use Rattle.area.specs.Fetch.{fetch}
+use Rattle.area.specs.Rows.{rows}
 use Rattle.blocks.proofs.GivenLaws.{given-plain, given-last, rests-not, given-level, given-idle}
 use borrow.Author.Needs.{needs}
 use Rattle.blocks.proofs.one.given.Statement.{statement}
 use Rattle.blocks.proofs.one.given.Tie as tie
 
-fetch-requires : tie.Need-fetch-requires
-fetch-requires c κs = (c .before .before .before .pre .0 (c .before .if1 .taken), search needs, search needs, search needs, search needs, search needs)
+narrow-rows-requires : tie.Need-narrow-rows-requires
+narrow-rows-requires c κs = (c .before .before .before .before .pre .0 (c .before .before .if1 .taken), search needs, search needs, search needs, search needs, search needs, search needs)
+
+rows-requires : tie.Need-rows-requires
+rows-requires c κs = (c .before .before .before .before .pre .0 (c .before .before .if1 .taken), search needs, search needs, search needs, search needs, search needs)
 
 returns : tie.Need-returns
 returns c = (
   search needs,
-  given-plain _ _ _ _ _ _ _ _ _ (c .before .before .before .if1 .taken) (c .before .fetch .ensures .1),
-  given-last _ _ _ _ _ _ _ _ _ (c .before .before .before .if1 .taken) (c .before .before .before .before .before .pre .2) (c .before .fetch .ensures .1),
-  rests-not _ _ _ _ (c .before .before .before .if1 .taken),
+  given-plain _ _ _ _ _ _ _ _ _ (c .before .before .before .before .if1 .taken) (c .before .narrow-rows .ensures .1),
+  given-last _ _ _ _ _ _ _ _ _ (c .before .before .before .before .if1 .taken) (c .before .before .before .before .before .before .pre .2) (c .before .narrow-rows .ensures .1),
+  rests-not _ _ _ _ (c .before .before .before .before .if1 .taken),
 )
 
 returns-2 : tie.Need-returns-2
 returns-2 c = (
+  search needs,
+  given-plain _ _ _ _ _ _ _ _ _ (c .before .before .before .before .if1 .taken) (c .before .rows .ensures .1),
+  given-last _ _ _ _ _ _ _ _ _ (c .before .before .before .before .if1 .taken) (c .before .before .before .before .before .before .pre .2) (c .before .rows .ensures .1),
+  rests-not _ _ _ _ (c .before .before .before .before .if1 .taken),
+)
+
+returns-3 : tie.Need-returns-3
+returns-3 c = (
   search needs,
   given-level _ _ _ _ _ _ _ _ _ (c .if1 .left) (c .before .before .pre .1) (c .before .before .pre .7),
   given-idle _ _ _ _ _ _ _ _ (c .if1 .left),
@@ -28,10 +39,16 @@ pub given-spec : {M : Type 1} → statement M
 given-spec =
     tie.close
     (tie.spec
-    fetch-requires
+    narrow-rows-requires
     (λ c. search needs)
     (λ c. search needs)
     (λ c. search needs)
     (λ c. search needs)
     returns
-    returns-2)
+    rows-requires
+    (λ c. search needs)
+    (λ c. search needs)
+    (λ c. search needs)
+    (λ c. search needs)
+    returns-2
+    returns-3)

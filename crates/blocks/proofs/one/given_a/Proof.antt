@@ -1,23 +1,34 @@
 -- `blocks::one::given_a` meets its contract: fetched and masked, or at rest.
-use Rattle.area.specs.Fetch.{fetch}
+use Rattle.area.specs.Rows.{rows}
 use Rattle.blocks.proofs.GivenLaws.{given-masked, given-last, rests-not, given-rests, given-idle}
 use borrow.Author.Needs.{needs}
 use Rattle.blocks.proofs.one.given_a.Statement.{statement}
 use Rattle.blocks.proofs.one.given_a.Tie as tie
 
-fetch-requires : tie.Need-fetch-requires
-fetch-requires c κs = (c .before .before .before .pre .0 (c .before .if1 .taken), search needs, search needs, search needs, search needs, search needs)
+narrow-rows-requires : tie.Need-narrow-rows-requires
+narrow-rows-requires c κs = (c .before .before .before .before .pre .0 (c .before .before .if1 .taken), search needs, search needs, search needs, search needs, search needs, search needs)
+
+rows-requires : tie.Need-rows-requires
+rows-requires c κs = (c .before .before .before .before .pre .0 (c .before .before .if1 .taken), search needs, search needs, search needs, search needs, search needs)
 
 returns : tie.Need-returns
 returns c = (
   search needs,
-  given-masked _ _ _ _ _ _ _ _ _ _ _ (c .before .before .before .before .before .if1 .taken) (c .before .before .before .fetch .ensures .1) (c .mask .ensures .1),
-  given-last _ _ _ _ _ _ _ _ _ (c .before .before .before .before .before .if1 .taken) (c .before .before .before .before .before .before .before .pre .2) (c .before .before .before .fetch .ensures .1),
-  rests-not _ _ _ _ (c .before .before .before .before .before .if1 .taken),
+  given-masked _ _ _ _ _ _ _ _ _ _ _ (c .before .before .before .before .before .before .if1 .taken) (c .before .before .before .narrow-rows .ensures .1) (c .mask .ensures .1),
+  given-last _ _ _ _ _ _ _ _ _ (c .before .before .before .before .before .before .if1 .taken) (c .before .before .before .before .before .before .before .before .pre .2) (c .before .before .before .narrow-rows .ensures .1),
+  rests-not _ _ _ _ (c .before .before .before .before .before .before .if1 .taken),
 )
 
 returns-2 : tie.Need-returns-2
 returns-2 c = (
+  search needs,
+  given-masked _ _ _ _ _ _ _ _ _ _ _ (c .before .before .before .before .before .before .if1 .taken) (c .before .before .before .rows .ensures .1) (c .mask2 .ensures .1),
+  given-last _ _ _ _ _ _ _ _ _ (c .before .before .before .before .before .before .if1 .taken) (c .before .before .before .before .before .before .before .before .pre .2) (c .before .before .before .rows .ensures .1),
+  rests-not _ _ _ _ (c .before .before .before .before .before .before .if1 .taken),
+)
+
+returns-3 : tie.Need-returns-3
+returns-3 c = (
   search needs,
   given-rests _ _ _ _ _ _ _ _ _ _ (c .if1 .left) (c .before .before .pre .1) (c .before .before .pre .7),
   given-idle _ _ _ _ _ _ _ _ (c .if1 .left),
@@ -28,11 +39,18 @@ pub given-a-spec : {M : Type 1} → statement M
 given-a-spec =
     tie.close
     (tie.spec
-    fetch-requires
+    narrow-rows-requires
     (λ c. search needs)
     (λ c. search needs)
     (λ c. search needs)
     (λ c. search needs)
     (λ c κs. search needs)
     returns
-    returns-2)
+    rows-requires
+    (λ c. search needs)
+    (λ c. search needs)
+    (λ c. search needs)
+    (λ c. search needs)
+    (λ c κs. search needs)
+    returns-2
+    returns-3)

@@ -4,14 +4,29 @@ use borrow.Author.Needs.{needs}
 use Rattle.blocks.proofs.one.stored.Statement.{statement}
 use Rattle.blocks.proofs.one.stored.Tie as tie
 
-store-requires : tie.Need-store-requires
-store-requires c κs = (c .before .before .before .pre .0 (c .before .if1 .taken), search needs, search needs, search needs, search needs)
+narrow-rows-requires : tie.Need-narrow-rows-requires
+narrow-rows-requires c κs = (c .before .before .before .before .pre .0 (c .before .before .if1 .taken), search needs, search needs, search needs, search needs, search needs)
+
+rows-requires : tie.Need-rows-requires
+rows-requires c κs = (c .before .before .before .before .pre .0 (c .before .before .if1 .taken), search needs, search needs, search needs, search needs)
 
 returns : tie.Need-returns
 returns c = search (needs, if-when-true)
 
 returns-2 : tie.Need-returns-2
-returns-2 c = search (needs, if-when-false)
+returns-2 c = search (needs, if-when-true)
+
+returns-3 : tie.Need-returns-3
+returns-3 c = search (needs, if-when-false)
 
 pub stored-spec : {M : Type 1} → statement M
-stored-spec = tie.close (tie.spec store-requires (λ c. search needs) returns returns-2)
+stored-spec =
+    tie.close
+    (tie.spec
+    narrow-rows-requires
+    (λ c. search needs)
+    returns
+    rows-requires
+    (λ c. search needs)
+    returns-2
+    returns-3)

@@ -3,7 +3,6 @@ use Prim.Native.Nat.{_-_, _≤_, _+_}
 use lib.ListN.{length}
 use mathlib.Core.Path.{_≡_}
 use native.Mathlib.Omega.{arith}
-use Rattle.word.specs.Control.{descending}
 use Rattle.word.specs.declared.types.Direction.the-variants.{Descending}
 use Rattle.quiet.specs.Words.{shiftedAt}
 use Rattle.block.specs.Inner.Each.{Each, at}
@@ -20,10 +19,10 @@ abbrev μ-loop : tie.MeasureT-loop
 μ-loop by n earlier x y₀ i₀ y i = n - i
 
 loop-holds : tie.Need-loop-holds Inv-loop μ-loop
-loop-holds c = (search needs, search needs, shift-first _ _ _ _ (c .before .before .args .x .now) (c .before .before .args .y .now) (search needs) (c .descending .ensures))
+loop-holds c = (search needs, search needs, shift-first _ _ _ _ (c .before .before .args .x .now) (c .before .before .args .y .now) (search needs) (c .drawn-down .ensures))
 
 loop-again : tie.Need-loop-again Inv-loop μ-loop
-loop-again c = (search needs, search needs, shift-turn _ _ _ _ _ _ _ (search needs) (c .descending2 .ensures) (c .before .before .before .before .loop .inv .2))
+loop-again c = (search needs, search needs, shift-turn _ _ _ _ _ _ _ (search needs) (c .drawn-down2 .ensures) (c .before .before .before .before .loop .inv .2))
 
 returns : tie.Need-returns Inv-loop μ-loop
 returns c = (search needs, each-fewer _ _ _ _ (omega arith) (c .before .loop .inv .2))

@@ -1,10 +1,11 @@
 -- Laws of the sources that a function ignores: bit 4a + 2b + c of the function is the same for both values of one of them.
 use mathlib.Core.Path.{_≡_, refl, sym, ap, _∙_}
-use Prim.Native.Nat.{ℕ, _+_, _*_, _/_, _%_, _<_}
-use native.Mathlib.Nat.{div-one}
+use Prim.Native.Nat.{ℕ, _+_, _*_, _/_, _%_, _^_, _<_}
+use native.Mathlib.Nat.{div-one, div-div-eq-div-mul}
+use lib.Bits.{bitAnd}
 use Rattle.word.specs.Word.{bit}
 use Rattle.word.specs.Logic.{logic}
-use Rattle.word.proofs.WordLaws.{bit-lt, bit-of-ofBits, bits-are-enough, bit-cases}
+use Rattle.word.proofs.WordLaws.{bit-lt, bit-of-and, bit-of-ofBits, bits-are-enough, bit-cases}
 use Rattle.word.proofs.LogicLaws.{logic-lt}
 
 pub bit-of-logic : (f a b c i : ℕ) → i < 16 → bit (logic f a b c) i ≡ bit f (4 * bit a i + 2 * bit b i + bit c i)
@@ -62,3 +63,14 @@ module _ (f : ℕ) where
       (bit-cases (λ b. bit f (0 + 2 * b + 1) ≡ bit f (0 + 2 * b + 0)) (e0 ∙ bit-low f) e1 (bit b i) (bit-lt b i))
       (bit-cases (λ b. bit f (4 + 2 * b + 1) ≡ bit f (4 + 2 * b + 0)) e2 e3 (bit b i) (bit-lt b i)) (bit a i) (bit-lt a i))
       (bit c i) (bit other i) (bit-lt c i) (bit-lt other i))
+
+-- bits that a mask shows are alike where what it shows is
+pub alike : (f by mask i : ℕ) → bit mask i ≡ 1 → bitAnd (f / by) mask ≡ bitAnd f mask → f / (by * 2 ^ i) % 2 ≡ bit f i
+alike f by mask i shown same =
+    ap (λ (x : ℕ). x % 2) (sym (div-div-eq-div-mul f by (2 ^ i))) ∙ sym (seen (f / by)) ∙ ap (λ (x : ℕ). bit x i) same ∙ seen f
+  where
+    one : (x : ℕ) → x < 2 → bitAnd x 1 ≡ x
+    one = bit-cases (λ x. bitAnd x 1 ≡ x) refl refl
+
+    seen : (x : ℕ) → bit (bitAnd x mask) i ≡ bit x i
+    seen x = bit-of-and x mask i ∙ ap (bitAnd (bit x i)) shown ∙ one (bit x i) (bit-lt x i)

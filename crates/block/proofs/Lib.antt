@@ -3,6 +3,7 @@ pub mod EachLaws
 pub mod MaskLaws
 pub mod ShiftLaws
 pub mod IgnoresLaws
+pub mod TermsLaws
 pub mod MixLaws
 pub mod CarryLaws
 pub mod FillLaws

@@ -4,24 +4,50 @@ ghost use Prim.Native.Nat.{_≤_};
 ghost use lib.ListN.{length};
 ghost use Rattle.quiet.specs.Words.{mixedAt};
 ghost use Rattle.block.specs.Inner.Each.{at, Each, turnedAt};
+ghost use Rattle.block.specs.Inner.Terms.{terms, joined, joinedAt};
 ghost use Rattle.block.specs.Inner.Ignores.{Ignores};
 use crate::types::Needs;
+use crate::types::Terms;
 
-fn mix_three(
-    function: u16,
-    n: usize,
-    a: &[u16; 80],
-    b: &[u16; 80],
-    c: &[u16; 80],
-    o: &mut [u16; 80],
-)
+// Bit i of the function, spread over a word, is what the sources' setting i gives.
+fn terms(function: u16) -> Terms
+    ensures { λ by. ⌜ by ≡ terms function ⌝ }
+{
+    let m0 = function % 2 * 65535;
+    let m1 = function / 2 % 2 * 65535;
+    let m2 = function / 4 % 2 * 65535;
+    let m3 = function / 8 % 2 * 65535;
+    let m4 = function / 16 % 2 * 65535;
+    let m5 = function / 32 % 2 * 65535;
+    let m6 = function / 64 % 2 * 65535;
+    let m7 = function / 128 % 2 * 65535;
+    Terms {
+        none: m0,
+        c: m0 ^ m1,
+        b: m0 ^ m2,
+        bc: (m0 ^ m1) ^ (m2 ^ m3),
+        a: m0 ^ m4,
+        ac: (m0 ^ m1) ^ (m4 ^ m5),
+        ab: (m0 ^ m2) ^ (m4 ^ m6),
+        abc: ((m0 ^ m1) ^ (m2 ^ m3)) ^ ((m4 ^ m5) ^ (m6 ^ m7)),
+    }
+}
+
+fn joined(by: Terms, a: u16, b: u16, c: u16) -> u16
+    ensures { λ word. ⌜ word ≡ joined by a b c ⌝ }
+{
+    (by.none ^ (c & by.c) ^ (b & (by.b ^ (c & by.bc))))
+        ^ (a & (by.a ^ (c & by.ac) ^ (b & (by.ab ^ (c & by.abc)))))
+}
+
+fn mix_three(by: Terms, n: usize, a: &[u16; 80], b: &[u16; 80], c: &[u16; 80], o: &mut [u16; 80])
     requires { ⌜ (n ≤ 80) × (length (now o) ≡ 80) ⌝ }
     ensures { λ _. ⌜ (length (now (o .exit)) ≡ 80)
-        × Each n (now (o .exit)) (mixedAt function (at (now (a .entry))) (at (now (b .entry))) (at (now (c .entry)))) ⌝ }
+        × Each n (now (o .exit)) (joinedAt by (at (now (a .entry))) (at (now (b .entry))) (at (now (c .entry)))) ⌝ }
 {
     let mut i: usize = 0;
     while i < n {
-        o[i] = word::logic::logic(function, a[i], b[i], c[i]);
+        o[i] = joined(by, a[i], b[i], c[i]);
         i = i + 1;
     }
 }
@@ -53,25 +79,22 @@ pub fn mix(
     ensures { λ _. ⌜ (length (now (o .exit)) ≡ 80)
         × Each n (now (o .exit)) (mixedAt function (at (now (a .entry))) (at (now (b .entry))) (at (now (c .entry)))) ⌝ }
 {
-    let none = word::logic::logic(function, 0, 0, 0);
+    let by = terms(function);
     if need.a {
         if need.b | need.c {
-            mix_three(function, n, a, b, c, o);
+            mix_three(by, n, a, b, c, o);
             return;
         }
-        let one = word::logic::logic(function, 65535, 0, 0);
-        mix_one(none, none ^ one, n, a, o);
+        mix_one(by.none, by.a, n, a, o);
         return;
     }
     if need.b {
         if need.c {
-            mix_three(function, n, a, b, c, o);
+            mix_three(by, n, a, b, c, o);
             return;
         }
-        let one = word::logic::logic(function, 0, 65535, 0);
-        mix_one(none, none ^ one, n, b, o);
+        mix_one(by.none, by.b, n, b, o);
         return;
     }
-    let one = word::logic::logic(function, 0, 0, 65535);
-    mix_one(none, none ^ one, n, c, o);
+    mix_one(by.none, by.c, n, c, o);
 }

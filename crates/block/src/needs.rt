@@ -9,16 +9,7 @@ use crate::types::Needs;
 fn needs_a(function: u16) -> bool
     ensures { λ need. ⌜ (need ≡ false → (a other b c : ℕ) → logic function a b c ≡ logic function other b c) ⌝ }
 {
-    if function / 16 % 2 != function % 2 {
-        return true;
-    }
-    if function / 32 % 2 != function / 2 % 2 {
-        return true;
-    }
-    if function / 64 % 2 != function / 4 % 2 {
-        return true;
-    }
-    if function / 128 % 2 == function / 8 % 2 {
+    if (function / 16) & 0x0F == function & 0x0F {
         return false;
     }
     true
@@ -27,16 +18,7 @@ fn needs_a(function: u16) -> bool
 fn needs_b(function: u16) -> bool
     ensures { λ need. ⌜ (need ≡ false → (a b other c : ℕ) → logic function a b c ≡ logic function a other c) ⌝ }
 {
-    if function / 4 % 2 != function % 2 {
-        return true;
-    }
-    if function / 8 % 2 != function / 2 % 2 {
-        return true;
-    }
-    if function / 64 % 2 != function / 16 % 2 {
-        return true;
-    }
-    if function / 128 % 2 == function / 32 % 2 {
+    if (function / 4) & 0x33 == function & 0x33 {
         return false;
     }
     true
@@ -45,16 +27,7 @@ fn needs_b(function: u16) -> bool
 fn needs_c(function: u16) -> bool
     ensures { λ need. ⌜ (need ≡ false → (a b c other : ℕ) → logic function a b c ≡ logic function a b other) ⌝ }
 {
-    if function / 2 % 2 != function % 2 {
-        return true;
-    }
-    if function / 8 % 2 != function / 4 % 2 {
-        return true;
-    }
-    if function / 32 % 2 != function / 16 % 2 {
-        return true;
-    }
-    if function / 128 % 2 == function / 64 % 2 {
+    if (function / 2) & 0x55 == function & 0x55 {
         return false;
     }
     true

@@ -6,3 +6,16 @@ pub struct Needs {
     pub b: bool,
     pub c: bool,
 }
+
+// A logic function as a sum without carries: what stands where no source has a 1, and what each product of sources turns
+// over.
+pub struct Terms {
+    pub none: u16,
+    pub c: u16,
+    pub b: u16,
+    pub bc: u16,
+    pub a: u16,
+    pub ac: u16,
+    pub ab: u16,
+    pub abc: u16,
+}

@@ -1,0 +1,13 @@
+-- `block::mix::terms` meets its contract: its sums are the definition's.
+use mathlib.Core.Path.{refl}
+use Rattle.block.specs.Inner.Terms.{terms}
+use borrow.Author.Needs.{needs}
+use Rattle.block.proofs.mix.terms.Statement.{statement}
+use Rattle.block.proofs.mix.terms.Tie as tie
+
+returns : tie.Need-returns
+unfolding terms
+returns c = refl
+
+pub terms-spec : {M : Type 1} → statement M
+terms-spec = tie.close (tie.spec (λ c. search needs) (λ c. search needs) (λ c. search needs) (λ c. search needs) (λ c. search needs) (λ c. search needs) (λ c. search needs) (λ c. search needs) returns)

@@ -31,8 +31,9 @@ use Rattle.apart.specs.declared.types.Strides.{Strides}
 use Rattle.apart.specs.Inner.Placed.{Channel, Placed}
 use Rattle.apart.specs.Inner.Apart.{Apart, AllApart}
 use Rattle.apart.proofs.PlacedLaws.{channel-place, channel-rows}
-use Rattle.blocks.specs.declared.types.Ended.{Ended}
+use Rattle.blocks.specs.declared.types.Made.{Made}
 use Rattle.blocks.specs.Inner.Rests.{givenAt, Rests, AllRest, givenA, givenB, givenC, Given}
+use Rattle.blocks.specs.Inner.Repeats.{Finished}
 use Rattle.blocks.proofs.FinalsLaws.{shiftedAt-same, filledAt-same}
 
 -- what a source gives is what the blit fetches
@@ -58,15 +59,15 @@ apart-quiet setup width words flow apart = (
 )
 
 -- the last of some words
-before-last : (first : ℕ) (word : ℕ → ℕ) (n : ℕ) → 1 ≤ n → wordBefore first word n ≡ word (n - 1)
+pub before-last : (first : ℕ) (word : ℕ → ℕ) (n : ℕ) → 1 ≤ n → wordBefore first word n ≡ word (n - 1)
 unfolding wordBefore
 before-last first word zero none = absurd (omega arith)
 before-last first word (suc k) some = ap word (sym (sub-one (suc k)))
 
-same-sources : {a b c a′ b′ c′ : ℕ} → a ≡ a′ → b ≡ b′ → c ≡ c′ → _≡_ {A = Sources} (record { a = a; b = b; c = c }) (record { a = a′; b = b′; c = c′ })
+pub same-sources : {a b c a′ b′ c′ : ℕ} → a ≡ a′ → b ≡ b′ → c ≡ c′ → _≡_ {A = Sources} (record { a = a; b = b; c = c }) (record { a = a′; b = b′; c = c′ })
 same-sources first second third = rw (first, second, third)
 
-same-earlier : {a b a′ b′ : ℕ} → a ≡ a′ → b ≡ b′ → _≡_ {A = Earlier} (record { a = a; b = b }) (record { a = a′; b = b′ })
+pub same-earlier : {a b a′ b′ : ℕ} → a ≡ a′ → b ≡ b′ → _≡_ {A = Earlier} (record { a = a; b = b }) (record { a = a′; b = b′ })
 same-earlier first second = rw (first, second)
 
 module _ (n : ℕ) (setup : Setup) (width rows : ℕ) (far : Strides) (flow : Flow) (memory : List ℕ) (placed : Placed n setup width rows flow far) where
@@ -82,12 +83,8 @@ module _ (n : ℕ) (setup : Setup) (width rows : ℕ) (far : Strides) (flow : Fl
   unfolding wordC
   given-c = given-fetched n (setup .direction) width rows (setup .modulos .c) (setup .uses .c) (flow .pointers .c) (far .c) (placed .c) (placed .most) (placed .some) (placed .narrow) memory (flow .sources .c)
 
-  module _ (xa xb xc o after : List ℕ) (last : Sources) (end : Ended) (next : Flow) (some : 1 ≤ rows * width) (apart : AllApart setup width (rows * width) (rows * width) flow)
-      (given : Given setup width rows far flow memory xa xb xc last)
-      (earlier : end .earlier ≡ record { a = getD xa (rows * width - 1) 0; b = getD xb (rows * width - 1) 0 })
-      (words : (a : ℕ → ℕ) → Each (rows * width) xa (maskedAt (setup .masks) width a)
-      → Each (rows * width) o (finalWordAt setup width (flow .earlier) a (at xb) (at xc))
-      × (end .carry ≡ finalAt setup width (flow .earlier) a (at xb) (at xc) (rows * width - 1) .carry))
+  module _ (xa xb xc o after : List ℕ) (end : Made) (next : Flow) (some : 1 ≤ rows * width) (apart : AllApart setup width (rows * width) (rows * width) flow)
+      (finished : Finished setup width rows far flow memory xa xb xc o end)
       (stores : after ≡ (if setup .uses .d then laidAt (placeAt (setup .direction) width (far .d) (flow .pointers .d .word)) (at o) (rows * width) memory else memory))
       (is-next : next ≡ record {
         pointers =
@@ -97,25 +94,25 @@ module _ (n : ℕ) (setup : Setup) (width rows : ℕ) (far : Strides) (flow : Fl
               c = if setup .uses .c then record { word = rowAt (far .c) (flow .pointers .c .word) rows } else flow .pointers .c;
               d = if setup .uses .d then record { word = rowAt (far .d) (flow .pointers .d .word) rows } else flow .pointers .d;
             };
-        sources = last;
+        sources = end .sources;
         earlier = end .earlier;
         carry = end .carry;
-        allzero = flow .allzero && nought (rows * width) (at o);
+        allzero = end .allzero;
         stored = flow .stored + (if setup .uses .d then rows * width else 0);
         pending = nothing;
       }) where
     -- the sources by what they fetch
     masked-a : Each (rows * width) xa (maskedAt (setup .masks) width (wordA setup width memory flow))
     unfolding Each maskedAt
-    masked-a j below = given .a j below ∙ rw (given-a j below)
+    masked-a j below = finished .given .a j below ∙ rw (given-a j below)
 
     fetched-b : (j : ℕ) → j < rows * width → at xb j ≡ wordB setup width memory flow j
     unfolding at Each
-    fetched-b j below = given .b j below ∙ given-b j below
+    fetched-b j below = finished .given .b j below ∙ given-b j below
 
     fetched-c : (j : ℕ) → j < rows * width → at xc j ≡ wordC setup width memory flow j
     unfolding at Each
-    fetched-c j below = given .c j below ∙ given-c j below
+    fetched-c j below = finished .given .c j below ∙ given-c j below
 
     -- so the final words are the blit's
     finals-same : (k : ℕ) → k < rows * width
@@ -128,7 +125,7 @@ module _ (n : ℕ) (setup : Setup) (width rows : ℕ) (far : Strides) (flow : Fl
 
     final-here : (j : ℕ) → j < rows * width → at o j ≡ finalWord setup width memory flow j
     unfolding at Each finalWordAt finalWord
-    final-here j below = words (wordA setup width memory flow) masked-a .0 j below ∙ ap (λ (made : Filled). made .word) (finals-same j below)
+    final-here j below = finished .words (wordA setup width memory flow) masked-a .0 j below ∙ ap (λ (made : Filled). made .word) (finals-same j below)
 
     memory-after : after ≡ memoryAfter setup width memory flow (rows * width)
     memory-after = stores ∙ by (setup .uses .d) refl
@@ -151,21 +148,22 @@ module _ (n : ℕ) (setup : Setup) (width rows : ℕ) (far : Strides) (flow : Fl
     abbrev lastWord : ℕ
     lastWord = rows * width - 1
 
-    sources-after : last ≡ record { a = wordA setup width memory flow lastWord; b = wordB setup width memory flow lastWord; c = wordC setup width memory flow lastWord }
+    sources-after : end .sources ≡ record { a = wordA setup width memory flow lastWord; b = wordB setup width memory flow lastWord; c = wordC setup width memory flow lastWord }
     sources-after =
-        same-sources (given .last-a ∙ given-a lastWord (omega arith)) (given .last-b ∙ given-b lastWord (omega arith)) (given .last-c ∙ given-c lastWord (omega arith))
+        same-sources (finished .given .last-a ∙ given-a lastWord (omega arith)) (finished .given .last-b ∙ given-b lastWord (omega arith)) (finished .given .last-c ∙ given-c lastWord (omega arith))
 
     earlier-after : end .earlier ≡ record { a = maskedAt (setup .masks) width (wordA setup width memory flow) lastWord; b = wordB setup width memory flow lastWord }
     unfolding at Each
-    earlier-after = earlier ∙ same-earlier (masked-a lastWord (omega arith)) (fetched-b lastWord (omega arith))
+    earlier-after = finished .earlier ∙ same-earlier (masked-a lastWord (omega arith)) (fetched-b lastWord (omega arith))
 
     carry-after : end .carry ≡ finals setup width memory flow lastWord .carry
-    carry-after = words (wordA setup width memory flow) masked-a .1 ∙ ap (λ (made : Filled). made .carry) (finals-same lastWord (omega arith))
+    carry-after = finished .words (wordA setup width memory flow) masked-a .1 ∙ ap (λ (made : Filled). made .carry) (finals-same lastWord (omega arith))
 
     flow-after : next ≡ flowAfter setup width memory flow rows
     flow-after =
         is-next
         ∙ rw (
+          finished .zero,
           channel-rows n (setup .direction) width rows (setup .modulos .a) (setup .uses .a) (flow .pointers .a) (far .a) (placed .a) (placed .most) (placed .some) (placed .narrow) rows,
           channel-rows n (setup .direction) width rows (setup .modulos .b) (setup .uses .b) (flow .pointers .b) (far .b) (placed .b) (placed .most) (placed .some) (placed .narrow) rows,
           channel-rows n (setup .direction) width rows (setup .modulos .c) (setup .uses .c) (flow .pointers .c) (far .c) (placed .c) (placed .most) (placed .some) (placed .narrow) rows,

@@ -2,4 +2,5 @@
 pub mod FinalsLaws
 pub mod GivenLaws
 pub mod BlockLaws
+pub mod RepeatsLaws
 pub mod RunLaws

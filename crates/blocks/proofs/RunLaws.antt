@@ -20,7 +20,7 @@ use Rattle.area.specs.Rows.{areaBlit}
 use Rattle.area.proofs.RowsLaws.{areaBlit-keeps-length}
 use Rattle.area.proofs.EarlyLaws.{storePending-of-nothing}
 use Rattle.quiet.specs.Stream.{standing, standingAt, atA, atB, atC, atD}
-use Rattle.quiet.specs.Quiet.{Quiet, pointersIn}
+use Rattle.quiet.specs.Quiet.{Quiet, memoryAfter, pointersIn, flowAfter}
 use Rattle.quiet.proofs.StreamLaws.{row-of, word-of}
 use Rattle.quiet.proofs.QuietLaws.{quiet-blit}
 use Rattle.quiet.proofs.CutLaws.{repeated-sum, Seam, quiet-cut}
@@ -174,11 +174,16 @@ module _ (n : ℕ) (setup : Setup) (width height most : ℕ) (flow : Flow) (far 
             omega (arith, next, add-mul (row + rows) 1 width, add-mul row rows width, placed .some)
 
     -- a block more
+    pub leaves-quietly : (after : List ℕ) (next : Flow) → rows * width ≤ most * width → state after next ≡ areaBlit setup width rows (state ram here)
+        → state after next ≡ state (memoryAfter setup width ram here (rows * width)) (flowAfter setup width ram here rows)
+    leaves-quietly after next few does =
+        does ∙ quiet-blit setup width rows ram here (placed .some) (running .none) (apart-quiet setup width (rows * width) here (apart-on few))
+
     pub running-on : (after : List ℕ) (next : Flow) → 1 ≤ rows → 1 ≤ rows * width → rows * width ≤ 64 → rows * width ≤ most * width → 2 ≤ most * width
         → state after next ≡ areaBlit setup width rows (state ram here) → Running n setup width height flow (row + rows) next after memory
     unfolding areaBlit storePending
     running-on after next more some small few two does =
-        let is : state after next ≡ state _ _ = does ∙ quiet-blit setup width rows ram here (placed .some) (running .none) quiet in
+        let is : state after next ≡ state _ _ = leaves-quietly after next few does in
         record {
           within = fits;
           long = ap (λ (end : State). length (end .memory)) does ∙ areaBlit-keeps-length setup width rows (state ram here) ∙ running .long;

@@ -14,7 +14,8 @@ ghost use Rattle.block.specs.Inner.Place.{rowAt, placeAt, EvenRows};
 ghost use Rattle.apart.specs.Inner.Placed.{Placed};
 ghost use Rattle.apart.specs.Inner.Apart.{AllApart};
 ghost use Rattle.blocks.specs.Inner.Rests.{givenAt, Rests, AllRest, Given};
-use crate::types::Ended;
+ghost use Rattle.blocks.specs.Inner.Repeats.{Still, stillAt, Ready, Finished};
+use crate::types::Made;
 use apart::types::Strides;
 use area::types::Flow;
 use area::types::Masks;
@@ -235,6 +236,54 @@ fn counted(used: bool, stored: u32, words: usize) -> u32
     stored
 }
 
+// The block's final words in o. Where they stand there already nothing is made, and nothing else changes.
+fn made(
+    ram: &[u16],
+    setup: Setup,
+    far: Strides,
+    width: usize,
+    rows: usize,
+    ready: bool,
+    flow: Flow,
+    xa: &mut [u16; 80],
+    xb: &mut [u16; 80],
+    xc: &mut [u16; 80],
+    ya: &mut [u16; 80],
+    yb: &mut [u16; 80],
+    o: &mut [u16; 80],
+) -> Made
+    requires { ⌜ Placed (length (now ram)) setup width rows flow far × (rows * width ≤ 64) × (1 ≤ rows * width)
+        × (length (now xa) ≡ 80) × (length (now xb) ≡ 80) × (length (now xc) ≡ 80)
+        × (length (now ya) ≡ 80) × (length (now yb) ≡ 80) × (length (now o) ≡ 80)
+        × AllRest setup width (flow .sources) (now xa) (now xb) (now xc)
+        × (ready ≡ true → Ready setup width rows flow (now o)) ⌝ }
+    ensures { λ end. ⌜ (length (now (xa .exit)) ≡ 80) × (length (now (xb .exit)) ≡ 80) × (length (now (xc .exit)) ≡ 80)
+        × (length (now (ya .exit)) ≡ 80) × (length (now (yb .exit)) ≡ 80) × (length (now (o .exit)) ≡ 80)
+        × AllRest setup width (end .sources) (now (xa .exit)) (now (xb .exit)) (now (xc .exit))
+        × Finished setup width rows far flow (now (ram .entry)) (now (xa .exit)) (now (xb .exit)) (now (xc .exit)) (now (o .exit)) end ⌝ }
+{
+    if ready {
+        let sources = flow.sources;
+        let earlier = flow.earlier;
+        return Made {
+            sources,
+            earlier,
+            carry: flow.carry,
+            allzero: flow.allzero,
+        };
+    }
+    let before = flow.earlier;
+    let sources = sources(ram, setup, far, width, rows, flow, xa, xb, xc);
+    let end = crate::finals::finals(setup, width, rows, before, xa, xb, xc, ya, yb, o);
+    let earlier = end.earlier;
+    Made {
+        sources,
+        earlier,
+        carry: end.carry,
+        allzero: still_nought(flow.allzero, rows * width, o),
+    }
+}
+
 // One block of a blit: as a blit of so many rows.
 pub fn one_block(
     ram: &mut [u16],
@@ -242,6 +291,7 @@ pub fn one_block(
     far: Strides,
     width: usize,
     rows: usize,
+    ready: bool,
     flow: Flow,
     xa: &mut [u16; 80],
     xb: &mut [u16; 80],
@@ -254,18 +304,32 @@ pub fn one_block(
         × (rows * width ≤ 64) × (1 ≤ rows * width) × (rows ≤ 64) × (flow .stored + 64 < 4294967296)
         × (length (now xa) ≡ 80) × (length (now xb) ≡ 80) × (length (now xc) ≡ 80)
         × (length (now ya) ≡ 80) × (length (now yb) ≡ 80) × (length (now o) ≡ 80)
-        × AllRest setup width (flow .sources) (now xa) (now xb) (now xc) ⌝ }
+        × AllRest setup width (flow .sources) (now xa) (now xb) (now xc)
+        × (ready ≡ true → Ready setup width rows flow (now o)) ⌝ }
     ensures { λ next. ⌜ (length (now (xa .exit)) ≡ 80) × (length (now (xb .exit)) ≡ 80) × (length (now (xc .exit)) ≡ 80)
         × (length (now (ya .exit)) ≡ 80) × (length (now (yb .exit)) ≡ 80) × (length (now (o .exit)) ≡ 80)
         × AllRest setup width (next .sources) (now (xa .exit)) (now (xb .exit)) (now (xc .exit))
-        × (state (now (ram .exit)) next ≡ areaBlit setup width rows (state (now (ram .entry)) flow)) ⌝ }
+        × (state (now (ram .exit)) next ≡ areaBlit setup width rows (state (now (ram .entry)) flow))
+        × (Still setup → Each (rows * width) (now (o .exit)) (stillAt setup width (flow .earlier) (flow .sources))) ⌝ }
 {
     let direction = setup.direction;
     let uses = setup.uses;
-    let before = flow.earlier;
     let from = flow.pointers;
-    let sources = sources(ram, setup, far, width, rows, flow, xa, xb, xc);
-    let end = crate::finals::finals(setup, width, rows, before, xa, xb, xc, ya, yb, o);
+    let end = made(
+        ram,
+        setup,
+        far,
+        width,
+        rows,
+        ready,
+        flow,
+        xa,
+        xb,
+        xc,
+        ya,
+        yb,
+        o,
+    );
     stored(
         ram,
         uses.d,
@@ -277,6 +341,7 @@ pub fn one_block(
         o,
     );
     let pointers = pointers(setup, far, rows, from);
+    let sources = end.sources;
     let earlier = end.earlier;
     let pending = Pending {
         waits: false,
@@ -288,7 +353,7 @@ pub fn one_block(
         sources,
         earlier,
         carry: end.carry,
-        allzero: still_nought(flow.allzero, rows * width, o),
+        allzero: end.allzero,
         stored: counted(uses.d, flow.stored, rows * width),
         pending,
     }

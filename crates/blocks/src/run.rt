@@ -1,5 +1,6 @@
 // All the blocks of a blit.
 ghost use mathlib.Core.Path.{_≡_};
+ghost use mathlib.Core.Bool.{true};
 ghost use Prim.Native.Nat.{_+_, _-_, _*_, _<_, _≤_};
 ghost use lib.ListN.{length};
 ghost use Rattle.area.specs.Flow.{state};
@@ -9,21 +10,39 @@ ghost use Rattle.block.specs.Inner.Each.{levelAt};
 ghost use Rattle.apart.specs.Inner.Placed.{Placed};
 ghost use Rattle.apart.specs.Inner.Apart.{AllApart};
 ghost use Rattle.blocks.specs.Inner.Rests.{Rests, AllRest};
+ghost use Rattle.blocks.specs.Inner.Repeats.{Still};
 use apart::types::Strides;
 use area::types::Flow;
 use area::types::Masks;
 use area::types::Setup;
 use area::types::Sources;
+use word::types::Fill;
 use word::types::Uses;
 
 fn fewer(most: usize, remaining: usize) -> usize
     requires { ⌜ (1 ≤ most) × (1 ≤ remaining) ⌝ }
-    ensures { λ rows. ⌜ (1 ≤ rows) × (rows ≤ most) × (rows ≤ remaining) ⌝ }
+    ensures { λ rows. ⌜ (1 ≤ rows) × (rows ≤ most) × (rows ≤ remaining) × (rows < most → rows ≡ remaining) ⌝ }
 {
     if most < remaining {
         return most;
     }
     remaining
+}
+
+// From the third block on the words stand ready where no source is used.
+fn repeats(setup: Setup, most: usize, row: usize) -> bool
+    ensures { λ ready. ⌜ (ready ≡ true → Still setup × (most < row)) ⌝ }
+{
+    let uses = setup.uses;
+    let fill = setup.fill;
+    if uses.a | uses.b | uses.c {
+        return false;
+    }
+    match fill {
+        Fill::Off => most < row,
+        Fill::Inclusive => false,
+        Fill::Exclusive => false,
+    }
 }
 
 // Block by block: what is left is done as it would have been.
@@ -55,7 +74,22 @@ fn run(
     let mut row: usize = 0;
     while row < height {
         let rows = fewer(most, height - row);
-        here = crate::one::one_block(ram, setup, far, width, rows, here, xa, xb, xc, ya, yb, o);
+        let ready = repeats(setup, most, row);
+        here = crate::one::one_block(
+            ram,
+            setup,
+            far,
+            width,
+            rows,
+            ready,
+            here,
+            xa,
+            xb,
+            xc,
+            ya,
+            yb,
+            o,
+        );
         row = row + rows;
     }
     here

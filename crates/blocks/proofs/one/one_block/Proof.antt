@@ -1,65 +1,66 @@
 -- `blocks::one::one_block` meets its contract: its words are those of a quiet blit of its rows. The facts are named, for `search` reads too few.
 use mathlib.Core.Path.{refl}
 use native.Mathlib.Omega.{arith}
-use Rattle.word.specs.Choice.{given}
-use Rattle.area.specs.Flow.{sources, pointers}
-use Rattle.quiet.specs.Stream.{finals}
+use Rattle.area.specs.Flow.{pointers}
 use Rattle.apart.proofs.PlacedLaws.{stride-lt}
-use Rattle.blocks.proofs.BlockLaws.{rests-on, block-is}
+use Rattle.blocks.proofs.BlockLaws.{block-is}
+use Rattle.blocks.proofs.RepeatsLaws.{finished-still}
 use borrow.Author.Needs.{needs}
 use Rattle.blocks.proofs.one.one_block.Statement.{statement}
 use Rattle.blocks.proofs.one.one_block.Tie as tie
 
-sources-requires : tie.Need-sources-requires
-sources-requires c κs = (c .before .before .before .before .before .before .before .before .pre .0, c .before .before .before .before .before .before .before .before .pre .2, c .before .before .before .before .before .before .before .before .pre .3, c .before .before .before .before .before .before .before .before .pre .6, c .before .before .before .before .before .before .before .before .pre .7, c .before .before .before .before .before .before .before .before .pre .8, c .before .before .before .before .before .before .before .before .pre .12)
-
-finals-requires : tie.Need-finals-requires
-finals-requires c κs = (c .before .before .before .before .before .before .before .before .before .before .before .before .before .before .before .pre .0 .shift-a, c .before .before .before .before .before .before .before .before .before .before .before .before .before .before .before .pre .0 .shift-b, c .before .before .before .before .before .before .before .before .before .before .before .before .before .before .before .pre .0 .some, c .before .before .before .before .before .before .before .before .before .before .before .before .before .before .before .pre .3, c .before .before .before .before .before .before .before .before .before .before .before .before .before .before .before .pre .2, c .before .before .before .before .before .before .sources .ensures .0, c .before .before .before .before .before .before .sources .ensures .1, c .before .before .before .before .before .before .before .before .before .before .before .before .before .before .before .pre .9, c .before .before .before .before .before .before .before .before .before .before .before .before .before .before .before .pre .10, c .before .before .before .before .before .before .before .before .before .before .before .before .before .before .before .pre .11)
+made-requires : tie.Need-made-requires
+made-requires c κs = let pre = c .before .before .before .before .before .before .before .before .before .before .pre in (pre .0, pre .2, pre .3, pre .6, pre .7, pre .8, pre .9, pre .10, pre .11, pre .12, pre .13)
 
 stored-requires : tie.Need-stored-requires
-stored-requires c κs = (c .before .before .before .before .before .before .before .before .before .before .before .before .before .before .before .before .before .before .before .pre .0 .d .inside, c .before .before .before .before .before .before .before .before .before .before .before .before .before .before .before .before .before .before .before .pre .2, c .before .before .before .before .before .before .before .before .before .before .before .before .before .before .before .before .before .before .before .pre .0 .some, c .before .before .before .before .before .before .before .before .before .before .before .before .before .before .before .before .before .before .before .pre .0 .d .small, stride-lt _ _ _ _ _ _ _ _ (c .before .before .before .before .before .before .before .before .before .before .before .before .before .before .before .before .before .before .before .pre .0 .d) (c .before .before .before .before .before .before .before .before .before .before .before .before .before .before .before .before .before .before .before .pre .0 .most) (c .before .before .before .before .before .before .before .before .before .before .before .before .before .before .before .before .before .before .before .pre .0 .some) (c .before .before .before .before .before .before .before .before .before .before .before .before .before .before .before .before .before .before .before .pre .0 .narrow))
+stored-requires c κs =
+    let pre = c .before .before .before .before .before .before .before .before .before .before .before .before .before .before .pre in
+    let placed = pre .0 in (placed .d .inside, pre .2, placed .some, placed .d .small, stride-lt _ _ _ _ _ _ _ _ (placed .d) (placed .most) (placed .some) (placed .narrow))
 
 pointers-requires : tie.Need-pointers-requires
-pointers-requires c κs = (c .before .before .before .before .before .before .before .before .before .before .before .before .before .before .before .before .before .before .before .before .before .before .pre .0 .a .small, c .before .before .before .before .before .before .before .before .before .before .before .before .before .before .before .before .before .before .before .before .before .before .pre .0 .b .small, c .before .before .before .before .before .before .before .before .before .before .before .before .before .before .before .before .before .before .before .before .before .before .pre .0 .c .small, c .before .before .before .before .before .before .before .before .before .before .before .before .before .before .before .before .before .before .before .before .before .before .pre .0 .d .small, stride-lt _ _ _ _ _ _ _ _ (c .before .before .before .before .before .before .before .before .before .before .before .before .before .before .before .before .before .before .before .before .before .before .pre .0 .a) (c .before .before .before .before .before .before .before .before .before .before .before .before .before .before .before .before .before .before .before .before .before .before .pre .0 .most) (c .before .before .before .before .before .before .before .before .before .before .before .before .before .before .before .before .before .before .before .before .before .before .pre .0 .some) (c .before .before .before .before .before .before .before .before .before .before .before .before .before .before .before .before .before .before .before .before .before .before .pre .0 .narrow), stride-lt _ _ _ _ _ _ _ _ (c .before .before .before .before .before .before .before .before .before .before .before .before .before .before .before .before .before .before .before .before .before .before .pre .0 .b) (c .before .before .before .before .before .before .before .before .before .before .before .before .before .before .before .before .before .before .before .before .before .before .pre .0 .most) (c .before .before .before .before .before .before .before .before .before .before .before .before .before .before .before .before .before .before .before .before .before .before .pre .0 .some) (c .before .before .before .before .before .before .before .before .before .before .before .before .before .before .before .before .before .before .before .before .before .before .pre .0 .narrow), stride-lt _ _ _ _ _ _ _ _ (c .before .before .before .before .before .before .before .before .before .before .before .before .before .before .before .before .before .before .before .before .before .before .pre .0 .c) (c .before .before .before .before .before .before .before .before .before .before .before .before .before .before .before .before .before .before .before .before .before .before .pre .0 .most) (c .before .before .before .before .before .before .before .before .before .before .before .before .before .before .before .before .before .before .before .before .before .before .pre .0 .some) (c .before .before .before .before .before .before .before .before .before .before .before .before .before .before .before .before .before .before .before .before .before .before .pre .0 .narrow), stride-lt _ _ _ _ _ _ _ _ (c .before .before .before .before .before .before .before .before .before .before .before .before .before .before .before .before .before .before .before .before .before .before .pre .0 .d) (c .before .before .before .before .before .before .before .before .before .before .before .before .before .before .before .before .before .before .before .before .before .before .pre .0 .most) (c .before .before .before .before .before .before .before .before .before .before .before .before .before .before .before .before .before .before .before .before .before .before .pre .0 .some) (c .before .before .before .before .before .before .before .before .before .before .before .before .before .before .before .before .before .before .before .before .before .before .pre .0 .narrow), c .before .before .before .before .before .before .before .before .before .before .before .before .before .before .before .before .before .before .before .before .before .before .pre .4)
-
-mul-still-nought : tie.Need-mul-still-nought
-mul-still-nought c = omega (arith, c .before .before .before .before .before .before .before .before .before .before .before .before .before .before .before .before .before .before .before .before .before .before .before .before .pre .2)
-
-still-nought-requires : tie.Need-still-nought-requires
-still-nought-requires c κs = c .before .before .before .before .before .before .before .before .before .before .before .before .before .before .before .before .before .before .before .before .before .before .before .before .before .pre .2
+pointers-requires c κs =
+    let pre = c .before .before .before .before .before .before .before .before .before .before .before .before .before .before .before .before .before .pre in
+    let placed = pre .0 in (
+      placed .a .small,
+      placed .b .small,
+      placed .c .small,
+      placed .d .small,
+      stride-lt _ _ _ _ _ _ _ _ (placed .a) (placed .most) (placed .some) (placed .narrow),
+      stride-lt _ _ _ _ _ _ _ _ (placed .b) (placed .most) (placed .some) (placed .narrow),
+      stride-lt _ _ _ _ _ _ _ _ (placed .c) (placed .most) (placed .some) (placed .narrow),
+      stride-lt _ _ _ _ _ _ _ _ (placed .d) (placed .most) (placed .some) (placed .narrow),
+      pre .4,
+    )
 
 mul-counted : tie.Need-mul-counted
-mul-counted c = omega (arith, c .before .before .before .before .before .before .before .before .before .before .before .before .before .before .before .before .before .before .before .before .before .before .before .before .before .before .pre .2)
+mul-counted c = omega (arith, c .before .before .before .before .before .before .before .before .before .before .before .before .before .before .before .before .before .before .before .before .pre .2)
 
 counted-requires : tie.Need-counted-requires
-counted-requires c κs = (c .before .before .before .before .before .before .before .before .before .before .before .before .before .before .before .before .before .before .before .before .before .before .before .before .before .before .pre .2, c .before .before .before .before .before .before .before .before .before .before .before .before .before .before .before .before .before .before .before .before .before .before .before .before .before .before .pre .5)
+counted-requires c κs = let pre = c .before .before .before .before .before .before .before .before .before .before .before .before .before .before .before .before .before .before .before .before .pre in (pre .2, pre .5)
 
 returns : tie.Need-returns
 returns c =
-    let given = c .before .before .before .before .before .before .before .before .before .before .before .before .before .before .before .before .before .before .sources .ensures in
-    let end = c .before .before .before .before .before .before .before .before .before .before .before .finals .ensures in (
-      given .0,
-      given .1,
-      given .2,
+    let pre = c .before .before .before .before .before .before .before .before .before .before .before .before .before .before .before .before .before .before .before .before .before .pre in
+    let end = c .before .before .before .before .before .before .before .before .before .before .made .ensures in (
       end .0,
       end .1,
       end .2,
-      rests-on _ _ _ _ _ _ _ _ _ _ (given .3) (given .4),
-      block-is _ _ _ _ _ _ _ (c .before .before .before .before .before .before .before .before .before .before .before .before .before .before .before .before .before .before .before .before .before .before .before .before .before .before .before .pre .0) _ _ _ _ _ _ _ _ (c .before .before .before .before .before .before .before .before .before .before .before .before .before .before .before .before .before .before .before .before .before .before .before .before .before .before .before .pre .3) (c .before .before .before .before .before .before .before .before .before .before .before .before .before .before .before .before .before .before .before .before .before .before .before .before .before .before .before .pre .1) (given .3) (end .3) (end .4) (c .before .before .before .before .before .before .before .stored .ensures)
-          (rw (c .before .before .before .before .pointers .ensures, c .before .still-nought .ensures, c .counted .ensures) refl),
+      end .3,
+      end .4,
+      end .5,
+      end .6,
+      block-is _ _ _ _ _ _ _ (pre .0) _ _ _ _ _ _ _ (pre .3) (pre .1) (end .7) (c .before .before .before .before .before .before .stored .ensures) (rw (c .before .before .before .pointers .ensures, c .counted .ensures) refl),
+      finished-still _ _ _ _ _ _ _ _ _ _ _ (end .7),
     )
 
 pub one-block-spec : {M : Type 1} → statement M
 one-block-spec =
     tie.close
     (tie.spec
-    sources-requires
-    finals-requires
+    made-requires
     (λ c. search needs)
     stored-requires
     pointers-requires
-    mul-still-nought
-    still-nought-requires
     mul-counted
     counted-requires
     (λ c. search needs)

@@ -8,7 +8,9 @@ use Rattle.word.specs.Size.{width, height}
 use Rattle.area.specs.Flow.{sources}
 use Rattle.area.specs.Setup.{setup}
 use Rattle.blocks.specs.Inner.Rests.{AllRest}
-use Rattle.blocks.proofs.RunLaws.{Running, running-starts, placed-on, apart-on, one-word, few-rows, room-here, running-on, running-done}
+use Rattle.blocks.specs.Inner.Repeats.{Repeating}
+use Rattle.blocks.proofs.RepeatsLaws.{repeating-starts, repeating-on, ready-of}
+use Rattle.blocks.proofs.RunLaws.{Running, running-starts, placed-on, apart-on, one-word, few-rows, room-here, leaves-quietly, running-on, running-done}
 use borrow.Author.Needs.{needs}
 use Rattle.blocks.proofs.run.run.Statement.{statement}
 use Rattle.blocks.proofs.run.run.Tie as tie
@@ -16,24 +18,27 @@ use Rattle.blocks.proofs.run.run.Tie as tie
 abbrev Inv-loop : tie.InvT-loop
 Inv-loop ram₀ setup far width height most xa₀ xb₀ xc₀ ya₀ yb₀ o₀ here₀ row₀ ram xa xb xc ya yb o here row =
     Running (length ram₀) setup width height here₀ row here ram ram₀ × (length xa ≡ 80) × (length xb ≡ 80) × (length xc ≡ 80)
-    × (length ya ≡ 80) × (length yb ≡ 80) × (length o ≡ 80) × AllRest setup width (here .sources) xa xb xc
+    × (length ya ≡ 80) × (length yb ≡ 80) × (length o ≡ 80) × AllRest setup width (here .sources) xa xb xc × Repeating setup width most height row here o
 
 abbrev μ-loop : tie.MeasureT-loop
 μ-loop ram₀ setup far width height most xa₀ xb₀ xc₀ ya₀ yb₀ o₀ here₀ row₀ ram xa xb xc ya yb o here row = height - row
 
 loop-holds : tie.Need-loop-holds Inv-loop μ-loop
-loop-holds c = (running-starts _ _ _ _ _ _ _ _ (c .before .pre .0) (c .before .pre .1) refl (c .before .pre .6), c .before .pre .7, c .before .pre .8, c .before .pre .9, c .before .pre .10, c .before .pre .11, c .before .pre .12, c .before .pre .13)
+loop-holds c =
+    let pre = c .before .pre in (running-starts _ _ _ _ _ _ _ _ (pre .0) (pre .1) refl (pre .6), pre .7, pre .8, pre .9, pre .10, pre .11, pre .12, pre .13, repeating-starts _ _ _ _ _ _)
 
 one-block-requires : tie.Need-one-block-requires Inv-loop μ-loop
 one-block-requires c κs =
-    let running = c .before .before .before .before .before .before .before .before .before .loop .inv in
-    let few = c .before .before .before .before .before .before .before .fewer .ensures in (
-      rw (running .0 .long) (placed-on _ _ _ _ (c .before .before .before .before .before .before .before .before .before .before .before .args .most) _ _ _ (c .before .before .before .before .before .before .before .before .before .before .before .pre .0) (c .before .before .before .before .before .before .before .before .before .before .before .pre .1) _ _ _ _ (running .0) (omega arith)),
-      apart-on _ _ _ _ _ _ _ _ (c .before .before .before .before .before .before .before .before .before .before .before .pre .0) (c .before .before .before .before .before .before .before .before .before .before .before .pre .1) _ _ _ _ (running .0) (omega arith) (mul-le-mul-right _ (few .1)),
-      omega (arith, mul-le-mul-right (c .before .before .before .before .before .before .before .before .before .before .before .args .width) (few .1), c .before .before .before .before .before .before .before .before .before .before .before .pre .3),
-      one-word _ _ (few .0) (c .before .before .before .before .before .before .before .before .before .before .before .pre .0 .some),
-      few-rows _ _ _ (c .before .before .before .before .before .before .before .before .before .before .before .pre .0 .some) (c .before .before .before .before .before .before .before .before .before .before .before .pre .3) (few .1),
-      room-here _ _ _ (running .0 .room) (c .before .before .before .before .before .before .before .before .loop-test .taken),
+    let pre = c .before .before .before .before .before .before .before .before .before .before .before .before .pre in
+    let running = c .before .before .before .before .before .before .before .before .before .before .loop .inv in
+    let few = c .before .before .before .before .before .before .before .before .fewer .ensures in
+    let all = mul-le-mul-right (c .before .before .before .before .before .before .before .before .before .before .before .before .args .width) (few .1) in (
+      rw (running .0 .long) (placed-on _ _ _ _ (c .before .before .before .before .before .before .before .before .before .before .before .before .args .most) _ _ _ (pre .0) (pre .1) _ _ _ _ (running .0) (omega arith)),
+      apart-on _ _ _ _ _ _ _ _ (pre .0) (pre .1) _ _ _ _ (running .0) (omega arith) all,
+      omega (arith, all, pre .3),
+      one-word _ _ (few .0) (pre .0 .some),
+      few-rows _ _ _ (pre .0 .some) (pre .3) (few .1),
+      room-here _ _ _ (running .0 .room) (c .before .before .before .before .before .before .before .before .before .loop-test .taken),
       running .1,
       running .2,
       running .3,
@@ -41,18 +46,20 @@ one-block-requires c κs =
       running .5,
       running .6,
       running .7,
+      λ told. ready-of _ _ _ _ _ _ _ _ (few .1) (c .before .before .before .before .before .before .before .before .before .loop-test .taken) (running .8) (c .before .before .before .before .before .before .before .repeats .ensures told),
     )
 
 add-row : tie.Need-add-row Inv-loop μ-loop
-add-row c = omega (arith, c .before .before .before .before .before .before .before .before .before .before .fewer .ensures .2, c .before .before .before .before .before .before .before .before .before .before .before .before .loop .inv .0 .within, c .before .before .before .before .before .before .before .before .before .before .before .before .before .before .pre .5)
+add-row c = omega (arith, c .before .before .before .before .before .before .before .before .before .before .before .fewer .ensures .2, c .before .before .before .before .before .before .before .before .before .before .before .before .before .loop .inv .0 .within, c .before .before .before .before .before .before .before .before .before .before .before .before .before .before .before .pre .5)
 
 loop-again : tie.Need-loop-again Inv-loop μ-loop
 loop-again c =
-    let running = c .before .before .before .before .before .before .before .before .before .before .before .before .loop .inv in
-    let few = c .before .before .before .before .before .before .before .before .before .before .fewer .ensures in
+    let pre = c .before .before .before .before .before .before .before .before .before .before .before .before .before .before .before .pre in
+    let running = c .before .before .before .before .before .before .before .before .before .before .before .before .before .loop .inv in
+    let few = c .before .before .before .before .before .before .before .before .before .before .before .fewer .ensures in
+    let all = mul-le-mul-right (c .before .before .before .before .before .before .before .before .before .before .before .before .before .before .before .args .width) (few .1) in
     let block = c .before .before .one-block .ensures in (
-      running-on _ _ _ _ _ _ _ _ (c .before .before .before .before .before .before .before .before .before .before .before .before .before .before .pre .0) (c .before .before .before .before .before .before .before .before .before .before .before .before .before .before .pre .1) _ _ _ _ (running .0) (omega arith) _ _ (few .0) (one-word _ _ (few .0) (c .before .before .before .before .before .before .before .before .before .before .before .before .before .before .pre .0 .some))
-          (omega (arith, mul-le-mul-right (c .before .before .before .before .before .before .before .before .before .before .before .before .before .before .args .width) (few .1), c .before .before .before .before .before .before .before .before .before .before .before .before .before .before .pre .3)) (mul-le-mul-right _ (few .1)) (c .before .before .before .before .before .before .before .before .before .before .before .before .before .before .pre .4) (block .7),
+      running-on _ _ _ _ _ _ _ _ (pre .0) (pre .1) _ _ _ _ (running .0) (omega arith) _ _ (few .0) (one-word _ _ (few .0) (pre .0 .some)) (omega (arith, all, pre .3)) all (pre .4) (block .7),
       block .0,
       block .1,
       block .2,
@@ -60,6 +67,8 @@ loop-again c =
       block .4,
       block .5,
       block .6,
+      repeating-on _ _ _ _ _ _ _ _ _ _ _ _ (pre .0 .some) (few .0) (few .1) (few .3) (c .before .before .before .before .before .before .before .before .before .before .before .before .loop-test .taken)
+          (leaves-quietly _ _ _ _ _ _ _ _ (pre .0) (pre .1) _ _ _ _ (running .0) (omega arith) _ _ all (block .7)) (block .8) (running .8),
     )
 
 returns : tie.Need-returns Inv-loop μ-loop
@@ -73,6 +82,7 @@ run-spec =
     μ-loop
     loop-holds
     (λ c. search needs)
+    (λ c κs. search needs)
     (λ c κs. search needs)
     one-block-requires
     add-row

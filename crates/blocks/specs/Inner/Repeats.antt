@@ -1,0 +1,56 @@
+-- A blit that uses no source and doesn't fill: a block's words hang on the words before it alone, and those are the same
+-- from the second block on. So are the words, which stand ready for every block after that.
+use Prim.Native.Nat.{ℕ, _-_, _*_, _<_, _≤_}
+use mathlib.Core.Path.{_≡_}
+use mathlib.Core.Bool.{true, false, _&&_}
+use mathlib.Core.List.{List}
+use lib.ListN.{getD}
+use Rattle.word.specs.declared.types.Fill.the-variants.{Off}
+use Rattle.area.specs.declared.types.Earlier.{Earlier}
+use Rattle.area.specs.declared.types.Sources.{Sources}
+use Rattle.area.specs.declared.types.Setup.{Setup}
+use Rattle.area.specs.declared.types.Flow.{Flow}
+use Rattle.quiet.specs.Words.{maskedAt, finalAt}
+use Rattle.apart.specs.declared.types.Strides.{Strides}
+use Rattle.blocks.specs.declared.types.Made.{Made}
+use Rattle.blocks.specs.Inner.Rests.{Given}
+use Rattle.block.specs.Inner.Each.{at, Each, levelAt, finalWordAt, nought}
+
+pub record Still (setup : Setup) : Type 0 where
+  pub a : setup .uses .a ≡ false
+  pub b : setup .uses .b ≡ false
+  pub c : setup .uses .c ≡ false
+  pub off : setup .fill ≡ Off
+
+-- its words, and the last of a row, which the next block has before it
+unfoldable pub stillAt : Setup → (width : ℕ) → Earlier → Sources → (k : ℕ) → ℕ
+stillAt setup width earlier sources =
+    finalWordAt setup width earlier (levelAt (sources .a)) (levelAt (sources .b)) (levelAt (sources .c))
+
+abbrev pub lastOf : Setup → (width : ℕ) → Sources → Earlier
+lastOf setup width sources =
+    record { a = maskedAt (setup .masks) width (levelAt (sources .a)) (width - 1); b = sources .b }
+
+-- the words of so many rows stand in an array, and such a block leaves all but D as it is
+pub record Ready (setup : Setup) (width rows : ℕ) (flow : Flow) (o : List ℕ) : Type 0 where
+  pub still : Still setup
+  pub words : Each (rows * width) o (stillAt setup width (flow .earlier) (flow .sources))
+  pub earlier : flow .earlier ≡ lastOf setup width (flow .sources)
+  pub carry : flow .carry ≡ setup .carry
+  pub zero : flow .allzero ≡ true → nought (rows * width) (at o) ≡ true
+
+-- the words of a block in an array, by the words of its sources, with what it hands on
+pub record Finished (setup : Setup) (width rows : ℕ) (far : Strides) (flow : Flow) (memory xa xb xc o : List ℕ) (end : Made) : Type 0 where
+  pub given : Given setup width rows far flow memory xa xb xc (end .sources)
+  pub earlier : end .earlier ≡ record { a = getD xa (rows * width - 1) 0; b = getD xb (rows * width - 1) 0 }
+  pub words : (a : ℕ → ℕ) → Each (rows * width) xa (maskedAt (setup .masks) width a)
+      → Each (rows * width) o (finalWordAt setup width (flow .earlier) a (at xb) (at xc))
+      × (end .carry ≡ finalAt setup width (flow .earlier) a (at xb) (at xc) (rows * width - 1) .carry)
+  pub zero : end .allzero ≡ (flow .allzero && nought (rows * width) (at o))
+
+-- what holds before each block: after one, what was handed on; after two that were full, the words too
+pub record Repeating (setup : Setup) (width most height row : ℕ) (flow : Flow) (o : List ℕ) : Type 0 where
+  pub one : Still setup → 1 ≤ row → (flow .earlier ≡ lastOf setup width (flow .sources)) × (flow .carry ≡ setup .carry)
+  pub two : Still setup → most < row → row < height
+      → Each (most * width) o (stillAt setup width (flow .earlier) (flow .sources))
+      × (flow .allzero ≡ true → nought (most * width) (at o) ≡ true)

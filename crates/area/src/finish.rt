@@ -7,7 +7,7 @@ use crate::types::Finished;
 use crate::types::Flow;
 use crate::types::Setup;
 
-fn masked_a(setup: Setup, first: bool, last: bool, flow: Flow) -> u16
+pub fn masked_a(setup: Setup, first: bool, last: bool, flow: Flow) -> u16
     ensures { λ word. ⌜ word ≡ maskedA setup first last flow ⌝ }
 {
     word::mask::masked(
@@ -19,7 +19,7 @@ fn masked_a(setup: Setup, first: bool, last: bool, flow: Flow) -> u16
     )
 }
 
-fn result(setup: Setup, masked: u16, flow: Flow) -> u16
+pub fn result(setup: Setup, masked: u16, flow: Flow) -> u16
     requires { ⌜ (setup .shifts .a < 16) × (setup .shifts .b < 16) ⌝ }
     ensures { λ word. ⌜ word ≡ result setup masked flow ⌝ }
 {

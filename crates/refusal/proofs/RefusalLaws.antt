@@ -21,6 +21,8 @@ use Rattle.refusal.specs.declared.types.Refusal.the-variants.{MemorySize
 use Rattle.refusal.specs.Touch.{touches, leaves, channelLeaves}
 use Rattle.refusal.specs.Refusal.{bothFills, fillUpward, plan, goesOut, leaving, stepRefusal, refusal, refusalNumber, handed}
 use Rattle.word.specs.Memory.{memorySize}
+use Rattle.word.specs.declared.types.Pointer.{Pointer}
+use Rattle.refusal.proofs.TouchLaws.{channelLeaves-at-end}
 
 pub pointerAt-lt : (file : List ℕ) (place : ℕ) → pointerAt file place .word < pointerEnd
 unfolding pointerAt pointer
@@ -83,6 +85,19 @@ module _ (n : ℕ) (by : Plan) (a : Bool)
         pub leaving-by-none : d ≡ false → 0 ≡ leaving n by
         unfolding leaving given
         leaving-by-none stays = rw (← of-a, ← of-b, ← of-c, ← of-d, a-stays, b-stays, c-stays, stays)
+
+-- memory as long as a pointer reaches is left by none
+pub leaving-at-end : (n : ℕ) (by : Plan) → pointerEnd ≤ n → by .pointers .a .word < pointerEnd → by .pointers .b .word < pointerEnd
+    → by .pointers .c .word < pointerEnd → by .pointers .d .word < pointerEnd → 0 ≡ leaving n by
+leaving-at-end n by long a b c d =
+    leaving-by-none n by false (stays (by .setup .uses .a) (by .setup .modulos .a) (by .pointers .a) a) refl
+    false (stays (by .setup .uses .b) (by .setup .modulos .b) (by .pointers .b) b) refl
+    false (stays (by .setup .uses .c) (by .setup .modulos .c) (by .pointers .c) c) refl
+    false (stays (by .setup .uses .d) (by .setup .modulos .d) (by .pointers .d) d) refl
+  where
+    stays : (used : Bool) (modulo : ℕ) (pointer : Pointer) → pointer .word < pointerEnd
+        → false ≡ channelLeaves n (by .setup .direction) used (by .width) modulo (by .height) pointer
+    stays used modulo pointer small = channelLeaves-at-end n (by .setup .direction) used (by .width) modulo (by .height) pointer long small
 
 -- the rules of a blit, one after the other
 module _ (n size : ℕ) (file : List ℕ) (control : ℕ) (reads : control ≡ con1 file) (lines : Bool) (of-lines : lines ≡ line control) where

@@ -11,6 +11,7 @@ ghost use Rattle.refusal.specs.Refusal.{refusalNumber, verdictNumber, ha
 use crate::types::Plan;
 use crate::types::Refusal;
 use crate::types::Verdict;
+use word::pointer::POINTER_END;
 
 fn both_fills(con1: u16) -> bool
     ensures { λ both. ⌜ both ≡ bothFills con1 ⌝ }
@@ -41,13 +42,17 @@ fn plan(file: &[u16], size: u16) -> Plan
     }
 }
 
-// The channels in the order A, B, C, D: the first that leaves memory is told.
+// The channels in the order A, B, C, D: the first that leaves memory is told. No pointer leaves memory as long as it
+// reaches.
 fn leaving(n: usize, by: Plan) -> Verdict
     requires { ⌜ (by .pointers .a .word < pointerEnd) × (by .pointers .b .word < pointerEnd)
         × (by .pointers .c .word < pointerEnd) × (by .pointers .d .word < pointerEnd)
         × (1 ≤ by .width) × (by .width ≤ 64) ⌝ }
     ensures { λ verdict. ⌜ (verdictNumber verdict ≡ leaving n by) × (handed verdict by ≡ by) ⌝ }
 {
+    if (POINTER_END as usize) <= n {
+        return Verdict::Lawful(by);
+    }
     let setup = by.setup;
     let pointers = by.pointers;
     let uses = setup.uses;

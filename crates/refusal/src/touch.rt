@@ -3,7 +3,6 @@ ghost use mathlib.Core.Path.{_≡_};
 ghost use Prim.Native.Nat.{_<_, _≤_};
 ghost use Rattle.word.specs.Pointer.{pointerEnd};
 ghost use Rattle.refusal.specs.Touch.{rowTouches, touches, leaves, channelLeaves};
-use word::pointer::POINTER_END;
 use word::types::Direction;
 use word::types::Pointer;
 
@@ -46,7 +45,7 @@ fn rows_leave(
     false
 }
 
-// Memory that a pointer can't leave is found inside at once, and so are rows whose first and last one lie inside.
+// Rows whose first and last one lie inside are found inside at once.
 pub fn channel_leaves(
     n: usize,
     direction: Direction,
@@ -56,17 +55,14 @@ pub fn channel_leaves(
     rows: u32,
     pointer: Pointer,
 ) -> bool
-    requires { ⌜ (pointer .word < pointerEnd) × (1 ≤ width) × (width ≤ 64) ⌝ }
+    requires { ⌜ (n < pointerEnd) × (pointer .word < pointerEnd) × (1 ≤ width) × (width ≤ 64) ⌝ }
     ensures { λ outside. ⌜ outside ≡ channelLeaves n direction used width modulo rows pointer ⌝ }
 {
     if used {
-        if n < (POINTER_END as usize) {
-            if word::even::evenly_inside(n, direction, width, modulo, rows, pointer) {
-                return false;
-            }
-            return rows_leave(n as u32, direction, width, modulo, rows, pointer);
+        if word::even::evenly_inside(n, direction, width, modulo, rows, pointer) {
+            return false;
         }
-        return false;
+        return rows_leave(n as u32, direction, width, modulo, rows, pointer);
     }
     false
 }

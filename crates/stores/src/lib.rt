@@ -8,8 +8,11 @@ ghost use Rattle.word.specs.Laid.{laid};
 ghost use Rattle.word.specs.Repeat.{repeated};
 ghost use Rattle.word.specs.Pointer.{pointerEnd, nextRow};
 ghost use Rattle.area.specs.Flow.{state};
+ghost use Rattle.area.specs.Finish.{finish};
 ghost use Rattle.area.specs.Rows.{finishedWord, oneWord, words, rowStart, oneRow, rows};
 ghost use Rattle.stores.specs.Stores as specs;
+use area::types::Earlier;
+use area::types::Finished;
 use area::types::Flow;
 use area::types::Setup;
 use word::types::Direction;
@@ -25,8 +28,36 @@ fn put_place(places: &mut [u32], at: u32, place: u32)
     }
 }
 
-// The flow after a word, on a memory of no words. The word's own call place is in `by_word`; a second one would cost it
-// its speed there.
+// A word finished, of the same parts as a blit's. `area::finish::finish` has its one place of call in `by_word`: a second
+// one would cost it its speed there.
+fn finished(setup: Setup, first: bool, last: bool, flow: Flow) -> Finished
+    requires { ⌜ (setup .shifts .a < 16) × (setup .shifts .b < 16) ⌝ }
+    ensures { λ made. ⌜ made ≡ finish setup first last flow ⌝ }
+{
+    let fill = setup.fill;
+    let pointers = flow.pointers;
+    let sources = flow.sources;
+    let pending = flow.pending;
+    let a = area::finish::masked_a(setup, first, last, flow);
+    let filled = word::fill::filled(fill, flow.carry, area::finish::result(setup, a, flow));
+    let b = flow.sources.b;
+    let earlier = Earlier { a, b };
+    let after = Flow {
+        pointers,
+        sources,
+        earlier,
+        carry: filled.carry,
+        allzero: flow.allzero & (filled.word == 0),
+        stored: flow.stored,
+        pending,
+    };
+    Finished {
+        word: filled.word,
+        flow: after,
+    }
+}
+
+// The flow after a word, on a memory of no words.
 fn next_word(setup: Setup, width: u32, remaining: u32, flow: Flow) -> Flow
     requires { ⌜ (setup .shifts .a < 16) × (setup .shifts .b < 16)
         × (flow .stored < 4294967295) × (remaining < 4294967295) ⌝ }
@@ -36,9 +67,9 @@ fn next_word(setup: Setup, width: u32, remaining: u32, flow: Flow) -> Flow
     let uses = setup.uses;
     let direction = setup.direction;
     let fetched = area::fetch::fetch(&none, direction, uses, flow);
-    let made = area::finish::finish(setup, remaining + 1 == width, remaining == 0, fetched);
-    let finished = made.flow;
-    let stored = area::store::store_pending(&mut none, finished);
+    let made = finished(setup, remaining + 1 == width, remaining == 0, fetched);
+    let after = made.flow;
+    let stored = area::store::store_pending(&mut none, after);
     let waiting = area::store::wait(uses.d, made.word, stored);
     area::moves::move_d(direction, uses.d, waiting)
 }

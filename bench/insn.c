@@ -1,5 +1,5 @@
-/* A plugin for qemu-user: counts the guest instructions a program executes and says the total on standard error at its
- * end. The count depends on the program and its input alone, so it is the same on a busy machine and on an idle one.
+/* A plugin for qemu-user: counts the guest instructions a program executes and says on standard error how many they are
+ * whenever the program writes to standard output, and at its end. The count depends on the program and its input alone, so it is the same on a busy machine and on an idle one.
  * Debian's package has no header for plugins; what is used of it is declared here. */
 #include <stddef.h>
 #include <stdint.h>
@@ -20,6 +20,10 @@ extern void qemu_plugin_register_vcpu_tb_exec_inline(struct qemu_plugin_tb *bloc
                                                      void *number, uint64_t operand);
 extern void qemu_plugin_register_vcpu_insn_exec_inline(struct qemu_plugin_insn *insn, enum inline_operation operation,
                                                        void *number, uint64_t operand);
+extern void qemu_plugin_register_vcpu_syscall_cb(plugin_id id,
+                                                 void (*call)(plugin_id id, unsigned processor, int64_t number,
+                                                              uint64_t a1, uint64_t a2, uint64_t a3, uint64_t a4,
+                                                              uint64_t a5, uint64_t a6, uint64_t a7, uint64_t a8));
 extern void qemu_plugin_register_atexit_cb(plugin_id id, void (*call)(plugin_id id, void *data), void *data);
 
 int qemu_plugin_version = 1;
@@ -37,11 +41,27 @@ static void translated(plugin_id id, struct qemu_plugin_tb *block)
     qemu_plugin_register_vcpu_insn_exec_inline(qemu_plugin_tb_get_insn(block, before), ADD_U64, &instructions, 1);
 }
 
+static void say(void)
+{
+    fprintf(stderr, "instructions=%llu\n", (unsigned long long)instructions);
+}
+
+/* The guest's number of write, and its standard output. */
+enum { WRITE = 1, STANDARD_OUTPUT = 1 };
+
+static void called(plugin_id id, unsigned processor, int64_t number, uint64_t a1, uint64_t a2, uint64_t a3, uint64_t a4,
+                   uint64_t a5, uint64_t a6, uint64_t a7, uint64_t a8)
+{
+    (void)id, (void)processor, (void)a2, (void)a3, (void)a4, (void)a5, (void)a6, (void)a7, (void)a8;
+    if (number == WRITE && a1 == STANDARD_OUTPUT)
+        say();
+}
+
 static void ended(plugin_id id, void *data)
 {
     (void)id;
     (void)data;
-    fprintf(stderr, "instructions=%llu\n", (unsigned long long)instructions);
+    say();
 }
 
 int qemu_plugin_install(plugin_id id, const struct qemu_info *info, int words, char **word)
@@ -50,6 +70,7 @@ int qemu_plugin_install(plugin_id id, const struct qemu_info *info, int words, c
     (void)words;
     (void)word;
     qemu_plugin_register_vcpu_tb_trans_cb(id, translated);
+    qemu_plugin_register_vcpu_syscall_cb(id, called);
     qemu_plugin_register_atexit_cb(id, ended, NULL);
     return 0;
 }

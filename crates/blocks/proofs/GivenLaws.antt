@@ -5,12 +5,13 @@ use native.Mathlib.Nat.{div-add-mod', le-div-iff-mul-le, mul-le-mul-right, mul-l
 use native.Mathlib.Omega.{arith}
 use mathlib.Core.Bool.{Bool, true, false, _&&_}
 use mathlib.Core.List.{List}
+use lib.Bits.{bitAnd}
 use lib.Dec.{eqb}
 use lib.ListN.{getD}
 use Rattle.word.specs.declared.types.Direction.{Direction}
 use Rattle.word.specs.declared.types.Pointer.{Pointer}
 use Rattle.word.specs.Choice.{if_then_else_}
-use Rattle.word.specs.Mask.{masked}
+use Rattle.word.specs.Mask.{maskedWhen, masked}
 use Rattle.word.specs.Pointer.{pointerEnd}
 use Rattle.area.specs.declared.types.Masks.{Masks}
 use Rattle.quiet.specs.Words.{maskedAt}
@@ -73,6 +74,13 @@ rests-masked used masks width word words after some all masking idle rows room j
     let few : rows ≤ 64 / width = le-div-iff-mul-le {k = width} {x = rows} {y = 64} some .1 room in
     let most : rows * width ≤ 64 / width * width = mul-le-mul-right width few in
     masking j (omega arith) ∙ rw (all j (omega arith))
+
+pub rests-in-columns : (used : Bool) (masks : Masks) (width word : ℕ) (words : List ℕ) → width ≡ 1
+    → Each 64 words (levelAt (bitAnd (bitAnd word (masks .first)) (masks .last))) → Rests used width (maskedAt masks width (levelAt word)) words
+unfolding Rests Each maskedAt levelAt masked maskedWhen
+rests-in-columns used masks width word words one all idle rows room j below =
+    let whole : j % width ≡ 0 = rw one (omega arith) in
+    all j (omega arith) ∙ rw (whole, one)
 
 -- the flag
 pub nought-both : (allzero : Bool) (n any : ℕ) (words : List ℕ) → allzero ≡ true → eqb any 0 ≡ nought n (at words) → eqb any 0 ≡ (allzero && nought n (at words))

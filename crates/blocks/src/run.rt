@@ -95,13 +95,17 @@ fn run(
     here
 }
 
-// The array of A at rest, masked.
+// The array of A at rest, masked. In rows of one word every word gets both masks.
 fn rest_a(used: bool, masks: Masks, width: usize, word: u16, x: &mut [u16; 80])
     requires { ⌜ (1 ≤ width) × (width ≤ 64) × (length (now x) ≡ 80) ⌝ }
     ensures { λ _. ⌜ (length (now (x .exit)) ≡ 80)
         × Rests used width (maskedAt masks width (levelAt word)) (now (x .exit)) ⌝ }
 {
     if used {
+        return;
+    }
+    if width == 1 {
+        block::level::level(word & masks.first & masks.last, 64, x);
         return;
     }
     block::level::level(word, 64, x);

@@ -41,7 +41,7 @@ fn word_by_word(ram: &mut [u16], setup: Setup, width: u32, height: u32, flow: Fl
 fn worth_a_block(n: usize, words: u32) -> bool
     ensures { λ worth. ⌜ (worth ≡ true → n ≤ pointerEnd) ⌝ }
 {
-    (n <= 262144) & (3 < words)
+    (n <= 262144) & (6 < words)
 }
 
 // So many rows at a time as the test before it allows. Two words at least: one alone would be stored before the next is

@@ -1,5 +1,5 @@
 -- `blocks::run::rest_a` meets its contract: the word laid 64 times, then masked in as many rows as fit.
-use Rattle.blocks.proofs.GivenLaws.{rests-not, rows-fit, rests-masked}
+use Rattle.blocks.proofs.GivenLaws.{rests-not, rests-in-columns, rows-fit, rests-masked}
 use borrow.Author.Needs.{needs}
 use Rattle.blocks.proofs.run.rest_a.Statement.{statement}
 use Rattle.blocks.proofs.run.rest_a.Tie as tie
@@ -7,11 +7,14 @@ use Rattle.blocks.proofs.run.rest_a.Tie as tie
 returns : tie.Need-returns
 returns c = (search needs, rests-not _ _ _ _ (search needs))
 
+returns-2 : tie.Need-returns-2
+returns-2 c = (search needs, rests-in-columns _ _ _ _ _ (search needs) (c .level .ensures .1))
+
 mask-requires : tie.Need-mask-requires
 mask-requires c κs = (search needs, rows-fit _ (search needs), search needs)
 
-returns-2 : tie.Need-returns-2
-returns-2 c = (search needs, rests-masked _ _ _ _ _ _ (c .before .before .before .before .before .pre .0) (c .before .before .level .ensures .1) (c .mask .ensures .1))
+returns-3 : tie.Need-returns-3
+returns-3 c = (search needs, rests-masked _ _ _ _ _ _ (c .before .before .before .before .before .before .pre .0) (c .before .before .level2 .ensures .1) (c .mask .ensures .1))
 
 pub rest-a-spec : {M : Type 1} → statement M
 rest-a-spec =
@@ -19,6 +22,8 @@ rest-a-spec =
     (tie.spec
     returns
     (λ c κs. search needs)
+    returns-2
+    (λ c κs. search needs)
     (λ c. search needs)
     mask-requires
-    returns-2)
+    returns-3)

@@ -275,10 +275,10 @@ fn made(
     let before = flow.earlier;
     let sources = sources(ram, setup, far, width, rows, flow, xa, xb, xc);
     let end = crate::finals::finals(setup, width, rows, before, xa, xb, xc, ya, yb, o);
-    let earlier = end.earlier;
+    let last = end.earlier;
     Made {
         sources,
-        earlier,
+        earlier: last,
         carry: end.carry,
         allzero: still_nought(flow.allzero, rows * width, o),
     }

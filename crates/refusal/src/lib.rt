@@ -42,17 +42,13 @@ fn plan(file: &[u16], size: u16) -> Plan
     }
 }
 
-// The channels in the order A, B, C, D: the first that leaves memory is told. No pointer leaves memory as long as it
-// reaches.
-fn leaving(n: usize, by: Plan) -> Verdict
-    requires { ⌜ (by .pointers .a .word < pointerEnd) × (by .pointers .b .word < pointerEnd)
+// The channels in the order A, B, C, D: the first that leaves memory is told.
+fn told(n: usize, by: Plan) -> Verdict
+    requires { ⌜ (n < pointerEnd) × (by .pointers .a .word < pointerEnd) × (by .pointers .b .word < pointerEnd)
         × (by .pointers .c .word < pointerEnd) × (by .pointers .d .word < pointerEnd)
         × (1 ≤ by .width) × (by .width ≤ 64) ⌝ }
     ensures { λ verdict. ⌜ (verdictNumber verdict ≡ leaving n by) × (handed verdict by ≡ by) ⌝ }
 {
-    if (POINTER_END as usize) <= n {
-        return Verdict::Lawful(by);
-    }
     let setup = by.setup;
     let pointers = by.pointers;
     let uses = setup.uses;
@@ -75,6 +71,19 @@ fn leaving(n: usize, by: Plan) -> Verdict
     }
     if crate::touch::channel_leaves(n, direction, uses.d, width, modulos.d, height, d) {
         return Verdict::Refused(Refusal::DLeaves);
+    }
+    Verdict::Lawful(by)
+}
+
+// Memory as long as a pointer reaches is left by none.
+fn leaving(n: usize, by: Plan) -> Verdict
+    requires { ⌜ (by .pointers .a .word < pointerEnd) × (by .pointers .b .word < pointerEnd)
+        × (by .pointers .c .word < pointerEnd) × (by .pointers .d .word < pointerEnd)
+        × (1 ≤ by .width) × (by .width ≤ 64) ⌝ }
+    ensures { λ verdict. ⌜ (verdictNumber verdict ≡ leaving n by) × (handed verdict by ≡ by) ⌝ }
+{
+    if n < POINTER_END as usize {
+        return told(n, by);
     }
     Verdict::Lawful(by)
 }

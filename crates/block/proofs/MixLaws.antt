@@ -1,7 +1,7 @@
 -- Laws of the mix of one source alone: the word that nought makes, turned over where the source's bits are 1.
 use mathlib.Core.Path.{_≡_, _∙_}
 use Prim.Native.Nat.{ℕ}
-use mathlib.Core.Bool.{false, _||_}
+use mathlib.Core.Bool.{Bool, true, false, _&&_, _||_}
 use mathlib.Core.List.{List}
 use lib.ListN.{getD}
 use Rattle.word.specs.Logic.{logic}
@@ -12,31 +12,21 @@ use Rattle.block.specs.declared.types.Terms.{Terms}
 use Rattle.block.specs.Inner.Each.{at, Each, turnedAt}
 use Rattle.block.specs.Inner.Ignores.{Ignores}
 use Rattle.block.specs.Inner.Terms.{terms, joinedAt}
-use Rattle.block.proofs.TermsLaws.{joined-is-logic, joined-of-a, joined-of-b, joined-of-c}
+use Rattle.block.proofs.TermsLaws.{joined-is-logic, joined-of-a, joined-of-c}
 
 module _ (f n : ℕ) (by : Terms) (need : Needs) (a b c o : List ℕ) (ignores : Ignores f need) (is : by ≡ terms f) where
   pub mix-of-three : Each n o (joinedAt by (at a) (at b) (at c)) → Each n o (mixedAt f (at a) (at b) (at c))
   unfolding Each joinedAt mixedAt
   mix-of-three all j below = all j below ∙ rw is (joined-is-logic f (at a j) (at b j) (at c j))
 
-  pub mix-of-a : (need .b || need .c) ≡ false → Each n o (turnedAt (by .none) (by .a) (at a)) → Each n o (mixedAt f (at a) (at b) (at c))
+  pub mix-of-a : need .b ≡ false → need .c ≡ false → Each n o (turnedAt (by .none) (by .a) (at a)) → Each n o (mixedAt f (at a) (at b) (at c))
   unfolding Each turnedAt mixedAt at
-  mix-of-a neither all j below =
+  mix-of-a no-b no-c all j below =
       all j below
       ∙ rw is
       (joined-of-a (terms f) (getD a j 0)
       ∙ joined-is-logic f (getD a j 0) 0 0
-      ∙ ignores .b (or-left (need .b) (need .c) neither) (getD a j 0) 0 (getD b j 0) 0
-      ∙ ignores .c (or-right (need .b) (need .c) neither) (getD a j 0) (getD b j 0) 0 (getD c j 0))
-
-  pub mix-of-b : need .a ≡ false → need .c ≡ false → Each n o (turnedAt (by .none) (by .b) (at b)) → Each n o (mixedAt f (at a) (at b) (at c))
-  unfolding Each turnedAt mixedAt at
-  mix-of-b no-a no-c all j below =
-      all j below
-      ∙ rw is
-      (joined-of-b (terms f) (getD b j 0)
-      ∙ joined-is-logic f 0 (getD b j 0) 0
-      ∙ ignores .a no-a 0 (getD a j 0) (getD b j 0) 0
+      ∙ ignores .b no-b (getD a j 0) 0 (getD b j 0) 0
       ∙ ignores .c no-c (getD a j 0) (getD b j 0) 0 (getD c j 0))
 
   pub mix-of-c : need .a ≡ false → need .b ≡ false → Each n o (turnedAt (by .none) (by .c) (at c)) → Each n o (mixedAt f (at a) (at b) (at c))
@@ -48,3 +38,10 @@ module _ (f n : ℕ) (by : Terms) (need : Needs) (a b c o : List ℕ) (ignores :
       ∙ joined-is-logic f 0 0 (getD c j 0)
       ∙ ignores .a no-a 0 (getD a j 0) 0 (getD c j 0)
       ∙ ignores .b no-b (getD a j 0) 0 (getD b j 0) (getD c j 0))
+
+-- which sources a mix of one leaves out
+pub no-b : (a b c : Bool) → (b || (a && c)) ≡ false → b ≡ false
+no-b a b c told = or-left b (a && c) told
+
+pub no-c : (a b c : Bool) → (b || (a && c)) ≡ false → a ≡ true → c ≡ false
+no-c a b c told holds = rw holds at (or-right b (a && c) told)

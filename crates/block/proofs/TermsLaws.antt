@@ -88,10 +88,6 @@ module _ (by : Terms) (x : ℕ) where
   unfolding joined
   joined-of-a = simp (and-zero-l, xor-zero-r)
 
-  pub joined-of-b : bitXor (by .none) (bitAnd x (by .b)) ≡ joined by 0 x 0
-  unfolding joined
-  joined-of-b = simp (and-zero-l, xor-zero-r)
-
   pub joined-of-c : bitXor (by .none) (bitAnd x (by .c)) ≡ joined by 0 0 x
   unfolding joined
   joined-of-c = simp (and-zero-l, xor-zero-r)

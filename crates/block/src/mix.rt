@@ -40,14 +40,15 @@ fn joined(by: Terms, a: u16, b: u16, c: u16) -> u16
         ^ (a & (by.a ^ (c & by.ac) ^ (b & (by.ab ^ (c & by.abc)))))
 }
 
-fn mix_three(by: Terms, n: usize, a: &[u16; 80], b: &[u16; 80], c: &[u16; 80], o: &mut [u16; 80])
+// B's words stand where the mix goes.
+fn mix_three(by: Terms, n: usize, a: &[u16; 80], c: &[u16; 80], o: &mut [u16; 80])
     requires { ⌜ (n ≤ 80) × (length (now o) ≡ 80) ⌝ }
     ensures { λ _. ⌜ (length (now (o .exit)) ≡ 80)
-        × Each n (now (o .exit)) (joinedAt by (at (now (a .entry))) (at (now (b .entry))) (at (now (c .entry)))) ⌝ }
+        × Each n (now (o .exit)) (joinedAt by (at (now (a .entry))) (at (now (o .entry))) (at (now (c .entry)))) ⌝ }
 {
     let mut i: usize = 0;
     while i < n {
-        o[i] = joined(by, a[i], b[i], c[i]);
+        o[i] = joined(by, a[i], o[i], c[i]);
         i = i + 1;
     }
 }
@@ -65,35 +66,19 @@ fn mix_one(none: u16, turns: u16, n: usize, x: &[u16; 80], o: &mut [u16; 80])
     }
 }
 
-// A source that the function ignores isn't read.
-pub fn mix(
-    function: u16,
-    need: Needs,
-    n: usize,
-    a: &[u16; 80],
-    b: &[u16; 80],
-    c: &[u16; 80],
-    o: &mut [u16; 80],
-)
+// A source that the function ignores isn't read. B's words stand where the mix goes.
+pub fn mix(function: u16, need: Needs, n: usize, a: &[u16; 80], c: &[u16; 80], o: &mut [u16; 80])
     requires { ⌜ Ignores function need × (n ≤ 80) × (length (now o) ≡ 80) ⌝ }
     ensures { λ _. ⌜ (length (now (o .exit)) ≡ 80)
-        × Each n (now (o .exit)) (mixedAt function (at (now (a .entry))) (at (now (b .entry))) (at (now (c .entry)))) ⌝ }
+        × Each n (now (o .exit)) (mixedAt function (at (now (a .entry))) (at (now (o .entry))) (at (now (c .entry)))) ⌝ }
 {
     let by = terms(function);
-    if need.a {
-        if need.b | need.c {
-            mix_three(by, n, a, b, c, o);
-            return;
-        }
-        mix_one(by.none, by.a, n, a, o);
+    if need.b | (need.a & need.c) {
+        mix_three(by, n, a, c, o);
         return;
     }
-    if need.b {
-        if need.c {
-            mix_three(by, n, a, b, c, o);
-            return;
-        }
-        mix_one(by.none, by.b, n, b, o);
+    if need.a {
+        mix_one(by.none, by.a, n, a, o);
         return;
     }
     mix_one(by.none, by.c, n, c, o);

@@ -249,16 +249,15 @@ fn made(
     xb: &mut [u16; 80],
     xc: &mut [u16; 80],
     ya: &mut [u16; 80],
-    yb: &mut [u16; 80],
     o: &mut [u16; 80],
 ) -> Made
     requires { ⌜ Placed (length (now ram)) setup width rows flow far × (rows * width ≤ 64) × (1 ≤ rows * width)
         × (length (now xa) ≡ 80) × (length (now xb) ≡ 80) × (length (now xc) ≡ 80)
-        × (length (now ya) ≡ 80) × (length (now yb) ≡ 80) × (length (now o) ≡ 80)
+        × (length (now ya) ≡ 80) × (length (now o) ≡ 80)
         × AllRest setup width (flow .sources) (now xa) (now xb) (now xc)
         × (ready ≡ true → Ready setup width rows flow (now o)) ⌝ }
     ensures { λ end. ⌜ (length (now (xa .exit)) ≡ 80) × (length (now (xb .exit)) ≡ 80) × (length (now (xc .exit)) ≡ 80)
-        × (length (now (ya .exit)) ≡ 80) × (length (now (yb .exit)) ≡ 80) × (length (now (o .exit)) ≡ 80)
+        × (length (now (ya .exit)) ≡ 80) × (length (now (o .exit)) ≡ 80)
         × AllRest setup width (end .sources) (now (xa .exit)) (now (xb .exit)) (now (xc .exit))
         × Finished setup width rows far flow (now (ram .entry)) (now (xa .exit)) (now (xb .exit)) (now (xc .exit)) (now (o .exit)) end ⌝ }
 {
@@ -274,7 +273,7 @@ fn made(
     }
     let before = flow.earlier;
     let sources = sources(ram, setup, far, width, rows, flow, xa, xb, xc);
-    let end = crate::finals::finals(setup, width, rows, before, xa, xb, xc, ya, yb, o);
+    let end = crate::finals::finals(setup, width, rows, before, xa, xb, xc, ya, o);
     let last = end.earlier;
     Made {
         sources,
@@ -297,17 +296,16 @@ pub fn one_block(
     xb: &mut [u16; 80],
     xc: &mut [u16; 80],
     ya: &mut [u16; 80],
-    yb: &mut [u16; 80],
     o: &mut [u16; 80],
 ) -> Flow
     requires { ⌜ Placed (length (now ram)) setup width rows flow far × AllApart setup width (rows * width) (rows * width) flow
         × (rows * width ≤ 64) × (1 ≤ rows * width) × (rows ≤ 64) × (flow .stored + 64 < 4294967296)
         × (length (now xa) ≡ 80) × (length (now xb) ≡ 80) × (length (now xc) ≡ 80)
-        × (length (now ya) ≡ 80) × (length (now yb) ≡ 80) × (length (now o) ≡ 80)
+        × (length (now ya) ≡ 80) × (length (now o) ≡ 80)
         × AllRest setup width (flow .sources) (now xa) (now xb) (now xc)
         × (ready ≡ true → Ready setup width rows flow (now o)) ⌝ }
     ensures { λ next. ⌜ (length (now (xa .exit)) ≡ 80) × (length (now (xb .exit)) ≡ 80) × (length (now (xc .exit)) ≡ 80)
-        × (length (now (ya .exit)) ≡ 80) × (length (now (yb .exit)) ≡ 80) × (length (now (o .exit)) ≡ 80)
+        × (length (now (ya .exit)) ≡ 80) × (length (now (o .exit)) ≡ 80)
         × AllRest setup width (next .sources) (now (xa .exit)) (now (xb .exit)) (now (xc .exit))
         × (state (now (ram .exit)) next ≡ areaBlit setup width rows (state (now (ram .entry)) flow))
         × (Still setup → Each (rows * width) (now (o .exit)) (stillAt setup width (flow .earlier) (flow .sources))) ⌝ }
@@ -315,21 +313,7 @@ pub fn one_block(
     let direction = setup.direction;
     let uses = setup.uses;
     let from = flow.pointers;
-    let end = made(
-        ram,
-        setup,
-        far,
-        width,
-        rows,
-        ready,
-        flow,
-        xa,
-        xb,
-        xc,
-        ya,
-        yb,
-        o,
-    );
+    let end = made(ram, setup, far, width, rows, ready, flow, xa, xb, xc, ya, o);
     stored(
         ram,
         uses.d,

@@ -58,13 +58,12 @@ fn run(
     xb: &mut [u16; 80],
     xc: &mut [u16; 80],
     ya: &mut [u16; 80],
-    yb: &mut [u16; 80],
     o: &mut [u16; 80],
 ) -> Flow
     requires { ⌜ Placed (length (now ram)) setup width height flow far × AllApart setup width (most * width) (height * width) flow
         × (1 ≤ most) × (most * width ≤ 64) × (2 ≤ most * width) × (height ≤ 1024) × (flow .stored + height * 64 < 4294967232)
         × (length (now xa) ≡ 80) × (length (now xb) ≡ 80) × (length (now xc) ≡ 80)
-        × (length (now ya) ≡ 80) × (length (now yb) ≡ 80) × (length (now o) ≡ 80)
+        × (length (now ya) ≡ 80) × (length (now o) ≡ 80)
         × AllRest setup width (flow .sources) (now xa) (now xb) (now xc) ⌝ }
     ensures { λ end. ⌜
         state (now (ram .exit)) end
@@ -75,21 +74,7 @@ fn run(
     while row < height {
         let rows = fewer(most, height - row);
         let ready = repeats(setup, most, row);
-        here = crate::one::one_block(
-            ram,
-            setup,
-            far,
-            width,
-            rows,
-            ready,
-            here,
-            xa,
-            xb,
-            xc,
-            ya,
-            yb,
-            o,
-        );
+        here = crate::one::one_block(ram, setup, far, width, rows, ready, here, xa, xb, xc, ya, o);
         row = row + rows;
     }
     here
@@ -163,7 +148,6 @@ pub fn blocks(
     let mut xb: [u16; 80] = [0; 80];
     let mut xc: [u16; 80] = [0; 80];
     let mut ya: [u16; 80] = [0; 80];
-    let mut yb: [u16; 80] = [0; 80];
     let mut o: [u16; 80] = [0; 80];
     let uses = setup.uses;
     let masks = setup.masks;
@@ -181,7 +165,6 @@ pub fn blocks(
         &mut xb,
         &mut xc,
         &mut ya,
-        &mut yb,
         &mut o,
     )
 }

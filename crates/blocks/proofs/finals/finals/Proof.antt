@@ -8,15 +8,13 @@ use Rattle.blocks.proofs.finals.finals.Tie as tie
 
 returns : tie.Need-returns
 returns c =
-    let results = c .before .before .before .before .before .results .ensures .3 in
-    let some = c .before .before .before .before .before .before .before .before .before .pre .3 in (
-      search needs,
+    let results = c .before .before .before .before .before .results .ensures .2 in (
       search needs,
       search needs,
       refl,
       λ a masks. (
         finals-are _ _ _ _ _ a _ _ (results a masks) _ (c .before .before .fill .ensures .2),
-        finals-carry _ _ _ _ _ a _ _ (results a masks) _ some (c .before .before .fill .ensures .3),
+        finals-carry _ _ _ _ _ a _ _ (results a masks) _ (c .before .before .before .before .before .before .before .before .pre .3) (c .before .before .fill .ensures .3),
       ),
     )
 

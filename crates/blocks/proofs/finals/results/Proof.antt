@@ -9,8 +9,7 @@ returns : tie.Need-returns
 returns c = (
   search needs,
   search needs,
-  search needs,
-  results-are _ _ _ _ _ _ _ _ _ _ _ _ (omega arith) (c .before .before .before .before .before .before .before .before .needs .ensures) (c .before .before .before .before .before .before .shift-if .ensures .1) (c .before .before .before .before .shift-if2 .ensures .1) (c .mix .ensures .1),
+  results-are _ _ _ _ _ _ _ _ _ _ _ _ (omega arith) (c .before .before .before .before .before .before .before .needs .ensures) (c .before .before .before .before .before .shift-if .ensures .1) (c .before .before .before .shift-if2 .ensures .1) (c .mix .ensures .1),
 )
 
 pub results-spec : {M : Type 1} → statement M

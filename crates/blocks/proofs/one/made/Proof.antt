@@ -15,36 +15,34 @@ returns c =
       pre .6,
       pre .7,
       pre .8,
-      pre .9,
-      finished-ready _ _ _ _ _ _ _ _ _ _ (pre .0 .some) (some-rows _ _ (pre .2)) (pre .1) (pre .10 (c .before .before .if1 .taken)) (pre .9),
+      finished-ready _ _ _ _ _ _ _ _ _ _ (pre .0 .some) (some-rows _ _ (pre .2)) (pre .1) (pre .9 (c .before .before .if1 .taken)) (pre .8),
     )
 
 sources-requires : tie.Need-sources-requires
-sources-requires c κs = let pre = c .before .before .before .before .before .before .pre in (pre .0, pre .1, pre .2, pre .3, pre .4, pre .5, pre .9)
+sources-requires c κs = let pre = c .before .before .before .before .before .before .pre in (pre .0, pre .1, pre .2, pre .3, pre .4, pre .5, pre .8)
 
 finals-requires : tie.Need-finals-requires
 finals-requires c κs =
-    let pre = c .before .before .before .before .before .before .before .before .before .before .before .before .before .pre in
-    let given = c .before .before .before .before .before .before .sources2 .ensures in (pre .0 .shift-a, pre .0 .shift-b, pre .0 .some, pre .2, pre .1, given .0, given .1, pre .6, pre .7, pre .8)
+    let pre = c .before .before .before .before .before .before .before .before .before .before .before .before .pre in
+    let given = c .before .before .before .before .before .sources2 .ensures in (pre .0 .shift-a, pre .0 .shift-b, pre .0 .some, pre .2, pre .1, given .0, given .1, pre .6, pre .7)
 
 mul-still-nought : tie.Need-mul-still-nought
-mul-still-nought c = omega (arith, c .before .before .before .before .before .before .before .before .before .before .before .before .before .before .before .pre .1)
+mul-still-nought c = omega (arith, c .before .before .before .before .before .before .before .before .before .before .before .before .before .before .pre .1)
 
 still-nought-requires : tie.Need-still-nought-requires
-still-nought-requires c κs = c .before .before .before .before .before .before .before .before .before .before .before .before .before .before .before .before .pre .1
+still-nought-requires c κs = c .before .before .before .before .before .before .before .before .before .before .before .before .before .before .before .pre .1
 
 returns-2 : tie.Need-returns-2
 returns-2 c =
-    let given = c .before .before .before .before .before .before .before .before .before .before .sources2 .ensures in
+    let given = c .before .before .before .before .before .before .before .before .before .sources2 .ensures in
     let end = c .before .before .before .finals .ensures in (
       given .0,
       given .1,
       given .2,
       end .0,
       end .1,
-      end .2,
       rests-on _ _ _ _ _ _ _ _ _ _ (given .3) (given .4),
-      record { given = given .3; earlier = end .3; words = end .4; zero = c .still-nought .ensures },
+      record { given = given .3; earlier = end .2; words = end .3; zero = c .still-nought .ensures },
     )
 
 pub made-spec : {M : Type 1} → statement M

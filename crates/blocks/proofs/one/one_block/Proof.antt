@@ -10,16 +10,16 @@ use Rattle.blocks.proofs.one.one_block.Statement.{statement}
 use Rattle.blocks.proofs.one.one_block.Tie as tie
 
 made-requires : tie.Need-made-requires
-made-requires c κs = let pre = c .before .before .before .before .before .before .before .before .before .before .pre in (pre .0, pre .2, pre .3, pre .6, pre .7, pre .8, pre .9, pre .10, pre .11, pre .12, pre .13)
+made-requires c κs = let pre = c .before .before .before .before .before .before .before .before .before .pre in (pre .0, pre .2, pre .3, pre .6, pre .7, pre .8, pre .9, pre .10, pre .11, pre .12)
 
 stored-requires : tie.Need-stored-requires
 stored-requires c κs =
-    let pre = c .before .before .before .before .before .before .before .before .before .before .before .before .before .before .pre in
+    let pre = c .before .before .before .before .before .before .before .before .before .before .before .before .before .pre in
     let placed = pre .0 in (placed .d .inside, pre .2, placed .some, placed .d .small, stride-lt _ _ _ _ _ _ _ _ (placed .d) (placed .most) (placed .some) (placed .narrow))
 
 pointers-requires : tie.Need-pointers-requires
 pointers-requires c κs =
-    let pre = c .before .before .before .before .before .before .before .before .before .before .before .before .before .before .before .before .before .pre in
+    let pre = c .before .before .before .before .before .before .before .before .before .before .before .before .before .before .before .before .pre in
     let placed = pre .0 in (
       placed .a .small,
       placed .b .small,
@@ -33,14 +33,14 @@ pointers-requires c κs =
     )
 
 mul-counted : tie.Need-mul-counted
-mul-counted c = omega (arith, c .before .before .before .before .before .before .before .before .before .before .before .before .before .before .before .before .before .before .before .before .pre .2)
+mul-counted c = omega (arith, c .before .before .before .before .before .before .before .before .before .before .before .before .before .before .before .before .before .before .before .pre .2)
 
 counted-requires : tie.Need-counted-requires
-counted-requires c κs = let pre = c .before .before .before .before .before .before .before .before .before .before .before .before .before .before .before .before .before .before .before .before .pre in (pre .2, pre .5)
+counted-requires c κs = let pre = c .before .before .before .before .before .before .before .before .before .before .before .before .before .before .before .before .before .before .before .pre in (pre .2, pre .5)
 
 returns : tie.Need-returns
 returns c =
-    let pre = c .before .before .before .before .before .before .before .before .before .before .before .before .before .before .before .before .before .before .before .before .before .pre in
+    let pre = c .before .before .before .before .before .before .before .before .before .before .before .before .before .before .before .before .before .before .before .before .pre in
     let end = c .before .before .before .before .before .before .before .before .before .before .made .ensures in (
       end .0,
       end .1,
@@ -48,9 +48,8 @@ returns c =
       end .3,
       end .4,
       end .5,
-      end .6,
-      block-is _ _ _ _ _ _ _ (pre .0) _ _ _ _ _ _ _ (pre .3) (pre .1) (end .7) (c .before .before .before .before .before .before .stored .ensures) (rw (c .before .before .before .pointers .ensures, c .counted .ensures) refl),
-      finished-still _ _ _ _ _ _ _ _ _ _ _ (end .7),
+      block-is _ _ _ _ _ _ _ (pre .0) _ _ _ _ _ _ _ (pre .3) (pre .1) (end .6) (c .before .before .before .before .before .before .stored .ensures) (rw (c .before .before .before .pointers .ensures, c .counted .ensures) refl),
+      finished-still _ _ _ _ _ _ _ _ _ _ _ (end .6),
     )
 
 pub one-block-spec : {M : Type 1} → statement M

@@ -9,18 +9,18 @@ all-rest-requires c κs = (c .before .before .before .before .before .before .be
 
 run-requires : tie.Need-run-requires
 run-requires c κs =
-    let rest = c .before .before .before .before .before .before .before .all-rest .ensures in (
-      c .before .before .before .before .before .before .before .before .before .before .before .before .before .before .before .pre .0,
-      c .before .before .before .before .before .before .before .before .before .before .before .before .before .before .before .pre .1,
-      c .before .before .before .before .before .before .before .before .before .before .before .before .before .before .before .pre .2,
-      c .before .before .before .before .before .before .before .before .before .before .before .before .before .before .before .pre .3,
-      c .before .before .before .before .before .before .before .before .before .before .before .before .before .before .before .pre .4,
-      c .before .before .before .before .before .before .before .before .before .before .before .before .before .before .before .pre .5,
-      c .before .before .before .before .before .before .before .before .before .before .before .before .before .before .before .pre .6,
+    let pre = c .before .before .before .before .before .before .before .before .before .before .before .before .before .before .pre in
+    let rest = c .before .before .before .before .before .before .all-rest .ensures in (
+      pre .0,
+      pre .1,
+      pre .2,
+      pre .3,
+      pre .4,
+      pre .5,
+      pre .6,
       rest .0,
       rest .1,
       rest .2,
-      refl,
       refl,
       refl,
       record { a = rest .3; b = rest .4; c = rest .5 },

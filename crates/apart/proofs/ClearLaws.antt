@@ -9,7 +9,7 @@ use mathlib.Core.Logic.{_⊎_, inl, inr, ⊎-elim}
 use Rattle.word.specs.declared.types.Direction.{Direction}
 use Rattle.word.specs.declared.types.Direction.the-variants.{Ascending, Descending}
 use Rattle.word.specs.Pointer.{pointerEnd}
-use Rattle.word.specs.Inner.Even.{RowInside}
+use Rattle.word.specs.Inner.Even.{downward, RowInside}
 use Rattle.block.specs.Inner.Place.{rowAt, placeIn, placeAt, EvenRows}
 use Rattle.block.proofs.EachLaws.{never}
 use Rattle.apart.specs.Inner.Spans.{Spans, Clear, Told}
@@ -67,7 +67,7 @@ module _ (width height : ℕ) (some : 1 ≤ width) where
 
     module _ (far fromD fromX rows : ℕ) where
       clear-up : Spans n Ascending width far fromD height lowD highD → Spans n Ascending width far fromX height lowX highX
-          → far < 131072 → width ≤ far → (fromD ≤ fromX) ⊎ (fromX + rows * far ≤ fromD) → Clear Ascending width height far far fromD fromX (rows * width)
+          → far < downward → width ≤ far → (fromD ≤ fromX) ⊎ (fromX + rows * far ≤ fromD) → Clear Ascending width height far far fromD fromX (rows * width)
       unfolding Clear placeAt placeIn
       clear-up d x short apart order i j below early near same =
           let at-d = d .up short (j / width) (row-below j (omega arith)) in
@@ -78,7 +78,7 @@ module _ (width height : ℕ) (some : 1 ≤ width) where
           order
 
       clear-down : Spans n Descending width far fromD height lowD highD → Spans n Descending width far fromX height lowX highX
-          → 131072 ≤ far → width ≤ pointerEnd - far → (fromX ≤ fromD) ⊎ (fromD + rows * (pointerEnd - far) ≤ fromX)
+          → downward ≤ far → width ≤ pointerEnd - far → (fromX ≤ fromD) ⊎ (fromD + rows * (pointerEnd - far) ≤ fromX)
           → Clear Descending width height far far fromD fromX (rows * width)
       unfolding Clear placeAt placeIn EvenRows RowInside
       clear-down d x long apart order i j below early near same =
@@ -97,23 +97,23 @@ strides-in rows gap far some few = le-div-iff-mul-le {k = far} {x = rows} {y = g
 
 -- what each test promises
 module _ (width height far fromD fromX most : ℕ) (some : 1 ≤ width) where
-  pub behind-up : fromD ≤ fromX → far < 131072 → width ≤ far → 1 ≤ most
+  pub behind-up : fromD ≤ fromX → far < downward → width ≤ far → 1 ≤ most
       → (n lowD highD lowX highX : ℕ) → Spans n Ascending width far fromD height lowD highD → Spans n Ascending width far fromX height lowX highX
       → Clear Ascending width height far far fromD fromX (most * width)
   behind-up order short apart _ n lowD highD lowX highX d x = clear-up width height some n lowD highD lowX highX far fromD fromX most d x short apart (inl order)
 
-  pub ahead-up : (rows : ℕ) → fromX < fromD → far < 131072 → width ≤ far → rows ≤ (fromD - fromX) / far → 1 ≤ rows
+  pub ahead-up : (rows : ℕ) → fromX < fromD → far < downward → width ≤ far → rows ≤ (fromD - fromX) / far → 1 ≤ rows
       → (n lowD highD lowX highX : ℕ) → Spans n Ascending width far fromD height lowD highD → Spans n Ascending width far fromX height lowX highX
       → Clear Ascending width height far far fromD fromX (rows * width)
   ahead-up rows order short apart few _ n lowD highD lowX highX d x =
       clear-up width height some n lowD highD lowX highX far fromD fromX rows d x short apart (inr (omega (arith, strides-in rows (fromD - fromX) far (omega arith) few)))
 
-  pub behind-down : fromX ≤ fromD → 131072 ≤ far → width ≤ pointerEnd - far → 1 ≤ most
+  pub behind-down : fromX ≤ fromD → downward ≤ far → width ≤ pointerEnd - far → 1 ≤ most
       → (n lowD highD lowX highX : ℕ) → Spans n Descending width far fromD height lowD highD → Spans n Descending width far fromX height lowX highX
       → Clear Descending width height far far fromD fromX (most * width)
   behind-down order long apart _ n lowD highD lowX highX d x = clear-down width height some n lowD highD lowX highX far fromD fromX most d x long apart (inl order)
 
-  pub ahead-down : (rows : ℕ) → fromD < fromX → 131072 ≤ far → width ≤ pointerEnd - far → rows ≤ (fromX - fromD) / (pointerEnd - far) → 1 ≤ rows
+  pub ahead-down : (rows : ℕ) → fromD < fromX → downward ≤ far → width ≤ pointerEnd - far → rows ≤ (fromX - fromD) / (pointerEnd - far) → 1 ≤ rows
       → (n lowD highD lowX highX : ℕ) → Spans n Descending width far fromD height lowD highD → Spans n Descending width far fromX height lowX highX
       → Clear Descending width height far far fromD fromX (rows * width)
   ahead-down rows order long apart few _ n lowD highD lowX highX d x =

@@ -6,7 +6,7 @@ use native.Mathlib.Omega.{arith}
 use Rattle.word.specs.declared.types.Direction.{Direction}
 use Rattle.word.specs.declared.types.Direction.the-variants.{Ascending, Descending}
 use Rattle.word.specs.Pointer.{pointerEnd}
-use Rattle.word.specs.Inner.Even.{RowInside}
+use Rattle.word.specs.Inner.Even.{downward, RowInside}
 use Rattle.block.specs.Inner.Place.{rowAt, placeIn, EvenRows}
 use Rattle.apart.specs.Inner.Spans.{below, above, Spans}
 
@@ -47,7 +47,7 @@ module _ (n : ℕ) (direction : Direction) (from far width height back on top : 
       let less : row * far ≤ (height - 1) * far = mul-le-mul-right far (omega arith) in
       (mod-eq-of-lt (omega arith), omega arith)
 
-  pub span-upward : far < 131072 → top ≡ (height - 1) * far → back ≤ from → from + top + on < n
+  pub span-upward : far < downward → top ≡ (height - 1) * far → back ≤ from → from + top + on < n
       → Spans n direction width far from height (from - back) (from + top + on)
   unfolding EvenRows
   span-upward short is-top under over =
@@ -81,7 +81,7 @@ module _ (n : ℕ) (direction : Direction) (from far width height back on top : 
       split : (from up down all : ℕ) → down ≤ from → all ≡ down + up → from + up ≡ from - down + all
       split from up down all less is = omega arith
 
-  pub span-downward : 131072 ≤ far → far < pointerEnd → from < pointerEnd → top ≡ (height - 1) * (pointerEnd - far) → top + back ≤ from → from + on < n
+  pub span-downward : downward ≤ far → far < pointerEnd → from < pointerEnd → top ≡ (height - 1) * (pointerEnd - far) → top + back ≤ from → from + on < n
       → Spans n direction width far from height (from - top - back) (from + on)
   unfolding EvenRows
   span-downward long bound small is-top under over =

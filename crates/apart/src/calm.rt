@@ -6,6 +6,8 @@ ghost use Rattle.word.specs.declared.types.Direction.the-variants.{Ascending, D
 ghost use Rattle.word.specs.Pointer.{pointerEnd};
 ghost use Rattle.apart.specs.Inner.Spans.{Spans, Clear, Told};
 use crate::types::Span;
+use word::pointer::INDEX_DOWNWARD;
+use word::pointer::INDEX_END;
 use word::types::Direction;
 
 fn fewer(most: usize, rows: usize) -> usize
@@ -32,7 +34,7 @@ fn calm_up(
         × (1 ≤ rows → (n lowD highD lowX highX : ℕ) → Spans n Ascending width far startd height lowD highD
         → Spans n Ascending width far startx height lowX highX → Clear Ascending width height far far startd startx (rows * width)) ⌝ }
 {
-    if 131072 <= far {
+    if INDEX_DOWNWARD <= far {
         return 0;
     }
     if far < width {
@@ -58,16 +60,16 @@ fn calm_down(
         × (1 ≤ rows → (n lowD highD lowX highX : ℕ) → Spans n Descending width far startd height lowD highD
         → Spans n Descending width far startx height lowX highX → Clear Descending width height far far startd startx (rows * width)) ⌝ }
 {
-    if far < 131072 {
+    if far < INDEX_DOWNWARD {
         return 0;
     }
-    if 262144 - far < width {
+    if INDEX_END - far < width {
         return 0;
     }
     if startx <= startd {
         return most;
     }
-    fewer(most, (startx - startd) / (262144 - far))
+    fewer(most, (startx - startd) / (INDEX_END - far))
 }
 
 fn calm_evenly(

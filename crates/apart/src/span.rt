@@ -3,8 +3,11 @@ ghost use mathlib.Core.Path.{_≡_};
 ghost use mathlib.Core.Bool.{true};
 ghost use Prim.Native.Nat.{_-_, _*_, _<_, _≤_};
 ghost use Rattle.word.specs.Pointer.{pointerEnd};
+ghost use Rattle.word.specs.Inner.Even.{downward};
 ghost use Rattle.apart.specs.Inner.Spans.{below, above, Spans};
 use crate::types::Span;
+use word::pointer::INDEX_DOWNWARD;
+use word::pointer::INDEX_END;
 use word::types::Direction;
 
 // How far a row reaches below its first word.
@@ -45,7 +48,7 @@ fn span_up(
     width: usize,
     height: usize,
 ) -> Span
-    requires { ⌜ (n ≤ pointerEnd) × (from < pointerEnd) × (far < 131072) × (1 ≤ width) × (width ≤ 64) × (1 ≤ height) × (height ≤ 1024) ⌝ }
+    requires { ⌜ (n ≤ pointerEnd) × (from < pointerEnd) × (far < downward) × (1 ≤ width) × (width ≤ 64) × (1 ≤ height) × (height ≤ 1024) ⌝ }
     ensures { λ span. ⌜ (span .fine ≡ true → Spans n direction width far from height (span .low) (span .high)) ⌝ }
 {
     let back = below(direction, width);
@@ -80,12 +83,12 @@ fn span_down(
     width: usize,
     height: usize,
 ) -> Span
-    requires { ⌜ (n ≤ pointerEnd) × (from < pointerEnd) × (131072 ≤ far) × (far < pointerEnd) × (1 ≤ width) × (width ≤ 64) × (1 ≤ height) × (height ≤ 1024) ⌝ }
+    requires { ⌜ (n ≤ pointerEnd) × (from < pointerEnd) × (downward ≤ far) × (far < pointerEnd) × (1 ≤ width) × (width ≤ 64) × (1 ≤ height) × (height ≤ 1024) ⌝ }
     ensures { λ span. ⌜ (span .fine ≡ true → Spans n direction width far from height (span .low) (span .high)) ⌝ }
 {
     let back = below(direction, width);
     let on = above(direction, width);
-    let top = distance(height, 262144 - far);
+    let top = distance(height, INDEX_END - far);
     if from < top + back {
         return Span {
             fine: false,
@@ -107,7 +110,6 @@ fn span_down(
     }
 }
 
-// A stride of 131,072 or more is one downward.
 pub fn span(
     n: usize,
     direction: Direction,
@@ -119,7 +121,7 @@ pub fn span(
     requires { ⌜ (n ≤ pointerEnd) × (from < pointerEnd) × (far < pointerEnd) × (1 ≤ width) × (width ≤ 64) × (1 ≤ height) × (height ≤ 1024) ⌝ }
     ensures { λ span. ⌜ (span .fine ≡ true → Spans n direction width far from height (span .low) (span .high)) ⌝ }
 {
-    if far < 131072 {
+    if far < INDEX_DOWNWARD {
         return span_up(n, direction, from, far, width, height);
     }
     span_down(n, direction, from, far, width, height)

@@ -7,6 +7,7 @@ ghost use Rattle.word.specs.Pointer.{pointerEnd};
 ghost use Rattle.word.specs.Inner.Even.{RowInside};
 ghost use Rattle.block.specs.Inner.Each.{Each, Laid};
 ghost use Rattle.block.specs.Inner.Place.{EvenRows, fetchedIn, fetchedAt};
+use word::pointer::INDEX_END;
 use word::types::Direction;
 
 fn row_up(ram: &[u16], start: usize, width: usize, s: usize, x: &mut [u16; 80])
@@ -64,7 +65,7 @@ pub fn rows(
     let mut number: usize = 0;
     while number < rows {
         row(direction, ram, start, width, s, x);
-        start = (start + far) % 262144;
+        start = (start + far) % INDEX_END;
         s = s + width;
         number = number + 1;
     }

@@ -8,6 +8,7 @@ ghost use Rattle.word.specs.Inner.Even.{RowInside};
 ghost use Rattle.quiet.specs.Stream.{laidAt};
 ghost use Rattle.block.specs.Inner.Each.{at, fromAt};
 ghost use Rattle.block.specs.Inner.Place.{placeIn, placeAt, EvenRows};
+use word::pointer::INDEX_END;
 use word::types::Direction;
 
 fn row_up(ram: &mut [u16], start: usize, width: usize, s: usize, x: &[u16; 80])
@@ -68,7 +69,7 @@ pub fn rows(
     let mut number: usize = 0;
     while number < rows {
         row(direction, ram, start, width, s, x);
-        start = (start + far) % 262144;
+        start = (start + far) % INDEX_END;
         s = s + width;
         number = number + 1;
     }

@@ -23,6 +23,7 @@ use area::types::Pending;
 use area::types::Pointers;
 use area::types::Setup;
 use area::types::Sources;
+use word::pointer::INDEX_END;
 use word::types::Direction;
 use word::types::Pointer;
 
@@ -197,7 +198,7 @@ fn rows_on(used: bool, far: usize, rows: usize, pointer: Pointer) -> Pointer
 {
     if used {
         return Pointer {
-            word: ((pointer.word as usize + rows * far) % 262144) as u32,
+            word: ((pointer.word as usize + rows * far) % INDEX_END) as u32,
         };
     }
     pointer

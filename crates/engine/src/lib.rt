@@ -7,6 +7,7 @@ ghost use Rattle.area.specs.Flow.{state, nothing};
 ghost use Rattle.area.specs.Rows.{rows, areaBlit};
 use area::types::Flow;
 use area::types::Setup;
+use word::pointer::INDEX_END;
 
 fn rows(ram: &mut [u16], setup: Setup, width: u32, height: u32, flow: Flow) -> Flow
     requires { ⌜ (setup .shifts .a < 16) × (setup .shifts .b < 16)
@@ -41,7 +42,7 @@ fn word_by_word(ram: &mut [u16], setup: Setup, width: u32, height: u32, flow: Fl
 fn worth_a_block(n: usize, words: u32) -> bool
     ensures { λ worth. ⌜ (worth ≡ true → n ≤ pointerEnd) ⌝ }
 {
-    (n <= 262144) & (6 < words)
+    (n <= INDEX_END) & (6 < words)
 }
 
 // So many rows at a time as the test before it allows. Two words at least: one alone would be stored before the next is

@@ -3,7 +3,8 @@ ghost use mathlib.Core.Path.{_≡_};
 ghost use mathlib.Core.Bool.{true};
 ghost use Prim.Native.Nat.{_-_, _*_, _<_, _≤_};
 ghost use Rattle.word.specs.Pointer.{pointerEnd, nextRow};
-ghost use Rattle.word.specs.Inner.Even.{RowsInside, SpanInside};
+ghost use Rattle.word.specs.Inner.Even.{downward, RowsInside, SpanInside};
+use crate::pointer::DOWNWARD;
 use crate::pointer::POINTER_END;
 use crate::types::Direction;
 use crate::types::Pointer;
@@ -30,7 +31,7 @@ pub fn stride(direction: Direction, width: u32, modulo: u32) -> u32
 
 // How far from the first row the last one starts, each so many words from the one before it.
 fn distance(rows: u32, words: u32) -> u32
-    requires { ⌜ (1 ≤ rows) × (rows ≤ 1024) × (words ≤ 131072) ⌝ }
+    requires { ⌜ (1 ≤ rows) × (rows ≤ 1024) × (words ≤ downward) ⌝ }
     ensures { λ far. ⌜ (far ≡ (rows - 1) * words) × (far ≤ 134086656) ⌝ }
 {
     (rows - 1) * words
@@ -52,7 +53,7 @@ fn span_inside(n: u32, direction: Direction, width: u32, lowest: u32, highest: u
     }
 }
 
-// A stride of 131,072 or more is one downward. No pointer leaves memory of 262,144 words, and a row of one word doesn't
+// No pointer leaves memory of 262,144 words, and a row of one word doesn't
 // go round.
 pub fn evenly_inside(
     n: usize,
@@ -77,7 +78,7 @@ pub fn evenly_inside(
     let end = reached(n);
     let start = pointer.word;
     let words = stride(direction, width, modulo);
-    if words < 131072 {
+    if words < DOWNWARD {
         let far = distance(rows, words);
         return span_inside(end, direction, width, start, start + far);
     }

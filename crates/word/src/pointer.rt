@@ -9,6 +9,14 @@ use crate::types::Pointer;
 // The words that a pointer reaches.
 pub const POINTER_END: u32 = 262144;
 
+// A stride of so many words or more leads down.
+pub const DOWNWARD: u32 = POINTER_END / 2;
+
+// The same two as indices.
+pub const INDEX_END: usize = POINTER_END as usize;
+
+pub const INDEX_DOWNWARD: usize = DOWNWARD as usize;
+
 // The pointer of two registers.
 pub fn pointer(high: u16, low: u16) -> Pointer
     ensures { λ made. ⌜ made ≡ pointer high low ⌝ }

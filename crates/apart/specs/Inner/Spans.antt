@@ -5,6 +5,7 @@ use mathlib.Core.Bool.{Bool, true}
 use Rattle.word.specs.declared.types.Direction.{Direction}
 use Rattle.word.specs.declared.types.Direction.the-variants.{Ascending, Descending}
 use Rattle.word.specs.declared.types.Pointer.{Pointer}
+use Rattle.word.specs.Inner.Even.{downward}
 use Rattle.word.specs.Pointer.{pointerEnd, nextRow}
 use Rattle.area.specs.declared.types.Setup.{Setup}
 use Rattle.area.specs.declared.types.Flow.{Flow}
@@ -26,8 +27,8 @@ pub record Spans (n : ℕ) (direction : Direction) (width far from height low hi
   pub inside : EvenRows n direction width far from height
   pub lowest : (row word : ℕ) → row < height → word < width → low ≤ placeIn direction (rowAt far from row) word
   pub highest : (row word : ℕ) → row < height → word < width → placeIn direction (rowAt far from row) word ≤ high
-  pub up : far < 131072 → (row : ℕ) → row < height → rowAt far from row ≡ from + row * far
-  pub down : 131072 ≤ far → (row : ℕ) → row < height → rowAt far from row + row * (pointerEnd - far) ≡ from
+  pub up : far < downward → (row : ℕ) → row < height → rowAt far from row ≡ from + row * far
+  pub down : downward ≤ far → (row : ℕ) → row < height → rowAt far from row + row * (pointerEnd - far) ≡ from
 
 -- no word is fetched where one of the span of words before it was stored
 unfoldable pub Clear : Direction → (width height farD farX fromD fromX span : ℕ) → Type 0

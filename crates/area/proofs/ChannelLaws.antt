@@ -40,16 +40,6 @@ unfolding oneWord storedBefore storePending wait moveOn finishedWord finish fetc
 oneWord-without-d setup width remaining now idle =
     memoryWith-of-unused (setup .uses .d) (now .flow .pointers .d .word) (finishedWord setup width remaining now .word) (storePending now .memory) idle
 
--- the word before it is stored
-pub oneWord-memory : (setup : Setup) (width remaining : ℕ) (now : State) → oneWord setup width remaining now .memory ≡ storePending now .memory
-unfolding oneWord storedBefore storePending finishedWord finish fetch
-oneWord-memory setup width remaining now = refl
-
-pub oneWord-moves-a : (setup : Setup) (width remaining : ℕ) (now : State) → setup .uses .a ≡ true
-    → oneWord setup width remaining now .flow .pointers .a ≡ moved (setup .direction) (now .flow .pointers .a)
-unfolding oneWord storedBefore storePending wait moveOn finishedWord finish fetch
-oneWord-moves-a setup width remaining now uses = stepped-of-used (setup .direction) (setup .uses .a) (now .flow .pointers .a) uses
-
 pub oneWord-moves-d : (setup : Setup) (width remaining : ℕ) (now : State) → setup .uses .d ≡ true
     → oneWord setup width remaining now .flow .pointers .d ≡ moved (setup .direction) (now .flow .pointers .d)
 unfolding oneWord storedBefore storePending wait moveOn finishedWord finish fetch

@@ -5,6 +5,5 @@ pub mod StoreLaws
 pub mod RowsLaws
 pub mod CountLaws
 pub mod ChannelLaws
-pub mod CopyLaws
 pub mod SixteenBitsLaws
 pub mod EarlyLaws

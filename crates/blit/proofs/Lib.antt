@@ -3,5 +3,6 @@ pub mod BlitLaws
 pub mod OnlyDChanges
 pub mod OneAnswer
 pub mod UnusedStay
+pub mod CopyOfARectangle
 pub mod CopyOfOneRow
 pub mod AcceptedAgain

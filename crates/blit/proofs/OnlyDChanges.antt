@@ -33,7 +33,7 @@ among-of-append word (touched ∷ first) rest =
     ∙ sym (or-assoc (eqb touched word) (among word first) (among word rest))
 
 module _ (setup : Setup) (uses : setup .uses .d ≡ true) (width word : ℕ) where
-  pub words-change-no-other : (remaining : ℕ) (now : State) → among word (rowTouches (setup .direction) remaining (now .flow .pointers .d)) ≡ false
+  words-change-no-other : (remaining : ℕ) (now : State) → among word (rowTouches (setup .direction) remaining (now .flow .pointers .d)) ≡ false
       → getD (storePending (words setup width remaining now) .memory) word 0 ≡ getD (storePending now .memory) word 0
   unfolding repeated rowTouches among
   words-change-no-other zero now apart = refl

@@ -4,5 +4,6 @@ pub mod Blit
 pub mod OnlyDChanges
 pub mod UnusedStay
 pub mod CopyOfOneRow
+pub mod CopyOfARectangle
 pub mod AcceptedAgain
 pub mod OneAnswer

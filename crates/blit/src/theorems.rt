@@ -2,6 +2,7 @@
 ghost use Rattle.blit.specs.OnlyDChanges.{OnlyDChanges, WithoutDNothingChanges};
 ghost use Rattle.blit.specs.UnusedStay.{UnusedStay};
 ghost use Rattle.blit.specs.CopyOfOneRow.{CopyOfOneRow};
+ghost use Rattle.blit.specs.CopyOfARectangle.{CopyOfARectangle};
 ghost use Rattle.blit.specs.AcceptedAgain.{AcceptedAgain};
 ghost use Rattle.blit.specs.OneAnswer.{OneAnswer, OneStepAnswer};
 
@@ -19,6 +20,10 @@ pub fn unused_stay()
 
 pub fn copy_of_one_row()
     ensures { λ _. ⌜ CopyOfOneRow ⌝ }
+{}
+
+pub fn copy_of_a_rectangle()
+    ensures { λ _. ⌜ CopyOfARectangle ⌝ }
 {}
 
 pub fn accepted_again()

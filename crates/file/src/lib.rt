@@ -48,12 +48,18 @@ pub const COLOUR_0: u32 = 20;
 pub const FLAG: u32 = 52;
 
 // The place of the register with an offset; the flag's where none has it. The offsets lie in runs, each two above the
-// one before: a test where a run begins, and one where it ends.
+// one before: a test where a run begins, and one where it ends. The colours, which lists write most, are tried first.
 pub fn place(offset: u16) -> u32
     ensures { λ found. ⌜ found ≡ place offset ⌝ }
 {
     let half = (offset / 2) as u32;
     if offset % 2 == 1 {
+        return FLAG;
+    }
+    if 0x180 <= offset {
+        if offset <= 0x1BE {
+            return half - 0x0C0 + COLOUR_0;
+        }
         return FLAG;
     }
     if offset < 0x040 {
@@ -77,19 +83,22 @@ pub fn place(offset: u16) -> u32
     if offset <= 0x074 {
         return half - 0x038 + SOURCE_C;
     }
-    if offset < 0x180 {
-        return FLAG;
-    }
-    if offset <= 0x1BE {
-        return half - 0x0C0 + COLOUR_0;
-    }
     FLAG
 }
 
-// The bits that are kept at a place of the file; none past its end.
+// The bits that are kept at a place of the file; none past its end. The colours' come first, as in `place`.
 fn bits(place: u32) -> u16
     ensures { λ found. ⌜ found ≡ getD keptBits place 0 ⌝ }
 {
+    if COLOUR_0 <= place {
+        if place < FLAG {
+            return 0x0FFF;
+        }
+        if place == FLAG {
+            return 0x0001;
+        }
+        return 0;
+    }
     if place < POINTER_C {
         return 0xFFFF;
     }
@@ -105,16 +114,7 @@ fn bits(place: u32) -> u16
     if place < COPCON {
         return 0xFFFF;
     }
-    if place < COLOUR_0 {
-        return 0x0002;
-    }
-    if place < FLAG {
-        return 0x0FFF;
-    }
-    if place == FLAG {
-        return 0x0001;
-    }
-    0
+    0x0002
 }
 
 // What a register keeps of a value; nothing past the file's end.

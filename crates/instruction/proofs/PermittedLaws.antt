@@ -1,9 +1,11 @@
 -- Laws of the offsets that a MOVE may write: their parts.
 use mathlib.Core.Path.{_≡_}
-use Prim.Native.Nat.{ℕ, _/_, _%_}
-use mathlib.Core.Bool.{Bool, _&&_, _||_}
+use Prim.Native.Nat.{ℕ, _/_, _%_, _<_, _≤_}
+use native.Mathlib.Omega.{arith}
+use mathlib.Core.Bool.{Bool, true, false, _||_}
 use mathlib.Core.List.{List}
-use lib.Dec.{eqb, leb, ltb}
+use borrow.Author.Tests.{le-leb, lt-leb}
+use lib.Dec.{eqb, ltb}
 use lib.ListN.{getD}
 use Rattle.file.specs.Places.{copcon, flag}
 use Rattle.file.specs.File.{place, isRegister}
@@ -13,10 +15,18 @@ pub danger-of-word : (file : List ℕ) (word : ℕ) → word ≡ getD file copco
 unfolding danger
 danger-of-word file word reads = rw reads
 
-pub permitted-of-danger : (file : List ℕ) (offset : ℕ) (set : Bool) → set ≡ danger file
-    → (leb 0x080 offset || (leb 0x040 offset && set)) ≡ permitted file offset
+pub permitted-from-080 : (file : List ℕ) (offset : ℕ) → 0x080 ≤ offset → true ≡ permitted file offset
 unfolding permitted
-permitted-of-danger file offset set same = rw same
+permitted-from-080 file offset high = rw (le-leb 0x080 offset high)
+
+pub permitted-below-040 : (file : List ℕ) (offset : ℕ) → offset < 0x040 → false ≡ permitted file offset
+unfolding permitted
+permitted-below-040 file offset low = rw (lt-leb 0x080 offset (omega arith), lt-leb 0x040 offset low)
+
+pub permitted-of-danger : (file : List ℕ) (offset : ℕ) (set : Bool) → offset < 0x080 → 0x040 ≤ offset → set ≡ danger file
+    → set ≡ permitted file offset
+unfolding permitted
+permitted-of-danger file offset set below from same = rw (lt-leb 0x080 offset below, le-leb 0x040 offset from) same
 
 pub modelled-of-place : (offset found : ℕ) → found ≡ place offset → (eqb offset sizeOffset || ltb found flag) ≡ modelled offset
 unfolding modelled isRegister

@@ -16,7 +16,13 @@ fn danger(file: &[u16]) -> bool
 pub fn permitted(file: &[u16], offset: u16) -> bool
     ensures { λ may. ⌜ may ≡ permitted (now (file .entry)) offset ⌝ }
 {
-    (0x080 <= offset) | ((0x040 <= offset) & danger(file))
+    if 0x080 <= offset {
+        return true;
+    }
+    if offset < 0x040 {
+        return false;
+    }
+    danger(file)
 }
 
 // An offset whose place in the register file has been found.

@@ -6,11 +6,11 @@ use crate::types::Instruction;
 pub fn instruction(first: u16, second: u16) -> Instruction
     ensures { λ found. ⌜ found ≡ instruction first second ⌝ }
 {
-    if first % 2 == 0 {
-        return Instruction::Move(first & 0x01FE, second);
-    }
-    if second % 2 == 0 {
+    if first % 2 == 1 {
+        if second % 2 == 1 {
+            return Instruction::Skip(first, second);
+        }
         return Instruction::Wait(first, second);
     }
-    Instruction::Skip(first, second)
+    Instruction::Move(first & 0x01FE, second)
 }

@@ -1,17 +1,21 @@
--- Laws of a blit's words as a sequence: their numbers, and where a channel stands.
+-- Laws of a blit's words as a sequence: their numbers, where a channel stands, and words laid in order.
 use mathlib.Core.Path.{_≡_, refl, sym, ap, _∙_}
 use Prim.Native.Nat.{ℕ, zero, suc, _+_, _*_, _/_, _%_, _<_}
 use native.Mathlib.Nat.{mul-add-div-right, mul-add-mod-self-right, mod-eq-of-lt, div-eq-of-lt}
+use native.Mathlib.Decide.{decLt}
 use native.Mathlib.Omega.{arith}
 use mathlib.Core.Bool.{Bool, true, false}
+use mathlib.Core.List.{List}
 use borrow.Author.Tests.{ne-eqb, eq-eqb}
 use lib.Dec.{eqb}
+use lib.ListN.{length, getD, set, length-set}
+use lib.Seq.{getD-set-other, getD-set-same}
 use Rattle.word.specs.declared.types.Direction.{Direction}
 use Rattle.word.specs.declared.types.Pointer.{Pointer}
 use Rattle.word.specs.Repeat.{repeated}
 use Rattle.word.specs.Pointer.{moved, nextRow}
 use Rattle.area.specs.Move.{stepped, turned}
-use Rattle.quiet.specs.Stream.{standing}
+use Rattle.quiet.specs.Stream.{standing, laidAt}
 
 -- one step more comes last as well as first
 pub repeated-last : {State : Type 0} (step : State → State) (n : ℕ) (state : State)
@@ -66,3 +70,27 @@ pub is-last : (remaining word width : ℕ) → remaining + 1 + word ≡ width �
 is-last zero word width all = sym (eq-eqb (word + 1) width (omega arith))
 is-last (suc remaining) word width all =
     ne-eqb (suc remaining) 0 (λ same. absurd (omega arith)) ∙ sym (ne-eqb (word + 1) width (λ same. absurd (omega arith)))
+
+-- words laid at different places inside memory are found there
+laidAt-keeps-length : (place word : ℕ → ℕ) (n : ℕ) (memory : List ℕ) → length (laidAt place word n memory) ≡ length memory
+unfolding laidAt
+laidAt-keeps-length place word zero memory = refl
+laidAt-keeps-length place word (suc n) memory =
+    length-set (laidAt place word n memory) (place n) (word n) ∙ laidAt-keeps-length place word n memory
+
+pub laidAt-found : (place word : ℕ → ℕ) (n : ℕ) (memory : List ℕ)
+    → ((k : ℕ) → k < n → place k < length memory) → ((i j : ℕ) → i < n → j < i → place i ≡ place j → ⊥)
+    → (k : ℕ) → k < n → getD (laidAt place word n memory) (place k) 0 ≡ word k
+unfolding laidAt
+laidAt-found place word zero memory inside apart k within = absurd (omega arith)
+laidAt-found place word (suc n) memory inside apart k within =
+    by-order (decLt k n) (laidAt-found place word n memory (λ i below. inside i (omega arith)) (λ i j below. apart i j (omega arith)) k)
+  where
+    by-order : Dec (k < n) → (k < n → getD (laidAt place word n memory) (place k) 0 ≡ word k)
+        → getD (set (laidAt place word n memory) (place n) (word n)) (place k) 0 ≡ word k
+    by-order (yes earlier) before =
+        getD-set-other (laidAt place word n memory) (place n) (place k) (word n) 0 (λ same. apart n k (omega arith) earlier (sym same)) ∙ before earlier
+    by-order (no later) before =
+        let last : k ≡ n = omega arith in
+        rw last
+        (getD-set-same (laidAt place word n memory) (place n) (word n) 0 (rw (laidAt-keeps-length place word n memory) (inside n (omega arith))))

@@ -1,4 +1,4 @@
--- `file::bits` meets its contract: the tests go up through the runs of places that keep the same bits.
+-- `file::bits` meets its contract: the colours and the flag first, then the tests go up through the runs of places that keep the same bits.
 use mathlib.Core.Path.{_≡_, sym}
 use Prim.Native.Nat.{ℕ, _+_, _*_, _-_, _/_, _%_, _<_, _≤_}
 use native.Mathlib.Omega.{arith}
@@ -46,31 +46,31 @@ bits-at-end place from other =
     let past : fileLength ≤ place = omega (arith, from, other) in sym (List·getD-eq-default keptBits 0 past)
 
 returns : tie.Need-returns
-returns c = search bits-of-control
+returns c = search keptBits-of-colour
 
 returns-2 : tie.Need-returns-2
-returns-2 c = search bits-of-high
+returns-2 c = search bits-of-flag
 
 returns-3 : tie.Need-returns-3
-returns-3 c = search bits-of-low
+returns-3 c = search bits-at-end
 
 returns-4 : tie.Need-returns-4
-returns-4 c = search bits-of-modulo
+returns-4 c = search bits-of-control
 
 returns-5 : tie.Need-returns-5
-returns-5 c = search bits-of-source
+returns-5 c = search bits-of-high
 
 returns-6 : tie.Need-returns-6
-returns-6 c = search bits-of-copcon
+returns-6 c = search bits-of-low
 
 returns-7 : tie.Need-returns-7
-returns-7 c = search keptBits-of-colour
+returns-7 c = search bits-of-modulo
 
 returns-8 : tie.Need-returns-8
-returns-8 c = search bits-of-flag
+returns-8 c = search bits-of-source
 
 returns-9 : tie.Need-returns-9
-returns-9 c = search bits-at-end
+returns-9 c = search bits-of-copcon
 
 pub bits-spec : {M : Type 1} → statement M
 bits-spec =

@@ -1,4 +1,4 @@
--- `file::place` meets its contract: the tests go up through the runs of offsets and the gaps between them.
+-- `file::place` meets its contract: the colours' run first, then the tests go up through the others and the gaps between them.
 use mathlib.Core.Path.{_≡_}
 use Prim.Native.Nat.{ℕ, _+_, _-_, _/_, _%_, _<_, _≤_}
 use native.Mathlib.Omega.{arith}
@@ -63,34 +63,34 @@ returns : tie.Need-returns
 returns c = search place-when-odd
 
 returns-2 : tie.Need-returns-2
-returns-2 c = search place-of-copcon
+returns-2 c = search place-of-colour
 
 returns-3 : tie.Need-returns-3
-returns-3 c = search place-when-low
+returns-3 c = search place-past-colours
 
 returns-4 : tie.Need-returns-4
-returns-4 c = search place-of-control
+returns-4 c = search place-of-copcon
 
 returns-5 : tie.Need-returns-5
-returns-5 c = search place-past-pointers
+returns-5 c = search place-when-low
 
 returns-6 : tie.Need-returns-6
-returns-6 c = search place-of-modulo
+returns-6 c = search place-of-control
 
 returns-7 : tie.Need-returns-7
-returns-7 c = search place-past-modulos
+returns-7 c = search place-past-pointers
 
 returns-8 : tie.Need-returns-8
-returns-8 c = search place-of-source
+returns-8 c = search place-of-modulo
 
 returns-9 : tie.Need-returns-9
-returns-9 c = search place-past-data
+returns-9 c = search place-past-modulos
 
 returns-10 : tie.Need-returns-10
-returns-10 c = search place-of-colour
+returns-10 c = search place-of-source
 
 returns-11 : tie.Need-returns-11
-returns-11 c = search place-past-colours
+returns-11 c = search place-past-data
 
 pub place-spec : {M : Type 1} → statement M
 place-spec =
@@ -98,12 +98,12 @@ place-spec =
     (tie.spec
     (λ c. search needs)
     returns
+    (λ c. search needs)
+    (λ c. search needs)
     returns-2
     returns-3
-    (λ c. search needs)
     returns-4
     returns-5
-    (λ c. search needs)
     (λ c. search needs)
     returns-6
     returns-7

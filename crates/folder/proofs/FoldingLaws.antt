@@ -1,13 +1,12 @@
 -- Laws of a folding: what is refused before the first step, and what is known of one that is done.
 use mathlib.Core.Path.{_≡_, refl, sym, ap, _∙_}
-use Prim.Native.Nat.{ℕ, _≤_, _<_}
-use native.Mathlib.Decide.{decLt}
+use Prim.Native.Nat.{ℕ, _≤_}
 use native.Mathlib.Omega.{arith}
 use mathlib.Core.Bool.{Bool, true, false, not}
-use mathlib.Core.List.{List, [], _∷_}
-use borrow.Author.Tests.{lt-leb}
+use mathlib.Core.List.{List, [], _∷_, _++_}
 use lib.Dec.{eqb, leb}
-use lib.ListN.{length}
+use lib.ListN.{length, take, drop}
+use lib.Seq.{take-at}
 use Rattle.word.specs.Choice.{if_then_else_, given}
 use Rattle.word.proofs.ChoiceLaws.{or-left, or-right, within-when-passed}
 use Rattle.word.specs.Memory.{memorySize}
@@ -20,8 +19,8 @@ use Rattle.folder.specs.declared.types.Answer.{Answer}
 use Rattle.folder.specs.Fold.{fold}
 use Rattle.folder.specs.Folding.{Folding, refused, done, startRefusal, tooLong, byStep, folding}
 use Rattle.folder.specs.Answer.{refusalNumber, left}
-use Rattle.word.specs.Laid.{laid}
-use Rattle.word.proofs.LaidLaws.{laid-in-front}
+use Rattle.folder.specs.Inner.Folded.{Folded}
+use Rattle.word.proofs.LaidLaws.{laid-in-front, laid-as-long}
 
 -- a refusal's number is never 0
 pub refusalNumber-positive : (why : Refusal) → refusalNumber why ≡ 0 → ⊥
@@ -83,6 +82,28 @@ byStep-when-refused words out (one ∷ rest) some =
     by-test after true some = after some
     by-test after false some = refl
 
+-- what is handed out has room
+module _ (n : ℕ) (job out start run : List ℕ) (answer : Answer) (folded : Folded n job out start answer run)
+    (words : ℕ) (same : answer ≡ Answer.Done words) where
+  fits-when-done : Fits (fold n job) out (byStep (fold n job) out (steps job))
+  fits-when-done =
+      let does : left (Answer.Done words) (byStep (fold n job) out (steps job) .out) ≡ byStep (fold n job) out (steps job) = rw same at (folded .gives) in
+      byStep-when-done (fold n job) out (steps job) (sym (ap (λ (end : Folding). end .number) does))
+
+  long-when-done : words ≡ length (fold n job)
+  long-when-done =
+      let does : left (Answer.Done words) (byStep (fold n job) out (steps job) .out) ≡ byStep (fold n job) out (steps job) = rw same at (folded .gives) in
+      ap (λ (end : Folding). end .long) (does ∙ fits-when-done .gives)
+
+  pub room-when-done : words ≤ length out
+  room-when-done = let room = fits-when-done .room in let counted = long-when-done in omega arith
+
+  pub run-when-done : length start ≡ jobMost → words ≤ length run
+  run-when-done room =
+      let few = fits-when-done .few in
+      let counted = long-when-done in
+      omega (arith, laid-as-long (fold n job) 0 jobMost start run (folded .lays) room)
+
 -- what is refused before the first step, one after the other
 module _ (n : ℕ) (job out : List ℕ) (bad : Bool) (of-bad : bad ≡ memorySize n) where
   pub folding-by-memory : bad ≡ true → left (Answer.Refused Refusal.MemorySize 0) out ≡ folding n job out
@@ -98,33 +119,24 @@ module _ (n : ℕ) (job out : List ℕ) (bad : Bool) (of-bad : bad ≡ memorySiz
     unfolding folding startRefusal given
     by-steps short = rw (← of-bad, taken, ← of-long, short)
 
-    module _ (short : long ≡ false) (answer : Answer)
-        (gives : left answer (byStep (fold n job) out (steps job) .out) ≡ byStep (fold n job) out (steps job)) where
+    module _ (short : long ≡ false) (answer : Answer) (start run : List ℕ) (folded : Folded n job out start answer run) where
       pub folding-by-refused : (why : Refusal) (place : ℕ) → answer ≡ Answer.Refused why place
           → left (Answer.Refused why place) out ≡ folding n job out
       folding-by-refused why place same =
-          let does : left (Answer.Refused why place) (byStep (fold n job) out (steps job) .out) ≡ byStep (fold n job) out (steps job) = rw same at gives in
+          let does : left (Answer.Refused why place) (byStep (fold n job) out (steps job) .out) ≡ byStep (fold n job) out (steps job) = rw same at (folded .gives) in
           let stays = byStep-when-refused (fold n job) out (steps job)
           (λ none. refusalNumber-positive why (ap (λ (end : Folding). end .number) does ∙ none)) in
           ap (λ (o : List ℕ). left (Answer.Refused why place) o) (sym stays) ∙ does ∙ by-steps short
 
-      pub folding-by-done : (words : ℕ) (next : List ℕ) → answer ≡ Answer.Done words → next ≡ laid (fold n job) 0 out
-          → left (Answer.Done words) next ≡ folding n job out
-      folding-by-done words next same lays =
-          let does : left (Answer.Done words) (byStep (fold n job) out (steps job) .out) ≡ byStep (fold n job) out (steps job) = rw same at gives in
-          let fits = byStep-when-done (fold n job) out (steps job) (sym (ap (λ (end : Folding). end .number) does)) in
-          let front : next ≡ byStep (fold n job) out (steps job) .out =
-          lays ∙ laid-in-front (fold n job) out (fits .room) ∙ sym (ap (λ (end : Folding). end .out) (fits .gives)) in
-          ap (λ (o : List ℕ). left (Answer.Done words) o) front ∙ does ∙ by-steps short
-
--- what the writing may rest on
-module _ (n : ℕ) (job out : List ℕ) (answer : Answer)
-    (gives : left answer (byStep (fold n job) out (steps job) .out) ≡ byStep (fold n job) out (steps job))
-    (words : ℕ) (same : answer ≡ Answer.Done words) where
-  pub lawful-when-done : byStep (fold n job) out (steps job) .number ≡ 0
-  lawful-when-done =
-      let does : left (Answer.Done words) (byStep (fold n job) out (steps job) .out) ≡ byStep (fold n job) out (steps job) = rw same at gives in
-      sym (ap (λ (end : Folding). end .number) does)
-
-  pub few-when-done : length (fold n job) ≤ jobMost
-  few-when-done = byStep-when-done (fold n job) out (steps job) lawful-when-done .few
+      pub folding-by-done : (words : ℕ) (next : List ℕ) → length start ≡ jobMost → answer ≡ Answer.Done words
+          → next ≡ take words run ++ drop words out → left (Answer.Done words) next ≡ folding n job out
+      folding-by-done words next room same hands =
+          let fits = fits-when-done n job out start run answer folded words same in
+          let few = fits .few in
+          let counted = long-when-done n job out start run answer folded words same in
+          let front : take words run ≡ fold n job =
+          ap (λ (list : List ℕ). take words list) (folded .lays ∙ laid-in-front (fold n job) start (omega arith))
+          ∙ take-at (fold n job) (drop (length (fold n job)) start) words (sym counted) in
+          let all : next ≡ fold n job ++ drop (length (fold n job)) out =
+          hands ∙ ap (λ (list : List ℕ). list ++ drop words out) front ∙ ap (λ (count : ℕ). fold n job ++ drop count out) counted in
+          rw (all, counted) (sym (fits .gives) ∙ by-steps short)

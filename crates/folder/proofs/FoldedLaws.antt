@@ -12,6 +12,7 @@ use lib.ListN.{length, drop, length-append}
 use borrow.Author.Tests.{lt-leb, le-leb, ne-eqb}
 use Rattle.word.specs.Choice.{if_then_else_, given}
 use Rattle.word.specs.Laid.{laid}
+use Rattle.word.proofs.ChoiceLaws.{or-left, or-right, within-when-passed}
 use Rattle.word.proofs.LaidLaws.{laid-of-append, laid-as-long}
 use Rattle.job.specs.declared.types.Refusal as jobs
 use Rattle.job.specs.Step as jobs-numbers
@@ -27,10 +28,9 @@ use Rattle.knowledge.specs.Knowledge.{nothing}
 use Rattle.folder.specs.declared.types.Refusal.{Refusal}
 use Rattle.folder.specs.declared.types.Answer.{Answer}
 use Rattle.folder.specs.Fold.{becomes, learned, rawWords, piece, learnedAfter, foldSteps, foldFrom, fold}
-use Rattle.folder.specs.Folding.{Folding, refused, done, tooLong, byStep}
-use Rattle.folder.specs.Answer.{left}
+use Rattle.folder.specs.Folding.{refused, done, tooLong, byStep}
 use Rattle.folder.specs.Inner.Put.{Put}
-use Rattle.folder.specs.Inner.Folded.{Folded}
+use Rattle.folder.specs.Inner.Folded.{Answers, Folded}
 
 -- the length tested last of all
 abbrev pub fitting : (words room : ℕ) → Answer
@@ -74,26 +74,34 @@ module _ (n : ℕ) (job out start : List ℕ) (known : List Known) (at from : �
     (stands : Stands n job out start known at from run) where
   -- the end of the list
   at-last : (answer : Answer) → stepsAt job from ≡ [] → answer ≡ fitting at (length out) → Folded n job out start answer run
-  unfolding byStep tooLong foldSteps laid
+  unfolding byStep tooLong foldSteps laid Answers
   at-last answer none fits =
       let all : at ≡ length (fold n job) = omega (arith, ap (λ (list : List Placed). length (foldSteps n known job list)) none, stands .counts) in
       let ends : byStep (fold n job) out [] ≡ byStep (fold n job) out (steps job) =
       sym (ap (λ (list : List Placed). byStep (fold n job) out list) none) ∙ stands .gives in
       record {
-        gives =
-            ap (λ (end : Folding). left answer (end .out)) (sym ends)
-            ∙ ap (λ (this : Answer). left this (byStep (fold n job) out [] .out)) (fits ∙ ap (λ (long : ℕ). fitting long (length out)) all)
-            ∙ by-test (not (leb (length (fold n job)) (length out)) || not (leb (length (fold n job)) jobMost))
-            ∙ ends;
+        answers = rw (← ends, fits, all) (by-test (far || long) refl);
         lays = sym (ap (λ (list : List Placed). laid (foldSteps n known job list) at run) none) ∙ stands .lays;
       }
     where
-      by-test : (long : Bool)
-          → left (if long then Answer.Refused Refusal.TooLong 0 else Answer.Done (length (fold n job)))
-          ((if long then refused 11 0 out else done (fold n job) out) .out)
-          ≡ (if long then refused 11 0 out else done (fold n job) out)
-      by-test true = refl
-      by-test false = refl
+      far : Bool
+      far = not (leb (length (fold n job)) (length out))
+
+      long : Bool
+      long = not (leb (length (fold n job)) jobMost)
+
+      by-test : (over : Bool) → far || long ≡ over
+          → Answers (if over then Answer.Refused Refusal.TooLong 0 else Answer.Done (length (fold n job))) (fold n job) out
+          (if over then refused 11 0 out else done (fold n job) out)
+      by-test true is = refl
+      by-test false is = (
+        record {
+          counts = refl;
+          room = within-when-passed (length (fold n job)) (length out) (or-left far long is);
+          few = within-when-passed (length (fold n job)) jobMost (or-right far long is);
+        },
+        refl,
+      )
 
   pub folded-at-end : (answer : Answer) → length job ≤ from → answer ≡ fitting at (length out) → Folded n job out start answer run
   folded-at-end answer past fits = at-last answer (steps-at-end job from past) fits
@@ -107,16 +115,14 @@ module _ (n : ℕ) (job out start : List ℕ) (known : List Known) (at from : �
 
     -- what is no step is refused with its own number, at its place, and becomes nothing
     pub folded-of-fault : (why : jobs.Refusal) → read ≡ Read.Refused why → Folded n job out start (Answer.Refused (Refusal.Step why) from) run
-    unfolding byStep readNumber given foldSteps piece laid
+    unfolding byStep readNumber given foldSteps piece laid Answers
     folded-of-fault why same =
         let alone = steps-of-refused job from why (sym reads ∙ same) in
         let number : 0 < jobs-numbers.refusalNumber why = readNumber-of-refused why in
         let some : eqb (jobs-numbers.refusalNumber why) 0 ≡ false = ne-eqb (jobs-numbers.refusalNumber why) 0 (λ none. omega (arith, number, none)) in
-        let here : left (Answer.Refused (Refusal.Step why) from) out ≡ byStep (fold n job) out (placed from (Read.Refused why) ∷ []) = rw some in
-        let whole : left (Answer.Refused (Refusal.Step why) from) out ≡ byStep (fold n job) out (steps job) =
-        here ∙ sym (ap (λ (list : List Placed). byStep (fold n job) out list) alone) ∙ stands .gives in
+        let here : byStep (fold n job) out (placed from (Read.Refused why) ∷ []) ≡ refused (jobs-numbers.refusalNumber why) from out = rw some in
         record {
-          gives = ap (λ (end : Folding). left (Answer.Refused (Refusal.Step why) from) (end .out)) (sym whole) ∙ whole;
+          answers = sym (stands .gives) ∙ ap (λ (list : List Placed). byStep (fold n job) out list) alone ∙ here;
           lays = sym (ap (λ (list : List Placed). laid (foldSteps n known job list) at run) alone) ∙ stands .lays;
         }
 

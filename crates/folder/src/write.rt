@@ -127,7 +127,7 @@ fn ended(words: u32, out: &[u16]) -> Answer
     Answer::Done(words as usize)
 }
 
-// Lays the folded job into a run, and answers what its folding into the output gives. Past the run's end nothing is laid.
+// Lays the folded job into a run, as far as that goes, and answers what its folding into the output gives.
 pub fn folded(n: usize, job: &[u16], out: &[u16], run: &mut [u16]) -> Answer
     requires { ⌜ length (now job) ≤ jobMost ⌝ }
     ensures { λ answer. ⌜

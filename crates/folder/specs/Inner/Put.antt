@@ -1,4 +1,4 @@
--- What laying a step leaves: its words in the run, how many they are, and what is known after it. raw are its own words.
+-- What laying a step leaves: what it becomes, in the run, how many words that are, and what is known after it.
 use Prim.Native.Nat.{ℕ, _≤_}
 use mathlib.Core.Path.{_≡_}
 use mathlib.Core.List.{List}
@@ -8,8 +8,9 @@ use Rattle.job.specs.declared.types.Step.{Step}
 use Rattle.knowledge.specs.declared.types.Known.{Known}
 use Rattle.folder.specs.Fold.{becomes, learned}
 
--- a settled blit has at most 64 stores of three words each, four words for the pointer and one for the flag
-pub record Put (n : ℕ) (known : List Known) (step : Step) (raw : List ℕ) (at : ℕ) (run next : List ℕ) (long : ℕ) (after : List Known) : Type 0 where
+-- raw are the step's own words. A settled blit has at most 64 stores of three words, and five words behind them.
+pub record Put (n : ℕ) (known : List Known) (step : Step) (raw : List ℕ) (at : ℕ)
+    (run next : List ℕ) (long : ℕ) (after : List Known) : Type 0 where
   pub lays : next ≡ laid (becomes n known step raw) at run
   pub counts : long ≡ length (becomes n known step raw)
   pub few : long ≤ 197

@@ -1,27 +1,26 @@
--- Laws of a folding: what is refused before the first step, and what is known of one that is done.
-use mathlib.Core.Path.{_≡_, refl, sym, ap, _∙_}
-use Prim.Native.Nat.{ℕ, _≤_, _<_}
-use native.Mathlib.Decide.{decLt}
+-- Laws of a folding: what is refused before the first step, and what is handed out of one that is done.
+use mathlib.Core.Path.{_≡_, sym, ap, _∙_}
+use Prim.Native.Nat.{ℕ, _≤_}
 use native.Mathlib.Omega.{arith}
 use mathlib.Core.Bool.{Bool, true, false, not}
-use mathlib.Core.List.{List, [], _∷_}
-use borrow.Author.Tests.{lt-leb}
-use lib.Dec.{eqb, leb}
-use lib.ListN.{length}
-use Rattle.word.specs.Choice.{if_then_else_, given}
-use Rattle.word.proofs.ChoiceLaws.{or-left, or-right, within-when-passed}
+use mathlib.Core.List.{List, _++_}
+use lib.Dec.{leb}
+use lib.ListN.{length, take, drop}
+use lib.Seq.{take-at}
+use Rattle.word.specs.Choice.{given}
+use Rattle.word.proofs.ChoiceLaws.{or-right, within-when-passed}
 use Rattle.word.specs.Memory.{memorySize}
 use Rattle.job.specs.Step.{readNumber}
 use Rattle.job.proofs.StepsLaws.{readNumber-of-refused}
-use Rattle.job.specs.Steps.{Placed, steps}
+use Rattle.job.specs.Steps.{steps}
 use Rattle.job.specs.Length.{jobMost, jobLength}
 use Rattle.folder.specs.declared.types.Refusal.{Refusal}
 use Rattle.folder.specs.declared.types.Answer.{Answer}
 use Rattle.folder.specs.Fold.{fold}
-use Rattle.folder.specs.Folding.{Folding, refused, done, startRefusal, tooLong, byStep, folding}
+use Rattle.folder.specs.Folding.{done, startRefusal, tooLong, byStep, folding}
 use Rattle.folder.specs.Answer.{refusalNumber, left}
-use Rattle.word.specs.Laid.{laid}
-use Rattle.word.proofs.LaidLaws.{laid-in-front}
+use Rattle.folder.specs.Inner.Folded.{Fits, Answers, Folded}
+use Rattle.word.proofs.LaidLaws.{laid-in-front, laid-as-long}
 
 -- a refusal's number is never 0
 pub refusalNumber-positive : (why : Refusal) → refusalNumber why ≡ 0 → ⊥
@@ -36,52 +35,18 @@ unfolding tooLong
 tooLong-when-few words out is =
     within-when-passed (length words) jobMost (or-right (not (leb (length words) (length out))) (not (leb (length words) jobMost)) is)
 
--- what is known of a folding by its number
-pub record Fits (words out : List ℕ) (end : Folding) : Type 0 where
-  pub gives : end ≡ done words out
-  pub room : length words ≤ length out
-  pub few : length words ≤ jobMost
+-- what is handed out has room
+module _ (n : ℕ) (job out start run : List ℕ) (answer : Answer) (folded : Folded n job out start answer run)
+    (long : ℕ) (same : answer ≡ Answer.Done long) where
+  when-done : Fits (fold n job) out long × (byStep (fold n job) out (steps job) ≡ done (fold n job) out)
+  unfolding Answers
+  when-done = rw same at (folded .answers)
 
-pub byStep-when-done : (words out : List ℕ) (list : List Placed) → byStep words out list .number ≡ 0 → Fits words out (byStep words out list)
-unfolding byStep tooLong
-byStep-when-done words out [] none = by-test (tooLong words out) refl none
-  where
-    by-test : (long : Bool) → tooLong words out ≡ long → (if long then refused 11 0 out else done words out) .number ≡ 0
-        → Fits words out (if long then refused 11 0 out else done words out)
-    by-test true is none = absurd (omega arith)
-    by-test false is none =
-        record {
-          gives = refl;
-          room = within-when-passed (length words) (length out) (or-left (not (leb (length words) (length out))) (not (leb (length words) jobMost)) is);
-          few = tooLong-when-few words out is;
-        }
-byStep-when-done words out (one ∷ rest) none =
-    by-test (λ later. byStep-when-done words out rest later) (eqb (readNumber (one .read)) 0) refl none
-  where
-    by-test : (byStep words out rest .number ≡ 0 → Fits words out (byStep words out rest)) → (fine : Bool) → eqb (readNumber (one .read)) 0 ≡ fine
-        → (if fine then byStep words out rest else refused (readNumber (one .read)) (one .place) out) .number ≡ 0
-        → Fits words out (if fine then byStep words out rest else refused (readNumber (one .read)) (one .place) out)
-    by-test after true is none = after none
-    by-test after false is none =
-        let no : true ≡ false = sym (ap (λ (number : ℕ). eqb number 0) none) ∙ is in
-        let n : _≡_ {A = ℕ} 0 1 = cc in absurd (omega arith)
+  pub room-when-done : long ≤ length out
+  room-when-done = when-done .0 .room
 
-pub byStep-when-refused : (words out : List ℕ) (list : List Placed) → (byStep words out list .number ≡ 0 → ⊥) → byStep words out list .out ≡ out
-unfolding byStep
-byStep-when-refused words out [] some = by-test (tooLong words out) some
-  where
-    by-test : (long : Bool) → ((if long then refused 11 0 out else done words out) .number ≡ 0 → ⊥)
-        → (if long then refused 11 0 out else done words out) .out ≡ out
-    by-test true some = refl
-    by-test false some = absurd (some refl)
-byStep-when-refused words out (one ∷ rest) some =
-    by-test (λ later. byStep-when-refused words out rest later) (eqb (readNumber (one .read)) 0) some
-  where
-    by-test : ((byStep words out rest .number ≡ 0 → ⊥) → byStep words out rest .out ≡ out) → (fine : Bool)
-        → ((if fine then byStep words out rest else refused (readNumber (one .read)) (one .place) out) .number ≡ 0 → ⊥)
-        → (if fine then byStep words out rest else refused (readNumber (one .read)) (one .place) out) .out ≡ out
-    by-test after true some = after some
-    by-test after false some = refl
+  pub run-when-done : length start ≡ jobMost → long ≤ length run
+  run-when-done room = omega (arith, when-done .0 .few, laid-as-long (fold n job) 0 jobMost start run (folded .lays) room)
 
 -- what is refused before the first step, one after the other
 module _ (n : ℕ) (job out : List ℕ) (bad : Bool) (of-bad : bad ≡ memorySize n) where
@@ -98,33 +63,18 @@ module _ (n : ℕ) (job out : List ℕ) (bad : Bool) (of-bad : bad ≡ memorySiz
     unfolding folding startRefusal given
     by-steps short = rw (← of-bad, taken, ← of-long, short)
 
-    module _ (short : long ≡ false) (answer : Answer)
-        (gives : left answer (byStep (fold n job) out (steps job) .out) ≡ byStep (fold n job) out (steps job)) where
+    module _ (short : long ≡ false) (answer : Answer) (start run : List ℕ) (folded : Folded n job out start answer run) where
       pub folding-by-refused : (why : Refusal) (place : ℕ) → answer ≡ Answer.Refused why place
           → left (Answer.Refused why place) out ≡ folding n job out
-      folding-by-refused why place same =
-          let does : left (Answer.Refused why place) (byStep (fold n job) out (steps job) .out) ≡ byStep (fold n job) out (steps job) = rw same at gives in
-          let stays = byStep-when-refused (fold n job) out (steps job)
-          (λ none. refusalNumber-positive why (ap (λ (end : Folding). end .number) does ∙ none)) in
-          ap (λ (o : List ℕ). left (Answer.Refused why place) o) (sym stays) ∙ does ∙ by-steps short
+      unfolding Answers
+      folding-by-refused why place same = sym (rw same at (folded .answers)) ∙ by-steps short
 
-      pub folding-by-done : (words : ℕ) (next : List ℕ) → answer ≡ Answer.Done words → next ≡ laid (fold n job) 0 out
-          → left (Answer.Done words) next ≡ folding n job out
-      folding-by-done words next same lays =
-          let does : left (Answer.Done words) (byStep (fold n job) out (steps job) .out) ≡ byStep (fold n job) out (steps job) = rw same at gives in
-          let fits = byStep-when-done (fold n job) out (steps job) (sym (ap (λ (end : Folding). end .number) does)) in
-          let front : next ≡ byStep (fold n job) out (steps job) .out =
-          lays ∙ laid-in-front (fold n job) out (fits .room) ∙ sym (ap (λ (end : Folding). end .out) (fits .gives)) in
-          ap (λ (o : List ℕ). left (Answer.Done words) o) front ∙ does ∙ by-steps short
-
--- what the writing may rest on
-module _ (n : ℕ) (job out : List ℕ) (answer : Answer)
-    (gives : left answer (byStep (fold n job) out (steps job) .out) ≡ byStep (fold n job) out (steps job))
-    (words : ℕ) (same : answer ≡ Answer.Done words) where
-  pub lawful-when-done : byStep (fold n job) out (steps job) .number ≡ 0
-  lawful-when-done =
-      let does : left (Answer.Done words) (byStep (fold n job) out (steps job) .out) ≡ byStep (fold n job) out (steps job) = rw same at gives in
-      sym (ap (λ (end : Folding). end .number) does)
-
-  pub few-when-done : length (fold n job) ≤ jobMost
-  few-when-done = byStep-when-done (fold n job) out (steps job) lawful-when-done .few
+      pub folding-by-done : (long : ℕ) (next : List ℕ) → length start ≡ jobMost → answer ≡ Answer.Done long
+          → next ≡ take long run ++ drop long out → left (Answer.Done long) next ≡ folding n job out
+      folding-by-done long next room same hands =
+          let done = when-done n job out start run answer folded long same in
+          let counts = done .0 .counts in
+          let front : take long run ≡ fold n job =
+          ap (λ (list : List ℕ). take long list) (folded .lays ∙ laid-in-front (fold n job) start (omega (arith, done .0 .few)))
+          ∙ take-at (fold n job) (drop (length (fold n job)) start) long (sym counts) in
+          rw (hands, front, counts) (sym (done .1) ∙ by-steps short)

@@ -1,6 +1,5 @@
 -- The laws of the folder.
-pub mod PieceLaws
-pub mod MeasureLaws
-pub mod WriteLaws
+pub mod PutLaws
+pub mod FoldedLaws
 pub mod FoldingLaws
 pub mod OneAnswerLaws

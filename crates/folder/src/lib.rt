@@ -1,7 +1,5 @@
 // The folder: blits whose outcome the job alone settles become stores, and all else is copied.
 pub mod answer;
-mod measure;
-mod piece;
 pub mod theorems;
 pub mod types;
 mod write;
@@ -25,10 +23,11 @@ pub fn fold(n: usize, job: &[u16], out: &mut [u16]) -> Answer
     if job::length::job_length(job) {
         return Answer::Refused(Refusal::JobLength, 0);
     }
-    let answer = crate::measure::measure(n, job, out);
+    let mut run = [0u16; job::length::JOB_MOST];
+    let answer = crate::write::folded(n, job, out, &mut run);
     match answer {
         Answer::Done(long) => {
-            crate::write::write(n, job, out);
+            crate::write::handed(&run, long, out);
             Answer::Done(long)
         }
         Answer::Refused(why, place) => Answer::Refused(why, place),

@@ -1,6 +1,5 @@
 -- `folder::write::put_blit` meets its contract: the words of the known numbers' file, and where the blit leaves D's pointer.
-use Rattle.folder.proofs.PieceLaws.{settled-known-of-parts}
-use Rattle.folder.proofs.WriteLaws.{put-blit-of-parts}
+use Rattle.folder.proofs.PutLaws.{put-blit-of-parts, settled-known-of-parts}
 use borrow.Author.Needs.{needs}
 use Rattle.folder.proofs.write.put_blit.Statement.{statement}
 use Rattle.folder.proofs.write.put_blit.Tie as tie

@@ -1,6 +1,5 @@
 -- `folder::write::put_size` meets its contract, settled or kept.
-use Rattle.folder.proofs.PieceLaws.{pieceLength-when-settled, learned-when-settled, pieceLength-when-kept, learned-when-kept}
-use Rattle.folder.proofs.WriteLaws.{few-when-settled, put-when-settled, put-when-kept}
+use Rattle.folder.proofs.PutLaws.{few-when-settled, put-when-settled, put-when-kept}
 use borrow.Author.Needs.{needs}
 use Rattle.folder.proofs.write.put_size.Statement.{statement}
 use Rattle.folder.proofs.write.put_size.Tie as tie
@@ -9,10 +8,10 @@ put-blit-requires : tie.Need-put-blit-requires
 put-blit-requires c κs = search (needs, few-when-settled)
 
 returns : tie.Need-returns
-returns c = (search put-when-settled, search pieceLength-when-settled, search learned-when-settled)
+returns c = search put-when-settled
 
 returns-2 : tie.Need-returns-2
-returns-2 c = (search put-when-kept, search pieceLength-when-kept, search learned-when-kept)
+returns-2 c = search put-when-kept
 
 pub put-size-spec : {M : Type 1} → statement M
 put-size-spec =

@@ -1,6 +1,5 @@
 -- `folder::write::put_step` meets its contract, by the kind of the step.
-use Rattle.folder.proofs.PieceLaws.{pieceLength-of-register, learned-of-register, pieceLength-of-size, learned-of-size, pieceLength-of-store, learned-of-store, pieceLength-of-flag, learned-of-flag}
-use Rattle.folder.proofs.WriteLaws.{put-of-register, put-of-size, put-of-store, put-of-flag, inside-of-register, inside-of-size, inside-of-store, inside-of-flag}
+use Rattle.folder.proofs.PutLaws.{put-of-register, put-of-size, put-of-store, put-of-flag, inside-of-register, inside-of-size, inside-of-store, inside-of-flag}
 use borrow.Author.Needs.{needs}
 use Rattle.folder.proofs.write.put_step.Statement.{statement}
 use Rattle.folder.proofs.write.put_step.Tie as tie
@@ -18,16 +17,16 @@ put-copied-requires-3 : tie.Need-put-copied-requires-3
 put-copied-requires-3 c κs = search (needs, inside-of-flag)
 
 returns : tie.Need-returns
-returns c = (search put-of-register, search pieceLength-of-register, search learned-of-register)
+returns c = search put-of-register
 
 returns-2 : tie.Need-returns-2
-returns-2 c = (search (needs, put-of-size), search (needs, pieceLength-of-size), search (needs, learned-of-size))
+returns-2 c = search put-of-size
 
 returns-3 : tie.Need-returns-3
-returns-3 c = (search put-of-store, search pieceLength-of-store, search learned-of-store)
+returns-3 c = search put-of-store
 
 returns-4 : tie.Need-returns-4
-returns-4 c = (search put-of-flag, search pieceLength-of-flag, search learned-of-flag)
+returns-4 c = search put-of-flag
 
 pub put-step-spec : {M : Type 1} → statement M
 put-step-spec =

@@ -1,7 +1,7 @@
--- `folder::measure::ended` meets its contract, test by test.
-use Rattle.folder.proofs.MeasureLaws.{fitting-beyond-room, fitting-beyond-most, fitting-inside}
-use Rattle.folder.proofs.measure.ended.Statement.{statement}
-use Rattle.folder.proofs.measure.ended.Tie as tie
+-- `folder::write::ended` meets its contract, test by test.
+use Rattle.folder.proofs.FoldedLaws.{fitting-beyond-room, fitting-beyond-most, fitting-inside}
+use Rattle.folder.proofs.write.ended.Statement.{statement}
+use Rattle.folder.proofs.write.ended.Tie as tie
 
 returns : tie.Need-returns
 returns c = search fitting-beyond-room

@@ -1,4 +1,5 @@
-// The instruction that two words are.
+// The instruction that two words are. The two kinds with an odd first word stand under one test, so that the compiler
+// keeps each way a branch of its own and doesn't ask for the kind again.
 ghost use mathlib.Core.Path.{_≡_};
 ghost use Rattle.instruction.specs.Instruction.{instruction};
 use crate::types::Instruction;

@@ -1,6 +1,6 @@
 -- Laws of two channels' words: where D's lie apart from a source's, go along behind them, or are so many rows ahead.
-use mathlib.Core.Path.{_≡_, refl, sym, ap, subst, _∙_}
-use Prim.Native.Nat.{ℕ, zero, suc, _+_, _-_, _*_, _/_, _%_, _<_, _≤_}
+use mathlib.Core.Path.{_≡_, refl, sym, ap, _∙_}
+use Prim.Native.Nat.{ℕ, suc, _+_, _-_, _*_, _/_, _%_, _<_, _≤_}
 use native.Mathlib.Nat.{mul-le-mul-right, suc-mul, add-mul, mod-lt, div-add-mod', div-lt-iff-lt-mul, le-div-iff-mul-le}
 use native.Mathlib.Decide.{decLt}
 use native.Mathlib.Omega.{arith}
@@ -10,7 +10,7 @@ use Rattle.word.specs.declared.types.Direction.{Direction}
 use Rattle.word.specs.declared.types.Direction.the-variants.{Ascending, Descending}
 use Rattle.word.specs.Pointer.{pointerEnd}
 use Rattle.word.specs.Inner.Even.{downward, RowInside}
-use Rattle.block.specs.Inner.Place.{rowAt, placeIn, placeAt, EvenRows}
+use Rattle.block.specs.Inner.Place.{placeIn, placeAt, EvenRows}
 use Rattle.block.proofs.EachLaws.{never}
 use Rattle.apart.specs.Inner.Spans.{Spans, Clear, Told}
 

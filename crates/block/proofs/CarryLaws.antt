@@ -14,9 +14,9 @@ use Rattle.word.specs.Fill.{carry, exclusive, filled}
 use Rattle.word.proofs.FillLaws.{doubled, prefix, exclusive-is-prefix, carry-lt, carry-is-top-bit}
 use Rattle.quiet.specs.Words.{wordBefore, carryTo, filledAt}
 use Rattle.quiet.proofs.StreamLaws.{word-of}
-use Rattle.block.specs.Inner.Each.{at, Each, Kept, Laid, prefixAt, filledWordAt}
+use Rattle.block.specs.Inner.Each.{Each, Kept, Laid, prefixAt, filledWordAt}
 use Rattle.block.specs.Inner.Carry.{filledIn, overIn, overAt, RowFilled, RowsFilled}
-use Rattle.block.proofs.EachLaws.{laid-none, laid-turn, laid-fewer, kept-here, each-none, each-of-laid}
+use Rattle.block.proofs.EachLaws.{laid-none, laid-turn, kept-here, each-none, each-of-laid}
 
 -- a carry turns a prefix over
 exclusive-carried : (start this : ℕ) → this < 65536 → bitXor (exclusive 0 this) (start % 2 * 65535) ≡ exclusive start this

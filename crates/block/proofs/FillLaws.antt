@@ -1,23 +1,21 @@
 -- Laws of the fill of a block's rows: with the carries along, either way of filling.
 use mathlib.Core.Path.{_≡_, refl, sym, ap, _∙_}
-use Prim.Native.Nat.{ℕ, zero, suc, _+_, _-_, _*_, _%_, _<_, _≤_}
+use Prim.Native.Nat.{ℕ, zero, suc, _-_, _*_, _%_, _<_, _≤_}
 use native.Mathlib.Numerals.{sub-one}
 use native.Mathlib.Omega.{arith}
 use mathlib.Core.Bool.{Bool, true, false}
 use mathlib.Core.List.{List}
 use lib.Bits.{bitOr}
 use lib.Dec.{eqb}
-use lib.ListN.{length, getD, set}
+use lib.ListN.{getD}
 use Rattle.word.specs.declared.types.Fill.{Fill}
 use Rattle.word.specs.declared.types.Fill.the-variants.{Off, Inclusive, Exclusive}
-use Rattle.word.specs.declared.types.Filled.{Filled}
 use Rattle.word.specs.Choice.{if_then_else_}
-use Rattle.word.specs.Fill.{carry, exclusive, inclusive, filled}
+use Rattle.word.specs.Fill.{carry, filled}
 use Rattle.word.proofs.FillLaws.{carry-lt, inclusive-is-or}
 use Rattle.quiet.specs.Words.{wordBefore, carryTo, filledAt}
 use Rattle.block.specs.Inner.Each.{at, Each, prefixAt, eitherAt, filledWordAt}
 use Rattle.block.specs.Inner.Carry.{overAt, RowsFilled}
-use Rattle.block.proofs.EachLaws.{each-fewer, each-same}
 
 -- no fill
 carryTo-off : (start width k : ℕ) (word : ℕ → ℕ) → carryTo Off start width word k ≡ start

@@ -4,7 +4,6 @@ use Prim.Native.Nat.{ℕ}
 use mathlib.Core.Bool.{Bool, true, false, _&&_, _||_}
 use mathlib.Core.List.{List}
 use lib.ListN.{getD}
-use Rattle.word.specs.Logic.{logic}
 use Rattle.word.proofs.ChoiceLaws.{or-left, or-right}
 use Rattle.quiet.specs.Words.{mixedAt}
 use Rattle.block.specs.declared.types.Needs.{Needs}

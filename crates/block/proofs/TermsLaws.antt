@@ -1,6 +1,6 @@
 -- Laws of the logic function as a sum: on single bits it is computed for all functions and settings, and words go bit by bit.
 use mathlib.Core.Path.{_≡_, refl, sym, _∙_}
-use Prim.Native.Nat.{ℕ, _+_, _*_, _/_, _%_, _^_, _<_, _≤_}
+use Prim.Native.Nat.{ℕ, _+_, _*_, _/_, _%_, _^_, _<_}
 use native.Mathlib.Omega.{arith}
 use mathlib.Core.Bool.{Bool}
 use lib.Bits.{bitAnd, bitXor, xor-lt, and-le-r, and-zero-l, xor-zero-r}

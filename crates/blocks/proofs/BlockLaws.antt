@@ -3,7 +3,7 @@ use mathlib.Core.Path.{_≡_, refl, sym, ap, _∙_}
 use Prim.Native.Nat.{ℕ, zero, suc, _+_, _-_, _*_, _<_, _≤_}
 use native.Mathlib.Numerals.{sub-one}
 use native.Mathlib.Omega.{arith}
-use mathlib.Core.Bool.{Bool, true, false, _&&_}
+use mathlib.Core.Bool.{Bool, true, false}
 use mathlib.Core.List.{List}
 use lib.Dec.{eqb}
 use lib.ListN.{getD}
@@ -12,19 +12,18 @@ use Rattle.word.specs.declared.types.Pointer.{Pointer}
 use Rattle.word.specs.declared.types.Filled.{Filled}
 use Rattle.word.specs.Choice.{if_then_else_, every}
 use Rattle.word.specs.Pointer.{pointerEnd}
-use Rattle.area.specs.declared.types.Pointers.{Pointers}
 use Rattle.area.specs.declared.types.Sources.{Sources}
 use Rattle.area.specs.declared.types.Earlier.{Earlier}
 use Rattle.area.specs.declared.types.Setup.{Setup}
 use Rattle.area.specs.declared.types.Flow.{Flow}
-use Rattle.area.specs.Flow.{State, state, nothing}
+use Rattle.area.specs.Flow.{state, nothing}
 use Rattle.area.specs.Fetch.{fetched}
 use Rattle.area.specs.Rows.{areaBlit}
 use Rattle.quiet.specs.Words.{wordBefore, maskedAt, mixedAt, resultAt, finalAt}
 use Rattle.quiet.specs.Stream.{standingAt, atA, atB, atC, atD, wordA, wordB, wordC, finals, finalWord, laidAt}
-use Rattle.quiet.specs.Quiet.{Unmet, Quiet, memoryAfter, pointersIn, flowAfter}
+use Rattle.quiet.specs.Quiet.{Unmet, Quiet, memoryAfter, flowAfter}
 use Rattle.quiet.proofs.QuietLaws.{quiet-blit}
-use Rattle.block.specs.Inner.Each.{at, Each, levelAt, finalWordAt, nought}
+use Rattle.block.specs.Inner.Each.{at, Each, finalWordAt, nought}
 use Rattle.block.specs.Inner.Place.{rowAt, placeAt, fetchedAt}
 use Rattle.block.proofs.PlaceLaws.{laidAt-same}
 use Rattle.apart.specs.declared.types.Strides.{Strides}

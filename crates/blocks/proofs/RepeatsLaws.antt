@@ -1,18 +1,16 @@
 -- Laws of a blit that uses no source and doesn't fill: a block that stands ready is that block, and what it leaves stands ready for the next.
 use mathlib.Core.Path.{_≡_, refl, sym, ap, subst, _∙_}
-use Prim.Native.Nat.{ℕ, zero, suc, _+_, _-_, _*_, _%_, _<_, _≤_}
+use Prim.Native.Nat.{ℕ, zero, suc, _+_, _-_, _*_, _<_, _≤_}
 use native.Mathlib.Nat.{zero-mul, suc-mul, mul-le-mul-right}
 use native.Mathlib.Decide.{decLt}
 use native.Mathlib.Omega.{arith}
-use mathlib.Core.Bool.{Bool, true, false, _&&_, _||_}
+use mathlib.Core.Bool.{Bool, true, false, _&&_}
 use mathlib.Core.List.{List}
 use lib.Dec.{T, eqb}
 use lib.ListN.{getD}
 use Rattle.word.specs.declared.types.Pointer.{Pointer}
 use Rattle.word.specs.declared.types.Filled.{Filled}
-use Rattle.word.specs.declared.types.Fill.the-variants.{Off}
 use Rattle.word.specs.Choice.{every}
-use Rattle.word.proofs.ChoiceLaws.{or-left, or-right}
 use Rattle.area.specs.declared.types.Masks.{Masks}
 use Rattle.area.specs.declared.types.Earlier.{Earlier}
 use Rattle.area.specs.declared.types.Sources.{Sources}
@@ -20,8 +18,8 @@ use Rattle.area.specs.declared.types.Setup.{Setup}
 use Rattle.area.specs.declared.types.Flow.{Flow}
 use Rattle.area.specs.Flow.{State, state}
 use Rattle.area.specs.Fetch.{fetched}
-use Rattle.quiet.specs.Words.{wordBefore, maskedAt, mixedAt, resultAt, finalAt}
-use Rattle.quiet.specs.Stream.{atA, atB, atC, wordA, wordB, wordC, finals, finalWord}
+use Rattle.quiet.specs.Words.{maskedAt, mixedAt, resultAt, finalAt}
+use Rattle.quiet.specs.Stream.{atA, atB, atC, wordA, wordB, wordC, finalWord}
 use Rattle.quiet.specs.Quiet.{memoryAfter, flowAfter}
 use Rattle.quiet.proofs.StreamLaws.{word-of}
 use Rattle.block.specs.Inner.Each.{at, Each, levelAt, finalWordAt, nought}
@@ -29,7 +27,7 @@ use Rattle.block.proofs.EachLaws.{each-fewer}
 use Rattle.block.proofs.FillLaws.{carry-of-off}
 use Rattle.apart.specs.declared.types.Strides.{Strides}
 use Rattle.blocks.specs.declared.types.Made.{Made}
-use Rattle.blocks.specs.Inner.Rests.{givenAt, Rests, AllRest, Given}
+use Rattle.blocks.specs.Inner.Rests.{Rests, AllRest, Given}
 use Rattle.blocks.specs.Inner.Repeats.{Still, stillAt, lastOf, Ready, Finished, Repeating}
 use Rattle.blocks.proofs.FinalsLaws.{shiftedAt-same, filledAt-same}
 use Rattle.blocks.proofs.GivenLaws.{given-rests, given-level, given-idle}

@@ -1,9 +1,9 @@
 -- Block by block: so many rows on, a blit is placed and apart as it was, and what is left of it leads to the same end.
-use mathlib.Core.Path.{_≡_, refl, sym, ap, subst, _∙_}
+use mathlib.Core.Path.{_≡_, refl, sym, ap, _∙_}
 use Prim.Native.Nat.{ℕ, zero, suc, _+_, _-_, _*_, _/_, _%_, _<_, _≤_}
-use native.Mathlib.Nat.{mul-le-mul, add-mul, mul-le-mul-right, mul-add-div-right, mul-add-mod-self-right, add-assoc}
+use native.Mathlib.Nat.{mul-le-mul, add-mul, mul-le-mul-right, mul-add-div-right, mul-add-mod-self-right}
 use native.Mathlib.Omega.{arith}
-use mathlib.Core.Bool.{Bool, true, false, _&&_}
+use mathlib.Core.Bool.{Bool, true, false}
 use mathlib.Core.List.{List}
 use lib.ListN.{length}
 use Rattle.word.specs.declared.types.Direction.{Direction}
@@ -19,7 +19,7 @@ use Rattle.area.specs.Store.{storePending}
 use Rattle.area.specs.Rows.{areaBlit}
 use Rattle.area.proofs.RowsLaws.{areaBlit-keeps-length}
 use Rattle.area.proofs.EarlyLaws.{storePending-of-nothing}
-use Rattle.quiet.specs.Stream.{standing, standingAt, atA, atB, atC, atD}
+use Rattle.quiet.specs.Stream.{standing, standingAt}
 use Rattle.quiet.specs.Quiet.{Quiet, memoryAfter, pointersIn, flowAfter}
 use Rattle.quiet.proofs.StreamLaws.{row-of, word-of}
 use Rattle.quiet.proofs.QuietLaws.{quiet-blit}

@@ -2,21 +2,18 @@
 -- fetches that word first.
 use mathlib.Core.Path.{_≡_, refl, sym, ap, _∙_}
 use Prim.Native.Nat.{ℕ, zero, suc, _+_, _-_, _*_, _≤_}
-use native.Mathlib.Nat.{add-zero, add-suc, zero-add, suc-add}
+use native.Mathlib.Nat.{add-zero, zero-add, suc-add}
 use native.Mathlib.Omega.{arith}
-use mathlib.Core.Bool.{Bool, true}
+use mathlib.Core.Bool.{true}
 use mathlib.Core.List.{List}
-use Rattle.word.specs.declared.types.Pointer.{Pointer}
 use Rattle.word.specs.Repeat.{repeated}
-use Rattle.area.specs.declared.types.Pending.{Pending}
-use Rattle.area.specs.declared.types.Pointers.{Pointers}
 use Rattle.area.specs.declared.types.Setup.{Setup}
 use Rattle.area.specs.declared.types.Flow.{Flow}
 use Rattle.area.specs.Flow.{State, state, nothing}
 use Rattle.area.specs.Store.{storePending}
 use Rattle.area.specs.Rows.{oneRow, rows, areaBlit}
 use Rattle.area.proofs.EarlyLaws.{Clear, oneRow-early, storePending-again}
-use Rattle.quiet.specs.Stream.{standing, atD}
+use Rattle.quiet.specs.Stream.{atD}
 use Rattle.quiet.specs.Quiet.{Quiet, pointersIn}
 use Rattle.quiet.proofs.QuietLaws.{rows-pointers, rows-pending}
 

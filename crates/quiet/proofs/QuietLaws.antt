@@ -1,7 +1,7 @@
 -- A quiet blit's words are those of the sequence: the definition's own steps lead from each to the next.
 use mathlib.Core.Path.{_≡_, refl, sym, ap, _∙_}
 use Prim.Native.Nat.{ℕ, zero, suc, _+_, _-_, _*_, _/_, _%_, _<_, _≤_}
-use native.Mathlib.Nat.{suc-mul, mul-le-mul-right, add-zero}
+use native.Mathlib.Nat.{suc-mul, mul-le-mul-right}
 use native.Mathlib.Numerals.{sub-one}
 use native.Mathlib.Omega.{arith}
 use mathlib.Core.Bool.{Bool, true, false, _&&_}
@@ -25,8 +25,8 @@ use Rattle.area.specs.Move.{stepped, moveOn, rowEnd}
 use Rattle.area.proofs.StoreLaws.{memoryWith-of-used, memoryWith-of-unused}
 use Rattle.area.specs.Rows.{finishedWord, storedBefore, oneWord, words, rowStart, oneRow, rows, areaBlit}
 use Rattle.quiet.specs.Words.{wordBefore, maskedAt, shiftedAt, mixedAt, resultAt, carryTo, filledAt}
-use Rattle.quiet.specs.Stream.{standing, atA, atB, atC, atD, wordA, wordB, wordC, finals, finalWord, laidAt}
-use Rattle.quiet.specs.Quiet.{Unmet, Quiet, memoryAfter, pointersIn, flowAfter, QuietBlit}
+use Rattle.quiet.specs.Stream.{atA, atB, atC, atD, wordA, wordB, wordC, finals, finalWord, laidAt}
+use Rattle.quiet.specs.Quiet.{Unmet, Quiet, pointersIn, QuietBlit}
 use Rattle.quiet.proofs.StreamLaws.{row-of, word-of, standing-steps, standing-turns, standing-starts, is-first, is-last}
 
 -- a store elsewhere

@@ -1,6 +1,5 @@
 -- `apart::rows_at_once` meets its contract: each source leaves as many rows as the one before it, or fewer.
 use native.Mathlib.Omega.{arith}
-use Rattle.area.specs.Rows.{rows}
 use Rattle.apart.proofs.ApartLaws.{moves-lt, rows-room, all-apart, not-false}
 use borrow.Author.Needs.{needs}
 use Rattle.apart.proofs.rows_at_once.Statement.{statement}

@@ -1,6 +1,5 @@
 -- `engine::area_blit` meets its contract: by blocks or word by word, as the test says.
 use native.Mathlib.Omega.{arith}
-use Rattle.word.specs.Size.{width, height}
 use Rattle.area.specs.Rows.{rows}
 use Rattle.engine.proofs.EngineLaws.{words-le, one-row}
 use borrow.Author.Needs.{needs}

@@ -2,10 +2,8 @@
 use Prim.Native.Nat.{_+_, _*_, _<_}
 use lib.ListN.{length}
 use mathlib.Core.Path.{_≡_}
-use Rattle.word.specs.Size.{width, height}
 use Rattle.area.specs.Flow.{state}
 use Rattle.area.specs.Rows.{rows}
-use Rattle.area.specs.Setup.{setup}
 use Rattle.word.proofs.RepeatLaws.{repeated-done}
 use Rattle.engine.proofs.EngineLaws.{goes-on}
 use borrow.Author.Needs.{needs}

@@ -1,5 +1,4 @@
 -- `apart::calm::calm_evenly` meets its contract, by the direction.
-use Rattle.word.specs.Choice.{given}
 use Rattle.apart.proofs.ClearLaws.{evenly-when}
 use borrow.Author.Needs.{needs}
 use Rattle.apart.proofs.calm.calm_evenly.Statement.{statement}

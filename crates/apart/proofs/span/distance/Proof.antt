@@ -1,8 +1,6 @@
 -- `apart::span::distance` meets its contract.
 use mathlib.Core.Path.{refl}
 use native.Mathlib.Omega.{arith}
-use Rattle.word.specs.Size.{height}
-use Rattle.area.specs.Rows.{words}
 use Rattle.apart.proofs.SpanLaws.{distance-le}
 use borrow.Author.Needs.{needs}
 use Rattle.apart.proofs.span.distance.Statement.{statement}

@@ -1,7 +1,6 @@
 -- `apart::span::span_down` meets its contract: the first row and the last tell.
 use mathlib.Core.Path.{sym}
 use native.Mathlib.Omega.{arith}
-use Rattle.apart.specs.Inner.Spans.{below, above}
 use Rattle.block.proofs.EachLaws.{never}
 use Rattle.apart.proofs.SpanLaws.{span-downward}
 use borrow.Author.Needs.{needs}

@@ -4,10 +4,6 @@ use lib.ListN.{length}
 use mathlib.Core.Path.{_≡_, refl}
 use native.Mathlib.Omega.{arith}
 use Rattle.word.specs.Pointer.{pointerEnd}
-use Rattle.word.specs.Size.{width}
-use Rattle.area.specs.Flow.{start}
-use Rattle.area.specs.Rows.{rows}
-use Rattle.area.specs.Setup.{direction}
 use Rattle.block.specs.Inner.Each.{Each}
 use Rattle.block.specs.Inner.Place.{rowAt, fetchedAt}
 use Rattle.block.proofs.EachLaws.{each-none, s-room, s-next, each-fewer, s-done}

@@ -3,9 +3,6 @@ use Prim.Native.Nat.{_-_, _≤_, _+_}
 use lib.ListN.{length}
 use mathlib.Core.Path.{_≡_}
 use native.Mathlib.Omega.{arith}
-use Rattle.word.specs.Size.{width}
-use Rattle.area.specs.Flow.{start}
-use Rattle.area.specs.Move.{turned}
 use Rattle.block.specs.Inner.Carry.{RowFilled}
 use Rattle.block.specs.Inner.Each.{Kept}
 use Rattle.block.proofs.CarryLaws.{row-filled-none, row-filled-turn, row-filled-done}

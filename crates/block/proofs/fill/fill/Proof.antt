@@ -1,6 +1,4 @@
 -- `block::fill::fill` meets its contract, by the kind of fill.
-use Rattle.word.specs.Choice.{given}
-use Rattle.word.specs.Fill.{exclusive}
 use Rattle.block.proofs.FillLaws.{fill-of-off, carry-of-off, fill-of-inclusive, carry-of-inclusive, fill-of-exclusive, carry-of-exclusive}
 use borrow.Author.Needs.{needs}
 use Rattle.block.proofs.fill.fill.Statement.{statement}

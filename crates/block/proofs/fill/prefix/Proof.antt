@@ -1,5 +1,4 @@
 -- `block::fill::prefix` meets its contract: an exclusive fill from nought.
-use Rattle.word.specs.Fill.{filled}
 use Rattle.block.proofs.CarryLaws.{prefix-of-filled}
 use borrow.Author.Needs.{needs}
 use Rattle.block.proofs.fill.prefix.Statement.{statement}

@@ -6,7 +6,6 @@ use mathlib.Core.Path.{_≡_}
 use Rattle.word.specs.Fill.{exclusive}
 use Rattle.area.specs.Rows.{words}
 use Rattle.block.specs.Inner.Each.{Each, prefixAt, at}
-use Rattle.word.proofs.FillLaws.{prefix}
 use Rattle.block.proofs.EachLaws.{each-turn, each-none, each-fewer}
 use borrow.Author.Needs.{needs}
 use Rattle.block.proofs.fill.prefixes.Statement.{statement}

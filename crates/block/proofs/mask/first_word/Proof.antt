@@ -1,6 +1,5 @@
 -- `block::mask::first_word` meets its contract: what a slice of words holds are words.
 use native.Mathlib.Omega.{arith}
-use Rattle.word.specs.Choice.{given}
 use borrow.Author.Needs.{needs}
 use Rattle.block.proofs.mask.first_word.Statement.{statement}
 use Rattle.block.proofs.mask.first_word.Tie as tie

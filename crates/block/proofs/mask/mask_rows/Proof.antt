@@ -3,9 +3,6 @@ use Prim.Native.Nat.{_-_, _≤_, _*_}
 use lib.ListN.{length}
 use mathlib.Core.Path.{_≡_}
 use native.Mathlib.Omega.{arith}
-use Rattle.word.specs.Size.{width}
-use Rattle.area.specs.Rows.{rows}
-use Rattle.area.specs.Setup.{masks}
 use Rattle.quiet.specs.Words.{maskedAt}
 use Rattle.block.specs.Inner.Each.{Kept, Each, at}
 use Rattle.block.proofs.EachLaws.{kept-all, each-none, s-room, s-next, each-fewer, s-done}

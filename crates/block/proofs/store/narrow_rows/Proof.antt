@@ -1,6 +1,5 @@
 -- `block::store::narrow_rows` meets its contract: the width is one, two or three.
 use native.Mathlib.Omega.{arith}
-use Rattle.area.specs.Rows.{rows}
 use Rattle.block.proofs.PlaceLaws.{even-when, room-when, store-rows-when}
 use borrow.Author.Needs.{needs}
 use Rattle.block.proofs.store.narrow_rows.Statement.{statement}

@@ -3,9 +3,7 @@ use Prim.Native.Nat.{_-_, _≤_}
 use lib.ListN.{length}
 use mathlib.Core.Path.{_≡_}
 use native.Mathlib.Omega.{arith}
-use Rattle.word.specs.Size.{width}
 use Rattle.word.specs.declared.types.Direction.the-variants.{Descending}
-use Rattle.area.specs.Flow.{start}
 use Rattle.quiet.specs.Stream.{laidAt}
 use Rattle.block.specs.Inner.Each.{fromAt}
 use Rattle.block.specs.Inner.Place.{placeIn}

@@ -1,6 +1,6 @@
 -- `blocks::finals::finals` meets its contract: the results, then the fill.
 use mathlib.Core.Path.{refl}
-use Rattle.area.specs.Setup.{masks, fill}
+use Rattle.area.specs.Setup.{masks}
 use Rattle.blocks.proofs.FinalsLaws.{finals-are, finals-carry}
 use borrow.Author.Needs.{needs}
 use Rattle.blocks.proofs.finals.finals.Statement.{statement}

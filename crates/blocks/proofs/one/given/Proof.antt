@@ -1,5 +1,4 @@
 -- `blocks::one::given` meets its contract: fetched, or at rest.
-use Rattle.area.specs.Rows.{rows}
 use Rattle.blocks.proofs.GivenLaws.{given-plain, given-last, rests-not, given-level, given-idle}
 use borrow.Author.Needs.{needs}
 use Rattle.blocks.proofs.one.given.Statement.{statement}

@@ -1,5 +1,4 @@
 -- `blocks::one::given_a` meets its contract: fetched and masked, or at rest.
-use Rattle.area.specs.Rows.{rows}
 use Rattle.blocks.proofs.GivenLaws.{given-masked, given-last, rests-not, given-rests, given-idle}
 use borrow.Author.Needs.{needs}
 use Rattle.blocks.proofs.one.given_a.Statement.{statement}

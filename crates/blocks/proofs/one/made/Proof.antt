@@ -1,6 +1,5 @@
 -- `blocks::one::made` meets its contract: the words stand ready, or they are made. The facts are named, for `search` reads too few.
 use native.Mathlib.Omega.{arith}
-use Rattle.area.specs.Flow.{sources}
 use Rattle.blocks.proofs.BlockLaws.{rests-on}
 use Rattle.blocks.proofs.RepeatsLaws.{some-rows, finished-ready}
 use Rattle.blocks.proofs.one.made.Statement.{statement}

@@ -1,7 +1,6 @@
 -- `blocks::one::one_block` meets its contract: its words are those of a quiet blit of its rows. The facts are named, for `search` reads too few.
 use mathlib.Core.Path.{refl}
 use native.Mathlib.Omega.{arith}
-use Rattle.area.specs.Flow.{pointers}
 use Rattle.apart.proofs.PlacedLaws.{stride-lt}
 use Rattle.blocks.proofs.BlockLaws.{block-is}
 use Rattle.blocks.proofs.RepeatsLaws.{finished-still}

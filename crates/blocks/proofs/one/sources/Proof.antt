@@ -1,5 +1,4 @@
 -- `blocks::one::sources` meets its contract, source by source.
-use Rattle.word.specs.Choice.{given}
 use Rattle.apart.proofs.PlacedLaws.{stride-lt}
 use borrow.Author.Needs.{needs}
 use Rattle.blocks.proofs.one.sources.Statement.{statement}

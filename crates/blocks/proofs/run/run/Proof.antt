@@ -4,9 +4,6 @@ use lib.ListN.{length}
 use mathlib.Core.Path.{_≡_, refl}
 use native.Mathlib.Nat.{mul-le-mul-right}
 use native.Mathlib.Omega.{arith}
-use Rattle.word.specs.Size.{width, height}
-use Rattle.area.specs.Flow.{sources}
-use Rattle.area.specs.Setup.{setup}
 use Rattle.blocks.specs.Inner.Rests.{AllRest}
 use Rattle.blocks.specs.Inner.Repeats.{Repeating}
 use Rattle.blocks.proofs.RepeatsLaws.{repeating-starts, repeating-on, ready-of}

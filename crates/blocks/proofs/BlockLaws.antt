@@ -31,18 +31,18 @@ use Rattle.apart.specs.Inner.Placed.{Channel, Placed}
 use Rattle.apart.specs.Inner.Apart.{Apart, AllApart}
 use Rattle.apart.proofs.PlacedLaws.{channel-place, channel-rows}
 use Rattle.blocks.specs.declared.types.Made.{Made}
-use Rattle.blocks.specs.Inner.Rests.{givenAt, Rests, AllRest, givenA, givenB, givenC, Given}
-use Rattle.blocks.specs.Inner.Repeats.{Finished}
+use Rattle.blocks.specs.Inner.Rests.{suppliedAt, Rests, AllRest, suppliedA, suppliedB, suppliedC, Supplied}
+use Rattle.blocks.specs.Inner.Repeats.{MadeOf}
 use Rattle.blocks.proofs.FinalsLaws.{shiftedAt-same, filledAt-same}
 
 -- what a source gives is what the blit fetches
-given-fetched : (n : ℕ) (direction : Direction) (width rows modulo : ℕ) (used : Bool) (pointer : Pointer) (far : ℕ) → Channel n direction width rows modulo used pointer far
+supplied-fetched : (n : ℕ) (direction : Direction) (width rows modulo : ℕ) (used : Bool) (pointer : Pointer) (far : ℕ) → Channel n direction width rows modulo used pointer far
     → n ≤ pointerEnd → 1 ≤ width → width ≤ 64 → (memory : List ℕ) (source k : ℕ) → k < rows * width
-    → givenAt used direction width far (pointer .word) memory source k ≡ fetched used memory (standingAt direction used width modulo pointer k) source
-unfolding givenAt fetched fetchedAt
-given-fetched n direction width rows modulo true pointer far channel most some narrow memory source k below =
+    → suppliedAt used direction width far (pointer .word) memory source k ≡ fetched used memory (standingAt direction used width modulo pointer k) source
+unfolding suppliedAt fetched fetchedAt
+supplied-fetched n direction width rows modulo true pointer far channel most some narrow memory source k below =
     ap (λ (place : ℕ). getD memory place 0) (sym (channel-place n direction width rows modulo true pointer far channel most some narrow refl k below))
-given-fetched n direction width rows modulo false pointer far channel most some narrow memory source k below = refl
+supplied-fetched n direction width rows modulo false pointer far channel most some narrow memory source k below = refl
 
 -- no fetch meets a store of the same block
 unmet-apart : (stores used : Bool) (place fetches : ℕ → Pointer) (words : ℕ) → Apart stores used place fetches words words → Unmet stores used place fetches words
@@ -70,20 +70,20 @@ pub same-earlier : {a b a′ b′ : ℕ} → a ≡ a′ → b ≡ b′ → _≡_
 same-earlier first second = rw (first, second)
 
 module _ (n : ℕ) (setup : Setup) (width rows : ℕ) (far : Strides) (flow : Flow) (memory : List ℕ) (placed : Placed n setup width rows flow far) where
-  given-a : (k : ℕ) → k < rows * width → givenA setup width far flow memory k ≡ wordA setup width memory flow k
+  supplied-a : (k : ℕ) → k < rows * width → suppliedA setup width far flow memory k ≡ wordA setup width memory flow k
   unfolding wordA
-  given-a = given-fetched n (setup .direction) width rows (setup .modulos .a) (setup .uses .a) (flow .pointers .a) (far .a) (placed .a) (placed .most) (placed .some) (placed .narrow) memory (flow .sources .a)
+  supplied-a = supplied-fetched n (setup .direction) width rows (setup .modulos .a) (setup .uses .a) (flow .pointers .a) (far .a) (placed .a) (placed .most) (placed .some) (placed .narrow) memory (flow .sources .a)
 
-  given-b : (k : ℕ) → k < rows * width → givenB setup width far flow memory k ≡ wordB setup width memory flow k
+  supplied-b : (k : ℕ) → k < rows * width → suppliedB setup width far flow memory k ≡ wordB setup width memory flow k
   unfolding wordB
-  given-b = given-fetched n (setup .direction) width rows (setup .modulos .b) (setup .uses .b) (flow .pointers .b) (far .b) (placed .b) (placed .most) (placed .some) (placed .narrow) memory (flow .sources .b)
+  supplied-b = supplied-fetched n (setup .direction) width rows (setup .modulos .b) (setup .uses .b) (flow .pointers .b) (far .b) (placed .b) (placed .most) (placed .some) (placed .narrow) memory (flow .sources .b)
 
-  given-c : (k : ℕ) → k < rows * width → givenC setup width far flow memory k ≡ wordC setup width memory flow k
+  supplied-c : (k : ℕ) → k < rows * width → suppliedC setup width far flow memory k ≡ wordC setup width memory flow k
   unfolding wordC
-  given-c = given-fetched n (setup .direction) width rows (setup .modulos .c) (setup .uses .c) (flow .pointers .c) (far .c) (placed .c) (placed .most) (placed .some) (placed .narrow) memory (flow .sources .c)
+  supplied-c = supplied-fetched n (setup .direction) width rows (setup .modulos .c) (setup .uses .c) (flow .pointers .c) (far .c) (placed .c) (placed .most) (placed .some) (placed .narrow) memory (flow .sources .c)
 
   module _ (xa xb xc o after : List ℕ) (end : Made) (next : Flow) (some : 1 ≤ rows * width) (apart : AllApart setup width (rows * width) (rows * width) flow)
-      (finished : Finished setup width rows far flow memory xa xb xc o end)
+      (finished : MadeOf setup width rows far flow memory xa xb xc o end)
       (stores : after ≡ (if setup .uses .d then laidAt (placeAt (setup .direction) width (far .d) (flow .pointers .d .word)) (at o) (rows * width) memory else memory))
       (is-next : next ≡ record {
         pointers =
@@ -103,15 +103,15 @@ module _ (n : ℕ) (setup : Setup) (width rows : ℕ) (far : Strides) (flow : Fl
     -- the sources by what they fetch
     masked-a : Each (rows * width) xa (maskedAt (setup .masks) width (wordA setup width memory flow))
     unfolding Each maskedAt
-    masked-a j below = finished .given .a j below ∙ rw (given-a j below)
+    masked-a j below = finished .supplied .a j below ∙ rw (supplied-a j below)
 
     fetched-b : (j : ℕ) → j < rows * width → at xb j ≡ wordB setup width memory flow j
     unfolding at Each
-    fetched-b j below = finished .given .b j below ∙ given-b j below
+    fetched-b j below = finished .supplied .b j below ∙ supplied-b j below
 
     fetched-c : (j : ℕ) → j < rows * width → at xc j ≡ wordC setup width memory flow j
     unfolding at Each
-    fetched-c j below = finished .given .c j below ∙ given-c j below
+    fetched-c j below = finished .supplied .c j below ∙ supplied-c j below
 
     -- so the final words are the blit's
     finals-same : (k : ℕ) → k < rows * width
@@ -149,7 +149,7 @@ module _ (n : ℕ) (setup : Setup) (width rows : ℕ) (far : Strides) (flow : Fl
 
     sources-after : end .sources ≡ record { a = wordA setup width memory flow lastWord; b = wordB setup width memory flow lastWord; c = wordC setup width memory flow lastWord }
     sources-after =
-        same-sources (finished .given .last-a ∙ given-a lastWord (omega arith)) (finished .given .last-b ∙ given-b lastWord (omega arith)) (finished .given .last-c ∙ given-c lastWord (omega arith))
+        same-sources (finished .supplied .last-a ∙ supplied-a lastWord (omega arith)) (finished .supplied .last-b ∙ supplied-b lastWord (omega arith)) (finished .supplied .last-c ∙ supplied-c lastWord (omega arith))
 
     earlier-after : end .earlier ≡ record { a = maskedAt (setup .masks) width (wordA setup width memory flow) lastWord; b = wordB setup width memory flow lastWord }
     unfolding at Each
@@ -186,16 +186,16 @@ module _ (n : ℕ) (setup : Setup) (width rows : ℕ) (far : Strides) (flow : Fl
 
 -- a source at rest stays what it is
 source-rests : (used : Bool) (direction : Direction) (width far from : ℕ) (memory : List ℕ) (source last k : ℕ) → used ≡ false
-    → last ≡ givenAt used direction width far from memory source k → source ≡ last
-unfolding givenAt
+    → last ≡ suppliedAt used direction width far from memory source k → source ≡ last
+unfolding suppliedAt
 source-rests used direction width far from memory source last k idle is = sym (is ∙ rw idle)
 
 pub rests-on : (setup : Setup) (width rows : ℕ) (far : Strides) (flow : Flow) (memory xa xb xc : List ℕ) (last : Sources)
-    → Given setup width rows far flow memory xa xb xc last → AllRest setup width (flow .sources) xa xb xc → AllRest setup width last xa xb xc
+    → Supplied setup width rows far flow memory xa xb xc last → AllRest setup width (flow .sources) xa xb xc → AllRest setup width last xa xb xc
 unfolding Rests
-rests-on setup width rows far flow memory xa xb xc last given rests =
+rests-on setup width rows far flow memory xa xb xc last supplied rests =
     record {
-      a = λ idle. rw (← source-rests (setup .uses .a) _ _ _ _ _ _ _ _ idle (given .last-a)) (rests .a idle);
-      b = λ idle. rw (← source-rests (setup .uses .b) _ _ _ _ _ _ _ _ idle (given .last-b)) (rests .b idle);
-      c = λ idle. rw (← source-rests (setup .uses .c) _ _ _ _ _ _ _ _ idle (given .last-c)) (rests .c idle);
+      a = λ idle. rw (← source-rests (setup .uses .a) _ _ _ _ _ _ _ _ idle (supplied .last-a)) (rests .a idle);
+      b = λ idle. rw (← source-rests (setup .uses .b) _ _ _ _ _ _ _ _ idle (supplied .last-b)) (rests .b idle);
+      c = λ idle. rw (← source-rests (setup .uses .c) _ _ _ _ _ _ _ _ idle (supplied .last-c)) (rests .c idle);
     }

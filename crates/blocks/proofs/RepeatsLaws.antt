@@ -27,10 +27,10 @@ use Rattle.block.proofs.EachLaws.{each-fewer}
 use Rattle.block.proofs.FillLaws.{carry-of-off}
 use Rattle.apart.specs.declared.types.Strides.{Strides}
 use Rattle.blocks.specs.declared.types.Made.{Made}
-use Rattle.blocks.specs.Inner.Rests.{Rests, AllRest, Given}
-use Rattle.blocks.specs.Inner.Repeats.{Still, stillAt, lastOf, Ready, Finished, Repeating}
+use Rattle.blocks.specs.Inner.Rests.{Rests, AllRest, Supplied}
+use Rattle.blocks.specs.Inner.Repeats.{Still, stillAt, lastWords, Prepared, MadeOf, Repeating}
 use Rattle.blocks.proofs.FinalsLaws.{shiftedAt-same, filledAt-same}
-use Rattle.blocks.proofs.GivenLaws.{given-rests, given-level, given-idle}
+use Rattle.blocks.proofs.SuppliedLaws.{supplied-rests, supplied-level, supplied-idle}
 use Rattle.blocks.proofs.BlockLaws.{before-last, same-earlier, same-sources}
 
 -- equal words of the sources, A's masked, give equal final words
@@ -64,16 +64,16 @@ some-rows (suc row) width more = omega arith
 
 -- a block whose words stand ready
 module _ (setup : Setup) (width rows : ℕ) (far : Strides) (flow : Flow) (memory xa xb xc o : List ℕ) (some : 1 ≤ width) (more : 1 ≤ rows) (room : rows * width ≤ 64)
-    (ready : Ready setup width rows flow o) (rests : AllRest setup width (flow .sources) xa xb xc) where
-  given-ready : Given setup width rows far flow memory xa xb xc (flow .sources)
-  given-ready =
+    (ready : Prepared setup width rows flow o) (rests : AllRest setup width (flow .sources) xa xb xc) where
+  supplied-ready : Supplied setup width rows far flow memory xa xb xc (flow .sources)
+  supplied-ready =
       record {
-        a = given-rests (setup .uses .a) _ _ _ _ _ _ _ _ _ (ready .still .a) room (rests .a);
-        b = given-level (setup .uses .b) _ _ _ _ _ _ _ _ (ready .still .b) room (rests .b);
-        c = given-level (setup .uses .c) _ _ _ _ _ _ _ _ (ready .still .c) room (rests .c);
-        last-a = given-idle (setup .uses .a) _ _ _ _ _ _ _ (ready .still .a);
-        last-b = given-idle (setup .uses .b) _ _ _ _ _ _ _ (ready .still .b);
-        last-c = given-idle (setup .uses .c) _ _ _ _ _ _ _ (ready .still .c);
+        a = supplied-rests (setup .uses .a) _ _ _ _ _ _ _ _ _ (ready .still .a) room (rests .a);
+        b = supplied-level (setup .uses .b) _ _ _ _ _ _ _ _ (ready .still .b) room (rests .b);
+        c = supplied-level (setup .uses .c) _ _ _ _ _ _ _ _ (ready .still .c) room (rests .c);
+        last-a = supplied-idle (setup .uses .a) _ _ _ _ _ _ _ (ready .still .a);
+        last-b = supplied-idle (setup .uses .b) _ _ _ _ _ _ _ (ready .still .b);
+        last-c = supplied-idle (setup .uses .c) _ _ _ _ _ _ _ (ready .still .c);
       }
 
   last-here : rows * width - 1 < rows * width
@@ -102,23 +102,23 @@ module _ (setup : Setup) (width rows : ℕ) (far : Strides) (flow : Flow) (memor
     ready .carry ∙ carry-of-off (setup .fill) (setup .carry) width (rows * width - 1) _ (ready .still .off),
   )
 
-  pub finished-ready : Finished setup width rows far flow memory xa xb xc o (record { sources = flow .sources; earlier = flow .earlier; carry = flow .carry; allzero = flow .allzero })
-  finished-ready = record { given = given-ready; earlier = earlier-ready; words = words-ready; zero = both (flow .allzero) (nought (rows * width) (at o)) (ready .zero) }
+  pub finished-ready : MadeOf setup width rows far flow memory xa xb xc o (record { sources = flow .sources; earlier = flow .earlier; carry = flow .carry; allzero = flow .allzero })
+  finished-ready = record { supplied = supplied-ready; earlier = earlier-ready; words = words-ready; zero = both (flow .allzero) (nought (rows * width) (at o)) (ready .zero) }
     where
       both : (before here : Bool) → (before ≡ true → here ≡ true) → before ≡ (before && here)
       both true here told = sym (told refl)
       both false here told = refl
 
 -- the words of a block of such a blit
-pub finished-still : (setup : Setup) (width rows : ℕ) (far : Strides) (flow : Flow) (memory xa xb xc o : List ℕ) (end : Made) → Finished setup width rows far flow memory xa xb xc o end
+pub finished-still : (setup : Setup) (width rows : ℕ) (far : Strides) (flow : Flow) (memory xa xb xc o : List ℕ) (end : Made) → MadeOf setup width rows far flow memory xa xb xc o end
     → Still setup → Each (rows * width) o (stillAt setup width (flow .earlier) (flow .sources))
 unfolding Each stillAt finalWordAt at maskedAt levelAt
 finished-still setup width rows far flow memory xa xb xc o end finished still j below =
-    finished .words (levelAt (flow .sources .a)) (λ i inside. finished .given .a i inside ∙ rw (← given-idle (setup .uses .a) (setup .direction) width (far .a) (flow .pointers .a .word) (flow .sources .a) i memory (still .a))) .0 j below
+    finished .words (levelAt (flow .sources .a)) (λ i inside. finished .supplied .a i inside ∙ rw (← supplied-idle (setup .uses .a) (setup .direction) width (far .a) (flow .pointers .a .word) (flow .sources .a) i memory (still .a))) .0 j below
     ∙ ap (λ (made : Filled). made .word)
     (finals-alike setup width (rows * width) (flow .earlier) (levelAt (flow .sources .a)) (at xb) (at xc) (levelAt (flow .sources .a)) _ _ (λ i inside. refl)
-    (λ i inside. finished .given .b i inside ∙ sym (given-idle (setup .uses .b) _ _ _ _ _ _ _ (still .b)))
-    (λ i inside. finished .given .c i inside ∙ sym (given-idle (setup .uses .c) _ _ _ _ _ _ _ (still .c))) j below)
+    (λ i inside. finished .supplied .b i inside ∙ sym (supplied-idle (setup .uses .b) _ _ _ _ _ _ _ (still .b)))
+    (λ i inside. finished .supplied .c i inside ∙ sym (supplied-idle (setup .uses .c) _ _ _ _ _ _ _ (still .c))) j below)
 
 -- all nought, by the words of a sequence
 nought-is : (n : ℕ) (words : List ℕ) (word : ℕ → ℕ) → Each n words word → nought n (at words) ≡ every (λ k. eqb (word k) 0) n
@@ -168,13 +168,13 @@ module _ (setup : Setup) (width rows : ℕ) (here next : Flow) (ram after o : Li
       ∙ same-sources (before-last _ _ (rows * width) least ∙ idle-a (rows * width - 1)) (before-last _ _ (rows * width) least ∙ idle-b (rows * width - 1))
       (before-last _ _ (rows * width) least ∙ idle-c (rows * width - 1))
 
-  earlier-next : next .earlier ≡ lastOf setup width (next .sources)
+  earlier-next : next .earlier ≡ lastWords setup width (next .sources)
   unfolding maskedAt levelAt
   earlier-next =
       ap (λ (end : State). end .flow .earlier) is
       ∙ same-earlier (before-last _ _ (rows * width) least ∙ rw (idle-a (rows * width - 1)) (last-is (setup .masks) width rows (here .sources .a) some more))
       (before-last _ _ (rows * width) least ∙ idle-b (rows * width - 1))
-      ∙ ap (lastOf setup width) (sym sources-next)
+      ∙ ap (lastWords setup width) (sym sources-next)
 
   carry-next : next .carry ≡ setup .carry
   carry-next =
@@ -223,7 +223,7 @@ module _ (setup : Setup) (width most height row rows : ℕ) (here next : Flow) (
           let same : rows ≡ most = omega arith in
           let earlier : here .earlier ≡ next .earlier =
           told .one still (omega arith) .0
-          ∙ ap (lastOf setup width) (sym (sources-next setup width rows here next ram after o some more is still))
+          ∙ ap (lastWords setup width) (sym (sources-next setup width rows here next ram after o some more is still))
           ∙ sym (earlier-next setup width rows here next ram after o some more is still) in
           subst (λ (k : ℕ). Each (k * width) o (stillAt setup width (next .earlier) (next .sources)) × (next .allzero ≡ true → nought (k * width) (at o) ≡ true)) same (
             words-next setup width rows here next ram after o some more is still (words still) earlier,
@@ -232,7 +232,7 @@ module _ (setup : Setup) (width most height row rows : ℕ) (here next : Flow) (
 
 -- what a block asks for that stands ready
 pub ready-of : (setup : Setup) (width most height row rows : ℕ) (flow : Flow) (o : List ℕ) → rows ≤ most → row < height → Repeating setup width most height row flow o
-    → Still setup × (most < row) → Ready setup width rows flow o
+    → Still setup × (most < row) → Prepared setup width rows flow o
 ready-of setup width most height row rows flow o fits within told (still, past) =
     let two : Each (most * width) o (stillAt setup width (flow .earlier) (flow .sources)) × (flow .allzero ≡ true → nought (most * width) (at o) ≡ true) = told .two still past within in
     record {

@@ -13,8 +13,8 @@ ghost use Rattle.block.specs.Inner.Each.{at, Each, levelAt, nought};
 ghost use Rattle.block.specs.Inner.Place.{rowAt, placeAt, EvenRows};
 ghost use Rattle.apart.specs.Inner.Placed.{Placed};
 ghost use Rattle.apart.specs.Inner.Apart.{AllApart};
-ghost use Rattle.blocks.specs.Inner.Rests.{givenAt, Rests, AllRest, Given};
-ghost use Rattle.blocks.specs.Inner.Repeats.{Still, stillAt, Ready, Finished};
+ghost use Rattle.blocks.specs.Inner.Rests.{suppliedAt, Rests, AllRest, Supplied};
+ghost use Rattle.blocks.specs.Inner.Repeats.{Still, stillAt, Prepared, MadeOf};
 use crate::types::Made;
 use apart::types::Strides;
 use area::types::Flow;
@@ -28,7 +28,7 @@ use word::types::Direction;
 use word::types::Pointer;
 
 // A's words, masked. The answer is the last of them, unmasked.
-fn given_a(
+fn supplied_a(
     used: bool,
     direction: Direction,
     masks: Masks,
@@ -44,8 +44,8 @@ fn given_a(
         × (rows * width ≤ 64) × (1 ≤ rows * width) × (1 ≤ width) × (from < pointerEnd) × (far < pointerEnd)
         × (length (now x) ≡ 80) × Rests used width (maskedAt masks width (levelAt source)) (now x) ⌝ }
     ensures { λ last. ⌜ (length (now (x .exit)) ≡ 80)
-        × Each (rows * width) (now (x .exit)) (maskedAt masks width (givenAt used direction width far from (now (ram .entry)) source))
-        × (last ≡ givenAt used direction width far from (now (ram .entry)) source (rows * width - 1))
+        × Each (rows * width) (now (x .exit)) (maskedAt masks width (suppliedAt used direction width far from (now (ram .entry)) source))
+        × (last ≡ suppliedAt used direction width far from (now (ram .entry)) source (rows * width - 1))
         × Rests used width (maskedAt masks width (levelAt source)) (now (x .exit)) ⌝ }
 {
     if used {
@@ -64,7 +64,7 @@ fn given_a(
 }
 
 // The words of B, or of C.
-fn given(
+fn supplied(
     used: bool,
     direction: Direction,
     ram: &[u16],
@@ -79,8 +79,8 @@ fn given(
         × (rows * width ≤ 64) × (1 ≤ rows * width) × (1 ≤ width) × (from < pointerEnd) × (far < pointerEnd)
         × (length (now x) ≡ 80) × Rests used width (levelAt source) (now x) ⌝ }
     ensures { λ last. ⌜ (length (now (x .exit)) ≡ 80)
-        × Each (rows * width) (now (x .exit)) (givenAt used direction width far from (now (ram .entry)) source)
-        × (last ≡ givenAt used direction width far from (now (ram .entry)) source (rows * width - 1))
+        × Each (rows * width) (now (x .exit)) (suppliedAt used direction width far from (now (ram .entry)) source)
+        × (last ≡ suppliedAt used direction width far from (now (ram .entry)) source (rows * width - 1))
         × Rests used width (levelAt source) (now (x .exit)) ⌝ }
 {
     if used {
@@ -110,13 +110,13 @@ fn sources(
         × (length (now xa) ≡ 80) × (length (now xb) ≡ 80) × (length (now xc) ≡ 80)
         × AllRest setup width (flow .sources) (now xa) (now xb) (now xc) ⌝ }
     ensures { λ last. ⌜ (length (now (xa .exit)) ≡ 80) × (length (now (xb .exit)) ≡ 80) × (length (now (xc .exit)) ≡ 80)
-        × Given setup width rows far flow (now (ram .entry)) (now (xa .exit)) (now (xb .exit)) (now (xc .exit)) last
+        × Supplied setup width rows far flow (now (ram .entry)) (now (xa .exit)) (now (xb .exit)) (now (xc .exit)) last
         × AllRest setup width (flow .sources) (now (xa .exit)) (now (xb .exit)) (now (xc .exit)) ⌝ }
 {
     let uses = setup.uses;
     let direction = setup.direction;
     let masks = setup.masks;
-    let a = given_a(
+    let a = supplied_a(
         uses.a,
         direction,
         masks,
@@ -128,7 +128,7 @@ fn sources(
         flow.sources.a,
         xa,
     );
-    let b = given(
+    let b = supplied(
         uses.b,
         direction,
         ram,
@@ -139,7 +139,7 @@ fn sources(
         flow.sources.b,
         xb,
     );
-    let c = given(
+    let c = supplied(
         uses.c,
         direction,
         ram,
@@ -256,11 +256,11 @@ fn made(
         × (length (now xa) ≡ 80) × (length (now xb) ≡ 80) × (length (now xc) ≡ 80)
         × (length (now ya) ≡ 80) × (length (now o) ≡ 80)
         × AllRest setup width (flow .sources) (now xa) (now xb) (now xc)
-        × (ready ≡ true → Ready setup width rows flow (now o)) ⌝ }
+        × (ready ≡ true → Prepared setup width rows flow (now o)) ⌝ }
     ensures { λ end. ⌜ (length (now (xa .exit)) ≡ 80) × (length (now (xb .exit)) ≡ 80) × (length (now (xc .exit)) ≡ 80)
         × (length (now (ya .exit)) ≡ 80) × (length (now (o .exit)) ≡ 80)
         × AllRest setup width (end .sources) (now (xa .exit)) (now (xb .exit)) (now (xc .exit))
-        × Finished setup width rows far flow (now (ram .entry)) (now (xa .exit)) (now (xb .exit)) (now (xc .exit)) (now (o .exit)) end ⌝ }
+        × MadeOf setup width rows far flow (now (ram .entry)) (now (xa .exit)) (now (xb .exit)) (now (xc .exit)) (now (o .exit)) end ⌝ }
 {
     if ready {
         let sources = flow.sources;
@@ -304,7 +304,7 @@ pub fn one_block(
         × (length (now xa) ≡ 80) × (length (now xb) ≡ 80) × (length (now xc) ≡ 80)
         × (length (now ya) ≡ 80) × (length (now o) ≡ 80)
         × AllRest setup width (flow .sources) (now xa) (now xb) (now xc)
-        × (ready ≡ true → Ready setup width rows flow (now o)) ⌝ }
+        × (ready ≡ true → Prepared setup width rows flow (now o)) ⌝ }
     ensures { λ next. ⌜ (length (now (xa .exit)) ≡ 80) × (length (now (xb .exit)) ≡ 80) × (length (now (xc .exit)) ≡ 80)
         × (length (now (ya .exit)) ≡ 80) × (length (now (o .exit)) ≡ 80)
         × AllRest setup width (next .sources) (now (xa .exit)) (now (xb .exit)) (now (xc .exit))

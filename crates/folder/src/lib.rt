@@ -27,7 +27,7 @@ pub fn fold(n: usize, job: &[u16], out: &mut [u16]) -> Answer
     let answer = crate::write::folded(n, job, out, &mut run);
     match answer {
         Answer::Done(long) => {
-            crate::write::handed(&run, long, out);
+            crate::write::hand_out(&run, long, out);
             Answer::Done(long)
         }
         Answer::Refused(why, place) => Answer::Refused(why, place),

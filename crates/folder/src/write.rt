@@ -152,7 +152,7 @@ pub fn folded(n: usize, job: &[u16], out: &[u16], run: &mut [u16]) -> Answer
 }
 
 // The first words of a run, into an output that has room for them.
-pub fn handed(run: &[u16], long: usize, out: &mut [u16])
+pub fn hand_out(run: &[u16], long: usize, out: &mut [u16])
     requires { ⌜ (long ≤ length (now run)) × (long ≤ length (now out)) ⌝ }
     ensures { λ _. ⌜ now (out .exit) ≡ take long (now (run .entry)) ++ drop long (now (out .entry)) ⌝ }
 {

@@ -43,7 +43,7 @@ fn plan(file: &[u16], size: u16) -> Plan
 }
 
 // The channels in the order A, B, C, D: the first that leaves memory is told.
-fn told(n: usize, by: Plan) -> Verdict
+fn first_leaving(n: usize, by: Plan) -> Verdict
     requires { ⌜ (n < pointerEnd) × (by .pointers .a .word < pointerEnd) × (by .pointers .b .word < pointerEnd)
         × (by .pointers .c .word < pointerEnd) × (by .pointers .d .word < pointerEnd)
         × (1 ≤ by .width) × (by .width ≤ 64) ⌝ }
@@ -83,7 +83,7 @@ fn leaving(n: usize, by: Plan) -> Verdict
     ensures { λ verdict. ⌜ (verdictNumber verdict ≡ leaving n by) × (handed verdict by ≡ by) ⌝ }
 {
     if n < POINTER_END as usize {
-        return told(n, by);
+        return first_leaving(n, by);
     }
     Verdict::Lawful(by)
 }

@@ -30,7 +30,7 @@ fn put_place(places: &mut [u32], at: u32, place: u32)
 
 // A word finished, of the same parts as a blit's. `area::finish::finish` has its one place of call in `by_word`: a second
 // one would cost it its speed there.
-fn finished(setup: Setup, first: bool, last: bool, flow: Flow) -> Finished
+fn finish(setup: Setup, first: bool, last: bool, flow: Flow) -> Finished
     requires { ⌜ (setup .shifts .a < 16) × (setup .shifts .b < 16) ⌝ }
     ensures { λ made. ⌜ made ≡ finish setup first last flow ⌝ }
 {
@@ -67,7 +67,7 @@ fn next_word(setup: Setup, width: u32, remaining: u32, flow: Flow) -> Flow
     let uses = setup.uses;
     let direction = setup.direction;
     let fetched = area::fetch::fetch(&none, direction, uses, flow);
-    let made = finished(setup, remaining + 1 == width, remaining == 0, fetched);
+    let made = finish(setup, remaining + 1 == width, remaining == 0, fetched);
     let after = made.flow;
     let stored = area::store::store_pending(&mut none, after);
     let waiting = area::store::wait(uses.d, made.word, stored);

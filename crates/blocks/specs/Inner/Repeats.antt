@@ -13,7 +13,7 @@ use Rattle.area.specs.declared.types.Flow.{Flow}
 use Rattle.quiet.specs.Words.{maskedAt, finalAt}
 use Rattle.apart.specs.declared.types.Strides.{Strides}
 use Rattle.blocks.specs.declared.types.Made.{Made}
-use Rattle.blocks.specs.Inner.Rests.{Given}
+use Rattle.blocks.specs.Inner.Rests.{Supplied}
 use Rattle.block.specs.Inner.Each.{at, Each, levelAt, finalWordAt, nought}
 
 pub record Still (setup : Setup) : Type 0 where
@@ -27,21 +27,21 @@ unfoldable pub stillAt : Setup → (width : ℕ) → Earlier → Sources → (k 
 stillAt setup width earlier sources =
     finalWordAt setup width earlier (levelAt (sources .a)) (levelAt (sources .b)) (levelAt (sources .c))
 
-abbrev pub lastOf : Setup → (width : ℕ) → Sources → Earlier
-lastOf setup width sources =
+abbrev pub lastWords : Setup → (width : ℕ) → Sources → Earlier
+lastWords setup width sources =
     record { a = maskedAt (setup .masks) width (levelAt (sources .a)) (width - 1); b = sources .b }
 
 -- the words of so many rows stand in an array, and such a block leaves all but D as it is
-pub record Ready (setup : Setup) (width rows : ℕ) (flow : Flow) (o : List ℕ) : Type 0 where
+pub record Prepared (setup : Setup) (width rows : ℕ) (flow : Flow) (o : List ℕ) : Type 0 where
   pub still : Still setup
   pub words : Each (rows * width) o (stillAt setup width (flow .earlier) (flow .sources))
-  pub earlier : flow .earlier ≡ lastOf setup width (flow .sources)
+  pub earlier : flow .earlier ≡ lastWords setup width (flow .sources)
   pub carry : flow .carry ≡ setup .carry
   pub zero : flow .allzero ≡ true → nought (rows * width) (at o) ≡ true
 
 -- the words of a block in an array, by the words of its sources, with what it hands on
-pub record Finished (setup : Setup) (width rows : ℕ) (far : Strides) (flow : Flow) (memory xa xb xc o : List ℕ) (end : Made) : Type 0 where
-  pub given : Given setup width rows far flow memory xa xb xc (end .sources)
+pub record MadeOf (setup : Setup) (width rows : ℕ) (far : Strides) (flow : Flow) (memory xa xb xc o : List ℕ) (end : Made) : Type 0 where
+  pub supplied : Supplied setup width rows far flow memory xa xb xc (end .sources)
   pub earlier : end .earlier ≡ record { a = getD xa (rows * width - 1) 0; b = getD xb (rows * width - 1) 0 }
   pub words : (a : ℕ → ℕ) → Each (rows * width) xa (maskedAt (setup .masks) width a)
       → Each (rows * width) o (finalWordAt setup width (flow .earlier) a (at xb) (at xc))
@@ -50,7 +50,7 @@ pub record Finished (setup : Setup) (width rows : ℕ) (far : Strides) (flow : F
 
 -- what holds before each block: after one, what was handed on; after two that were full, the words too
 pub record Repeating (setup : Setup) (width most height row : ℕ) (flow : Flow) (o : List ℕ) : Type 0 where
-  pub one : Still setup → 1 ≤ row → (flow .earlier ≡ lastOf setup width (flow .sources)) × (flow .carry ≡ setup .carry)
+  pub one : Still setup → 1 ≤ row → (flow .earlier ≡ lastWords setup width (flow .sources)) × (flow .carry ≡ setup .carry)
   pub two : Still setup → most < row → row < height
       → Each (most * width) o (stillAt setup width (flow .earlier) (flow .sources))
       × (flow .allzero ≡ true → nought (most * width) (at o) ≡ true)

@@ -13,8 +13,8 @@ use Rattle.block.specs.Inner.Each.{Each, levelAt}
 use Rattle.block.specs.Inner.Place.{fetchedAt}
 use Rattle.apart.specs.declared.types.Strides.{Strides}
 
-unfoldable pub givenAt : (used : Bool) → Direction → (width far from : ℕ) → (memory : List ℕ) → (source k : ℕ) → ℕ
-givenAt used direction width far from memory source k =
+unfoldable pub suppliedAt : (used : Bool) → Direction → (width far from : ℕ) → (memory : List ℕ) → (source k : ℕ) → ℕ
+suppliedAt used direction width far from memory source k =
     if used then fetchedAt direction width far from memory k else
     source
 
@@ -30,20 +30,20 @@ pub record AllRest (setup : Setup) (width : ℕ) (sources : Sources) (xa xb xc :
 
 -- what A, B and C give as the words of a block's rows
 module _ (setup : Setup) (width : ℕ) (far : Strides) (flow : Flow) (memory : List ℕ) where
-  abbrev pub givenA : (k : ℕ) → ℕ
-  givenA = givenAt (setup .uses .a) (setup .direction) width (far .a) (flow .pointers .a .word) memory (flow .sources .a)
+  abbrev pub suppliedA : (k : ℕ) → ℕ
+  suppliedA = suppliedAt (setup .uses .a) (setup .direction) width (far .a) (flow .pointers .a .word) memory (flow .sources .a)
 
-  abbrev pub givenB : (k : ℕ) → ℕ
-  givenB = givenAt (setup .uses .b) (setup .direction) width (far .b) (flow .pointers .b .word) memory (flow .sources .b)
+  abbrev pub suppliedB : (k : ℕ) → ℕ
+  suppliedB = suppliedAt (setup .uses .b) (setup .direction) width (far .b) (flow .pointers .b .word) memory (flow .sources .b)
 
-  abbrev pub givenC : (k : ℕ) → ℕ
-  givenC = givenAt (setup .uses .c) (setup .direction) width (far .c) (flow .pointers .c .word) memory (flow .sources .c)
+  abbrev pub suppliedC : (k : ℕ) → ℕ
+  suppliedC = suppliedAt (setup .uses .c) (setup .direction) width (far .c) (flow .pointers .c .word) memory (flow .sources .c)
 
 -- they stand in the arrays, and the last of each is told
-pub record Given (setup : Setup) (width rows : ℕ) (far : Strides) (flow : Flow) (memory xa xb xc : List ℕ) (last : Sources) : Type 0 where
-  pub a : Each (rows * width) xa (maskedAt (setup .masks) width (givenA setup width far flow memory))
-  pub b : Each (rows * width) xb (givenB setup width far flow memory)
-  pub c : Each (rows * width) xc (givenC setup width far flow memory)
-  pub last-a : last .a ≡ givenA setup width far flow memory (rows * width - 1)
-  pub last-b : last .b ≡ givenB setup width far flow memory (rows * width - 1)
-  pub last-c : last .c ≡ givenC setup width far flow memory (rows * width - 1)
+pub record Supplied (setup : Setup) (width rows : ℕ) (far : Strides) (flow : Flow) (memory xa xb xc : List ℕ) (last : Sources) : Type 0 where
+  pub a : Each (rows * width) xa (maskedAt (setup .masks) width (suppliedA setup width far flow memory))
+  pub b : Each (rows * width) xb (suppliedB setup width far flow memory)
+  pub c : Each (rows * width) xc (suppliedC setup width far flow memory)
+  pub last-a : last .a ≡ suppliedA setup width far flow memory (rows * width - 1)
+  pub last-b : last .b ≡ suppliedB setup width far flow memory (rows * width - 1)
+  pub last-c : last .c ≡ suppliedC setup width far flow memory (rows * width - 1)

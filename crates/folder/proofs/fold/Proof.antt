@@ -14,8 +14,8 @@ returns-2 c = search folding-by-length
 folded-requires : tie.Need-folded-requires
 folded-requires c κs = search jobLength-when-short
 
-handed-requires : tie.Need-handed-requires
-handed-requires c κs = (search run-when-done, search room-when-done)
+hand-out-requires : tie.Need-hand-out-requires
+hand-out-requires c κs = (search run-when-done, search room-when-done)
 
 enum-known-answer-2 : tie.Need-enum-known-answer-2
 enum-known-answer-2 c = search needs
@@ -38,7 +38,7 @@ fold-spec =
     folded-requires
     (λ c. search needs)
     (λ c. search needs)
-    handed-requires
+    hand-out-requires
     enum-known-answer-2
     (λ c. search needs)
     returns-3

@@ -23,7 +23,7 @@ sources-requires c κs = let pre = c .before .before .before .before .before .be
 finals-requires : tie.Need-finals-requires
 finals-requires c κs =
     let pre = c .before .before .before .before .before .before .before .before .before .before .before .before .pre in
-    let given = c .before .before .before .before .before .sources2 .ensures in (pre .0 .shift-a, pre .0 .shift-b, pre .0 .some, pre .2, pre .1, given .0, given .1, pre .6, pre .7)
+    let supplied = c .before .before .before .before .before .sources2 .ensures in (pre .0 .shift-a, pre .0 .shift-b, pre .0 .some, pre .2, pre .1, supplied .0, supplied .1, pre .6, pre .7)
 
 mul-still-nought : tie.Need-mul-still-nought
 mul-still-nought c = omega (arith, c .before .before .before .before .before .before .before .before .before .before .before .before .before .before .pre .1)
@@ -33,15 +33,15 @@ still-nought-requires c κs = c .before .before .before .before .before .before 
 
 returns-2 : tie.Need-returns-2
 returns-2 c =
-    let given = c .before .before .before .before .before .before .before .before .before .sources2 .ensures in
+    let supplied = c .before .before .before .before .before .before .before .before .before .sources2 .ensures in
     let end = c .before .before .before .finals .ensures in (
-      given .0,
-      given .1,
-      given .2,
+      supplied .0,
+      supplied .1,
+      supplied .2,
       end .0,
       end .1,
-      rests-on _ _ _ _ _ _ _ _ _ _ (given .3) (given .4),
-      record { given = given .3; earlier = end .2; words = end .3; zero = c .still-nought .ensures },
+      rests-on _ _ _ _ _ _ _ _ _ _ (supplied .3) (supplied .4),
+      record { supplied = supplied .3; earlier = end .2; words = end .3; zero = c .still-nought .ensures },
     )
 
 pub made-spec : {M : Type 1} → statement M

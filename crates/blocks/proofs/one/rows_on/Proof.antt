@@ -1,7 +1,7 @@
 -- `blocks::one::rows_on` meets its contract: so many strides on.
 use native.Mathlib.Omega.{arith}
 use Rattle.word.proofs.ChoiceLaws.{if-when-false}
-use Rattle.blocks.proofs.GivenLaws.{rows-far, pointer-on}
+use Rattle.blocks.proofs.SuppliedLaws.{rows-far, pointer-on}
 use borrow.Author.Needs.{needs}
 use Rattle.blocks.proofs.one.rows_on.Statement.{statement}
 use Rattle.blocks.proofs.one.rows_on.Tie as tie

@@ -4,29 +4,29 @@ use borrow.Author.Needs.{needs}
 use Rattle.blocks.proofs.one.sources.Statement.{statement}
 use Rattle.blocks.proofs.one.sources.Tie as tie
 
-given-a-requires : tie.Need-given-a-requires
-given-a-requires c κs = (c .before .before .before .before .before .pre .0 .a .inside, c .before .before .before .before .before .pre .1, c .before .before .before .before .before .pre .2, c .before .before .before .before .before .pre .0 .some, c .before .before .before .before .before .pre .0 .a .small, stride-lt _ _ _ _ _ _ _ _ (c .before .before .before .before .before .pre .0 .a) (c .before .before .before .before .before .pre .0 .most) (c .before .before .before .before .before .pre .0 .some) (c .before .before .before .before .before .pre .0 .narrow), search needs, c .before .before .before .before .before .pre .6 .a)
+supplied-a-requires : tie.Need-supplied-a-requires
+supplied-a-requires c κs = (c .before .before .before .before .before .pre .0 .a .inside, c .before .before .before .before .before .pre .1, c .before .before .before .before .before .pre .2, c .before .before .before .before .before .pre .0 .some, c .before .before .before .before .before .pre .0 .a .small, stride-lt _ _ _ _ _ _ _ _ (c .before .before .before .before .before .pre .0 .a) (c .before .before .before .before .before .pre .0 .most) (c .before .before .before .before .before .pre .0 .some) (c .before .before .before .before .before .pre .0 .narrow), search needs, c .before .before .before .before .before .pre .6 .a)
 
-given-requires : tie.Need-given-requires
-given-requires c κs = (c .before .before .before .before .before .before .before .before .pre .0 .b .inside, c .before .before .before .before .before .before .before .before .pre .1, c .before .before .before .before .before .before .before .before .pre .2, c .before .before .before .before .before .before .before .before .pre .0 .some, c .before .before .before .before .before .before .before .before .pre .0 .b .small, stride-lt _ _ _ _ _ _ _ _ (c .before .before .before .before .before .before .before .before .pre .0 .b) (c .before .before .before .before .before .before .before .before .pre .0 .most) (c .before .before .before .before .before .before .before .before .pre .0 .some) (c .before .before .before .before .before .before .before .before .pre .0 .narrow), search needs, c .before .before .before .before .before .before .before .before .pre .6 .b)
+supplied-requires : tie.Need-supplied-requires
+supplied-requires c κs = (c .before .before .before .before .before .before .before .before .pre .0 .b .inside, c .before .before .before .before .before .before .before .before .pre .1, c .before .before .before .before .before .before .before .before .pre .2, c .before .before .before .before .before .before .before .before .pre .0 .some, c .before .before .before .before .before .before .before .before .pre .0 .b .small, stride-lt _ _ _ _ _ _ _ _ (c .before .before .before .before .before .before .before .before .pre .0 .b) (c .before .before .before .before .before .before .before .before .pre .0 .most) (c .before .before .before .before .before .before .before .before .pre .0 .some) (c .before .before .before .before .before .before .before .before .pre .0 .narrow), search needs, c .before .before .before .before .before .before .before .before .pre .6 .b)
 
-given-requires-2 : tie.Need-given-requires-2
-given-requires-2 c κs = (c .before .before .before .before .before .before .before .before .before .before .before .pre .0 .c .inside, c .before .before .before .before .before .before .before .before .before .before .before .pre .1, c .before .before .before .before .before .before .before .before .before .before .before .pre .2, c .before .before .before .before .before .before .before .before .before .before .before .pre .0 .some, c .before .before .before .before .before .before .before .before .before .before .before .pre .0 .c .small, stride-lt _ _ _ _ _ _ _ _ (c .before .before .before .before .before .before .before .before .before .before .before .pre .0 .c) (c .before .before .before .before .before .before .before .before .before .before .before .pre .0 .most) (c .before .before .before .before .before .before .before .before .before .before .before .pre .0 .some) (c .before .before .before .before .before .before .before .before .before .before .before .pre .0 .narrow), c .before .before .before .before .before .before .before .before .before .before .before .pre .5, c .before .before .before .before .before .before .before .before .before .before .before .pre .6 .c)
+supplied-requires-2 : tie.Need-supplied-requires-2
+supplied-requires-2 c κs = (c .before .before .before .before .before .before .before .before .before .before .before .pre .0 .c .inside, c .before .before .before .before .before .before .before .before .before .before .before .pre .1, c .before .before .before .before .before .before .before .before .before .before .before .pre .2, c .before .before .before .before .before .before .before .before .before .before .before .pre .0 .some, c .before .before .before .before .before .before .before .before .before .before .before .pre .0 .c .small, stride-lt _ _ _ _ _ _ _ _ (c .before .before .before .before .before .before .before .before .before .before .before .pre .0 .c) (c .before .before .before .before .before .before .before .before .before .before .before .pre .0 .most) (c .before .before .before .before .before .before .before .before .before .before .before .pre .0 .some) (c .before .before .before .before .before .before .before .before .before .before .before .pre .0 .narrow), c .before .before .before .before .before .before .before .before .before .before .before .pre .5, c .before .before .before .before .before .before .before .before .before .before .before .pre .6 .c)
 
 returns : tie.Need-returns
 returns c = (
-  c .before .before .before .before .before .before .given-a .ensures .0,
-  c .before .before .before .given .ensures .0,
-  c .given2 .ensures .0,
+  c .before .before .before .before .before .before .supplied-a .ensures .0,
+  c .before .before .before .supplied .ensures .0,
+  c .supplied2 .ensures .0,
   record {
-    a = c .before .before .before .before .before .before .given-a .ensures .1;
-    b = c .before .before .before .given .ensures .1;
-    c = c .given2 .ensures .1;
-    last-a = c .before .before .before .before .before .before .given-a .ensures .2;
-    last-b = c .before .before .before .given .ensures .2;
-    last-c = c .given2 .ensures .2;
+    a = c .before .before .before .before .before .before .supplied-a .ensures .1;
+    b = c .before .before .before .supplied .ensures .1;
+    c = c .supplied2 .ensures .1;
+    last-a = c .before .before .before .before .before .before .supplied-a .ensures .2;
+    last-b = c .before .before .before .supplied .ensures .2;
+    last-c = c .supplied2 .ensures .2;
   },
-  record { a = c .before .before .before .before .before .before .given-a .ensures .3; b = c .before .before .before .given .ensures .3; c = c .given2 .ensures .3 },
+  record { a = c .before .before .before .before .before .before .supplied-a .ensures .3; b = c .before .before .before .supplied .ensures .3; c = c .supplied2 .ensures .3 },
 )
 
 pub sources-spec : {M : Type 1} → statement M
@@ -34,9 +34,9 @@ sources-spec =
     tie.close
     (tie.spec
     (λ c. search needs)
-    given-a-requires
+    supplied-a-requires
     (λ c. search needs)
-    given-requires
+    supplied-requires
     (λ c. search needs)
-    given-requires-2
+    supplied-requires-2
     returns)

@@ -1,5 +1,5 @@
 -- `blocks::run::rest` meets its contract: the word laid 64 times.
-use Rattle.blocks.proofs.GivenLaws.{rests-not, rests-level}
+use Rattle.blocks.proofs.SuppliedLaws.{rests-not, rests-level}
 use borrow.Author.Needs.{needs}
 use Rattle.blocks.proofs.run.rest.Statement.{statement}
 use Rattle.blocks.proofs.run.rest.Tie as tie

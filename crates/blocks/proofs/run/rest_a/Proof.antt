@@ -1,5 +1,5 @@
 -- `blocks::run::rest_a` meets its contract: the word laid 64 times, then masked in as many rows as fit.
-use Rattle.blocks.proofs.GivenLaws.{rests-not, rests-in-columns, rows-fit, rests-masked}
+use Rattle.blocks.proofs.SuppliedLaws.{rests-not, rests-in-columns, rows-fit, rests-masked}
 use borrow.Author.Needs.{needs}
 use Rattle.blocks.proofs.run.rest_a.Statement.{statement}
 use Rattle.blocks.proofs.run.rest_a.Tie as tie

@@ -1,9 +1,9 @@
--- `refusal::told` meets its contract: the channels one after the other, the first that leaves decides.
+-- `refusal::first_leaving` meets its contract: the channels one after the other, the first that leaves decides.
 use Rattle.refusal.proofs.RefusalLaws.{leaving-by-a, leaving-by-b, leaving-by-c, leaving-by-d, leaving-by-none}
 use mathlib.Core.Path.{refl}
 use borrow.Author.Needs.{needs}
-use Rattle.refusal.proofs.told.Statement.{statement}
-use Rattle.refusal.proofs.told.Tie as tie
+use Rattle.refusal.proofs.first_leaving.Statement.{statement}
+use Rattle.refusal.proofs.first_leaving.Tie as tie
 
 channel-leaves-requires : tie.Need-channel-leaves-requires
 channel-leaves-requires c κs = search needs
@@ -32,8 +32,8 @@ returns-4 c = (search leaving-by-d, refl)
 returns-5 : tie.Need-returns-5
 returns-5 c = (search leaving-by-none, refl)
 
-pub told-spec : {M : Type 1} → statement M
-told-spec =
+pub first-leaving-spec : {M : Type 1} → statement M
+first-leaving-spec =
     tie.close
     (tie.spec
     (λ c. search needs)

@@ -1,8 +1,8 @@
--- `blocks::one::given` meets its contract: fetched, or at rest.
-use Rattle.blocks.proofs.GivenLaws.{given-plain, given-last, rests-not, given-level, given-idle}
+-- `blocks::one::supplied` meets its contract: fetched, or at rest.
+use Rattle.blocks.proofs.SuppliedLaws.{supplied-plain, supplied-last, rests-not, supplied-level, supplied-idle}
 use borrow.Author.Needs.{needs}
-use Rattle.blocks.proofs.one.given.Statement.{statement}
-use Rattle.blocks.proofs.one.given.Tie as tie
+use Rattle.blocks.proofs.one.supplied.Statement.{statement}
+use Rattle.blocks.proofs.one.supplied.Tie as tie
 
 narrow-rows-requires : tie.Need-narrow-rows-requires
 narrow-rows-requires c κs = (c .before .before .before .before .pre .0 (c .before .before .if1 .taken), search needs, search needs, search needs, search needs, search needs, search needs)
@@ -13,29 +13,29 @@ rows-requires c κs = (c .before .before .before .before .pre .0 (c .before .bef
 returns : tie.Need-returns
 returns c = (
   search needs,
-  given-plain _ _ _ _ _ _ _ _ _ (c .before .before .before .before .if1 .taken) (c .before .narrow-rows .ensures .1),
-  given-last _ _ _ _ _ _ _ _ _ (c .before .before .before .before .if1 .taken) (c .before .before .before .before .before .before .pre .2) (c .before .narrow-rows .ensures .1),
+  supplied-plain _ _ _ _ _ _ _ _ _ (c .before .before .before .before .if1 .taken) (c .before .narrow-rows .ensures .1),
+  supplied-last _ _ _ _ _ _ _ _ _ (c .before .before .before .before .if1 .taken) (c .before .before .before .before .before .before .pre .2) (c .before .narrow-rows .ensures .1),
   rests-not _ _ _ _ (c .before .before .before .before .if1 .taken),
 )
 
 returns-2 : tie.Need-returns-2
 returns-2 c = (
   search needs,
-  given-plain _ _ _ _ _ _ _ _ _ (c .before .before .before .before .if1 .taken) (c .before .rows .ensures .1),
-  given-last _ _ _ _ _ _ _ _ _ (c .before .before .before .before .if1 .taken) (c .before .before .before .before .before .before .pre .2) (c .before .rows .ensures .1),
+  supplied-plain _ _ _ _ _ _ _ _ _ (c .before .before .before .before .if1 .taken) (c .before .rows .ensures .1),
+  supplied-last _ _ _ _ _ _ _ _ _ (c .before .before .before .before .if1 .taken) (c .before .before .before .before .before .before .pre .2) (c .before .rows .ensures .1),
   rests-not _ _ _ _ (c .before .before .before .before .if1 .taken),
 )
 
 returns-3 : tie.Need-returns-3
 returns-3 c = (
   search needs,
-  given-level _ _ _ _ _ _ _ _ _ (c .if1 .left) (c .before .before .pre .1) (c .before .before .pre .7),
-  given-idle _ _ _ _ _ _ _ _ (c .if1 .left),
+  supplied-level _ _ _ _ _ _ _ _ _ (c .if1 .left) (c .before .before .pre .1) (c .before .before .pre .7),
+  supplied-idle _ _ _ _ _ _ _ _ (c .if1 .left),
   search needs,
 )
 
-pub given-spec : {M : Type 1} → statement M
-given-spec =
+pub supplied-spec : {M : Type 1} → statement M
+supplied-spec =
     tie.close
     (tie.spec
     narrow-rows-requires

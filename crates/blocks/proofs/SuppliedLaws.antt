@@ -18,42 +18,42 @@ use Rattle.quiet.specs.Words.{maskedAt}
 use Rattle.block.specs.Inner.Each.{at, Each, levelAt, nought}
 use Rattle.block.specs.Inner.Place.{rowAt, fetchedAt}
 use Rattle.block.proofs.EachLaws.{never}
-use Rattle.blocks.specs.Inner.Rests.{givenAt, Rests}
+use Rattle.blocks.specs.Inner.Rests.{suppliedAt, Rests}
 
 -- fetched
 module _ (used : Bool) (direction : Direction) (width far from source rows : ℕ) (memory words : List ℕ) (uses : used ≡ true)
     (fetches : Each (rows * width) words (fetchedAt direction width far from memory)) where
-  pub given-plain : Each (rows * width) words (givenAt used direction width far from memory source)
-  unfolding Each givenAt
-  given-plain j below = fetches j below ∙ rw uses
+  pub supplied-plain : Each (rows * width) words (suppliedAt used direction width far from memory source)
+  unfolding Each suppliedAt
+  supplied-plain j below = fetches j below ∙ rw uses
 
 module _ (used : Bool) (direction : Direction) (width far from source rows : ℕ) (memory words : List ℕ) (uses : used ≡ true) (some : 1 ≤ rows * width)
     (fetches : Each (rows * width) words (fetchedAt direction width far from memory)) where
-  pub given-last : getD words (rows * width - 1) 0 ≡ givenAt used direction width far from memory source (rows * width - 1)
-  unfolding Each givenAt
-  given-last = fetches (rows * width - 1) (omega arith) ∙ rw uses
+  pub supplied-last : getD words (rows * width - 1) 0 ≡ suppliedAt used direction width far from memory source (rows * width - 1)
+  unfolding Each suppliedAt
+  supplied-last = fetches (rows * width - 1) (omega arith) ∙ rw uses
 
-pub given-masked : (used : Bool) (direction : Direction) (masks : Masks) (width far from source rows : ℕ) (memory words after : List ℕ) → used ≡ true
+pub supplied-masked : (used : Bool) (direction : Direction) (masks : Masks) (width far from source rows : ℕ) (memory words after : List ℕ) → used ≡ true
     → Each (rows * width) words (fetchedAt direction width far from memory) → Each (rows * width) after (maskedAt masks width (at words))
-    → Each (rows * width) after (maskedAt masks width (givenAt used direction width far from memory source))
-unfolding Each maskedAt at givenAt
-given-masked used direction masks width far from source rows memory words after uses fetches masking j below = masking j below ∙ rw (fetches j below, uses)
+    → Each (rows * width) after (maskedAt masks width (suppliedAt used direction width far from memory source))
+unfolding Each maskedAt at suppliedAt
+supplied-masked used direction masks width far from source rows memory words after uses fetches masking j below = masking j below ∙ rw (fetches j below, uses)
 
 -- at rest
-pub given-rests : (used : Bool) (direction : Direction) (masks : Masks) (width far from source rows : ℕ) (memory words : List ℕ) → used ≡ false → rows * width ≤ 64
-    → Rests used width (maskedAt masks width (levelAt source)) words → Each (rows * width) words (maskedAt masks width (givenAt used direction width far from memory source))
-unfolding Rests Each maskedAt givenAt levelAt
-given-rests used direction masks width far from source rows memory words idle room rests j below = rests idle rows room j below ∙ rw idle
+pub supplied-rests : (used : Bool) (direction : Direction) (masks : Masks) (width far from source rows : ℕ) (memory words : List ℕ) → used ≡ false → rows * width ≤ 64
+    → Rests used width (maskedAt masks width (levelAt source)) words → Each (rows * width) words (maskedAt masks width (suppliedAt used direction width far from memory source))
+unfolding Rests Each maskedAt suppliedAt levelAt
+supplied-rests used direction masks width far from source rows memory words idle room rests j below = rests idle rows room j below ∙ rw idle
 
-pub given-level : (used : Bool) (direction : Direction) (width far from source rows : ℕ) (memory words : List ℕ) → used ≡ false → rows * width ≤ 64
-    → Rests used width (levelAt source) words → Each (rows * width) words (givenAt used direction width far from memory source)
-unfolding Rests Each givenAt levelAt
-given-level used direction width far from source rows memory words idle room rests j below = rests idle rows room j below ∙ rw idle
+pub supplied-level : (used : Bool) (direction : Direction) (width far from source rows : ℕ) (memory words : List ℕ) → used ≡ false → rows * width ≤ 64
+    → Rests used width (levelAt source) words → Each (rows * width) words (suppliedAt used direction width far from memory source)
+unfolding Rests Each suppliedAt levelAt
+supplied-level used direction width far from source rows memory words idle room rests j below = rests idle rows room j below ∙ rw idle
 
-pub given-idle : (used : Bool) (direction : Direction) (width far from source k : ℕ) (memory : List ℕ) → used ≡ false
-    → source ≡ givenAt used direction width far from memory source k
-unfolding givenAt
-given-idle used direction width far from source k memory idle = rw idle
+pub supplied-idle : (used : Bool) (direction : Direction) (width far from source k : ℕ) (memory : List ℕ) → used ≡ false
+    → source ≡ suppliedAt used direction width far from memory source k
+unfolding suppliedAt
+supplied-idle used direction width far from source k memory idle = rw idle
 
 pub rests-not : (used : Bool) (width : ℕ) (word : ℕ → ℕ) (words : List ℕ) → used ≡ true → Rests used width word words
 unfolding Rests

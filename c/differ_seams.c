@@ -245,7 +245,7 @@ static bool columns(const struct set *set, bool descending)
     return true;
 }
 
-/* One or two blocks filled exactly, a row fewer or a row more, D so many strides ahead of the source, or nearly. */
+/* One, two or three blocks filled exactly, a row fewer or a row more, D so many strides ahead of the source, or nearly. */
 static bool block_ends(const struct set *set, bool descending, uint32_t rows, uint32_t width, uint32_t strides)
 {
     for (int32_t near = -1; near <= (set->source == D_CHANNEL ? -1 : 1); near++)
@@ -263,10 +263,10 @@ static bool blocks(const struct set *set, bool descending)
 {
     for (uint32_t width = 1; width <= WIDEST; width++) {
         uint32_t most = WIDEST / width;
-        const uint32_t rows[] = {most > 1 ? most - 1 : 1, most, most + 1, 2 * most, 2 * most + 1};
+        const uint32_t rows[] = {most > 1 ? most - 1 : 1, most, most + 1, 2 * most, 2 * most + 1, 3 * most + 1};
         const uint32_t strides[] = {0, 1, 2, most};
-        for (size_t i = 0; i < 5; i++)
-            for (size_t j = 0; j < 4; j++)
+        for (size_t i = 0; i < sizeof rows / sizeof *rows; i++)
+            for (size_t j = 0; j < sizeof strides / sizeof *strides; j++)
                 if (!block_ends(set, descending, rows[i], width, strides[j]))
                     return false;
     }

@@ -3,4 +3,4 @@ pub mod FinalsLaws
 pub mod SuppliedLaws
 pub mod BlockLaws
 pub mod RepeatsLaws
-pub mod RunLaws
+pub mod RunningLaws

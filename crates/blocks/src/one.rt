@@ -154,7 +154,7 @@ fn sources(
 }
 
 // Where D is used its words are stored.
-fn stored(
+fn store_words(
     ram: &mut [u16],
     used: bool,
     direction: Direction,
@@ -204,7 +204,7 @@ fn rows_on(used: bool, far: usize, rows: usize, pointer: Pointer) -> Pointer
     pointer
 }
 
-fn pointers(setup: Setup, far: Strides, rows: usize, at: Pointers) -> Pointers
+fn pointers_on(setup: Setup, far: Strides, rows: usize, at: Pointers) -> Pointers
     requires { ⌜ (at .a .word < pointerEnd) × (at .b .word < pointerEnd) × (at .c .word < pointerEnd) × (at .d .word < pointerEnd)
         × (far .a < pointerEnd) × (far .b < pointerEnd) × (far .c < pointerEnd) × (far .d < pointerEnd) × (rows ≤ 64) ⌝ }
     ensures { λ next. ⌜ next ≡ record {
@@ -315,7 +315,7 @@ pub fn one_block(
     let uses = setup.uses;
     let from = flow.pointers;
     let end = made(ram, setup, far, width, rows, ready, flow, xa, xb, xc, ya, o);
-    stored(
+    store_words(
         ram,
         uses.d,
         direction,
@@ -325,7 +325,7 @@ pub fn one_block(
         rows,
         o,
     );
-    let pointers = pointers(setup, far, rows, from);
+    let pointers = pointers_on(setup, far, rows, from);
     let sources = end.sources;
     let earlier = end.earlier;
     let pending = Pending {

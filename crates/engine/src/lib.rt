@@ -62,7 +62,7 @@ pub fn area_blit(ram: &mut [u16], setup: Setup, width: u32, height: u32, flow: F
         let far = apart::strides(setup, width);
         let most = apart::rows_at_once(ram.len(), setup, wide, tall, flow, far);
         if 2 <= most * wide {
-            return blocks::run::blocks(ram, setup, far, wide, tall, most, flow);
+            return blocks::all::blocks(ram, setup, far, wide, tall, most, flow);
         }
         return word_by_word(ram, setup, width, height, flow);
     }

@@ -11,13 +11,13 @@ use Rattle.blocks.proofs.one.one_block.Tie as tie
 made-requires : tie.Need-made-requires
 made-requires c κs = let pre = c .before .before .before .before .before .before .before .before .before .pre in (pre .0, pre .2, pre .3, pre .6, pre .7, pre .8, pre .9, pre .10, pre .11, pre .12)
 
-stored-requires : tie.Need-stored-requires
-stored-requires c κs =
+store-words-requires : tie.Need-store-words-requires
+store-words-requires c κs =
     let pre = c .before .before .before .before .before .before .before .before .before .before .before .before .before .pre in
     let placed = pre .0 in (placed .d .inside, pre .2, placed .some, placed .d .small, stride-lt _ _ _ _ _ _ _ _ (placed .d) (placed .most) (placed .some) (placed .narrow))
 
-pointers-requires : tie.Need-pointers-requires
-pointers-requires c κs =
+pointers-on-requires : tie.Need-pointers-on-requires
+pointers-on-requires c κs =
     let pre = c .before .before .before .before .before .before .before .before .before .before .before .before .before .before .before .before .pre in
     let placed = pre .0 in (
       placed .a .small,
@@ -47,7 +47,7 @@ returns c =
       end .3,
       end .4,
       end .5,
-      block-is _ _ _ _ _ _ _ (pre .0) _ _ _ _ _ _ _ (pre .3) (pre .1) (end .6) (c .before .before .before .before .before .before .stored .ensures) (rw (c .before .before .before .pointers .ensures, c .counted .ensures) refl),
+      block-is _ _ _ _ _ _ _ (pre .0) _ _ _ _ _ _ _ (pre .3) (pre .1) (end .6) (c .before .before .before .before .before .before .store-words .ensures) (rw (c .before .before .before .pointers-on .ensures, c .counted .ensures) refl),
       finished-still _ _ _ _ _ _ _ _ _ _ _ (end .6),
     )
 
@@ -57,8 +57,8 @@ one-block-spec =
     (tie.spec
     made-requires
     (λ c. search needs)
-    stored-requires
-    pointers-requires
+    store-words-requires
+    pointers-on-requires
     mul-counted
     counted-requires
     (λ c. search needs)

@@ -1,8 +1,8 @@
--- `blocks::run::rest_a` meets its contract: the word laid 64 times, then masked in as many rows as fit.
+-- `blocks::all::rest_a` meets its contract: the word laid 64 times, then masked in as many rows as fit.
 use Rattle.blocks.proofs.SuppliedLaws.{rests-not, rests-in-columns, rows-fit, rests-masked}
 use borrow.Author.Needs.{needs}
-use Rattle.blocks.proofs.run.rest_a.Statement.{statement}
-use Rattle.blocks.proofs.run.rest_a.Tie as tie
+use Rattle.blocks.proofs.all.rest_a.Statement.{statement}
+use Rattle.blocks.proofs.all.rest_a.Tie as tie
 
 returns : tie.Need-returns
 returns c = (search needs, rests-not _ _ _ _ (search needs))

@@ -1,8 +1,8 @@
--- `blocks::run::rest` meets its contract: the word laid 64 times.
+-- `blocks::all::rest` meets its contract: the word laid 64 times.
 use Rattle.blocks.proofs.SuppliedLaws.{rests-not, rests-level}
 use borrow.Author.Needs.{needs}
-use Rattle.blocks.proofs.run.rest.Statement.{statement}
-use Rattle.blocks.proofs.run.rest.Tie as tie
+use Rattle.blocks.proofs.all.rest.Statement.{statement}
+use Rattle.blocks.proofs.all.rest.Tie as tie
 
 returns : tie.Need-returns
 returns c = (search needs, rests-not _ _ _ _ (search needs))

@@ -1,4 +1,4 @@
--- `blocks::run::run` meets its contract, block by block. The facts are named, for `search` reads too few.
+-- `blocks::all::block_by_block` meets its contract, block by block. The facts are named, for `search` reads too few.
 use Prim.Native.Nat.{_-_}
 use lib.ListN.{length}
 use mathlib.Core.Path.{_≡_, refl}
@@ -7,10 +7,10 @@ use native.Mathlib.Omega.{arith}
 use Rattle.blocks.specs.Inner.Rests.{AllRest}
 use Rattle.blocks.specs.Inner.Repeats.{Repeating}
 use Rattle.blocks.proofs.RepeatsLaws.{repeating-starts, repeating-on, ready-of}
-use Rattle.blocks.proofs.RunLaws.{Running, running-starts, placed-on, apart-on, one-word, few-rows, room-here, leaves-quietly, running-on, running-done}
+use Rattle.blocks.proofs.RunningLaws.{Running, running-starts, placed-on, apart-on, one-word, few-rows, room-here, leaves-quietly, running-on, running-done}
 use borrow.Author.Needs.{needs}
-use Rattle.blocks.proofs.run.run.Statement.{statement}
-use Rattle.blocks.proofs.run.run.Tie as tie
+use Rattle.blocks.proofs.all.block_by_block.Statement.{statement}
+use Rattle.blocks.proofs.all.block_by_block.Tie as tie
 
 abbrev Inv-loop : tie.InvT-loop
 Inv-loop ram₀ setup far width height most xa₀ xb₀ xc₀ ya₀ o₀ here₀ row₀ ram xa xb xc ya o here row =
@@ -69,8 +69,8 @@ loop-again c =
 returns : tie.Need-returns Inv-loop μ-loop
 returns c = running-done _ _ _ _ _ _ _ _ _ (omega arith) (c .before .loop .inv .0)
 
-pub run-spec : {M : Type 1} → statement M
-run-spec =
+pub block-by-block-spec : {M : Type 1} → statement M
+block-by-block-spec =
     tie.close
     (tie.spec
     Inv-loop

@@ -1,4 +1,4 @@
--- `blocks::run::repeats` meets its contract: no source is used, nothing is filled, and two blocks are done.
+-- `blocks::all::repeats` meets its contract: no source is used, nothing is filled, and two blocks are done.
 use mathlib.Core.Path.{_≡_, sym}
 use Prim.Native.Nat.{ℕ, _<_}
 use mathlib.Core.Bool.{true, false, _||_}
@@ -10,8 +10,8 @@ use Rattle.area.specs.declared.types.Setup.{Setup}
 use Rattle.block.proofs.EachLaws.{never}
 use Rattle.blocks.specs.Inner.Repeats.{Still}
 use borrow.Author.Needs.{needs}
-use Rattle.blocks.proofs.run.repeats.Statement.{statement}
-use Rattle.blocks.proofs.run.repeats.Tie as tie
+use Rattle.blocks.proofs.all.repeats.Statement.{statement}
+use Rattle.blocks.proofs.all.repeats.Tie as tie
 
 still-of : (setup : Setup) (most row : ℕ) → (setup .uses .a || setup .uses .b || setup .uses .c) ≡ false → setup .fill ≡ Off → ltb most row ≡ true → Still setup × (most < row)
 still-of setup most row none off past = (

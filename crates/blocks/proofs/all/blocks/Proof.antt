@@ -1,14 +1,14 @@
--- `blocks::run::blocks` meets its contract: the arrays of the sources at rest are laid, then the blocks run.
+-- `blocks::all::blocks` meets its contract: the arrays of the sources at rest are laid, then the blocks run.
 use mathlib.Core.Path.{refl}
 use borrow.Author.Needs.{needs}
-use Rattle.blocks.proofs.run.blocks.Statement.{statement}
-use Rattle.blocks.proofs.run.blocks.Tie as tie
+use Rattle.blocks.proofs.all.blocks.Statement.{statement}
+use Rattle.blocks.proofs.all.blocks.Tie as tie
 
 all-rest-requires : tie.Need-all-rest-requires
 all-rest-requires c κs = (c .before .before .before .before .before .before .before .pre .0 .some, c .before .before .before .before .before .before .before .pre .0 .narrow, search needs, search needs, search needs)
 
-run-requires : tie.Need-run-requires
-run-requires c κs =
+block-by-block-requires : tie.Need-block-by-block-requires
+block-by-block-requires c κs =
     let pre = c .before .before .before .before .before .before .before .before .before .before .before .before .before .before .pre in
     let rest = c .before .before .before .before .before .before .all-rest .ensures in (
       pre .0,
@@ -31,6 +31,6 @@ blocks-spec =
     tie.close
     (tie.spec
     all-rest-requires
-    run-requires
+    block-by-block-requires
     (λ c. search needs)
     (λ c. search needs))

@@ -1,14 +1,14 @@
--- `blocks::one::pointers` meets its contract, channel by channel.
+-- `blocks::one::pointers_on` meets its contract, channel by channel.
 use mathlib.Core.Path.{refl}
 use borrow.Author.Needs.{needs}
-use Rattle.blocks.proofs.one.pointers.Statement.{statement}
-use Rattle.blocks.proofs.one.pointers.Tie as tie
+use Rattle.blocks.proofs.one.pointers_on.Statement.{statement}
+use Rattle.blocks.proofs.one.pointers_on.Tie as tie
 
 returns : tie.Need-returns
 returns c = rw (c .rows-on4 .ensures, c .before .rows-on3 .ensures, c .before .before .rows-on2 .ensures, c .before .before .before .rows-on .ensures) refl
 
-pub pointers-spec : {M : Type 1} → statement M
-pointers-spec =
+pub pointers-on-spec : {M : Type 1} → statement M
+pointers-on-spec =
     tie.close
     (tie.spec
     (λ c κs. search needs)

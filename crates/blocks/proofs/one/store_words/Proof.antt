@@ -1,8 +1,8 @@
--- `blocks::one::stored` meets its contract: all words, or none.
+-- `blocks::one::store_words` meets its contract: all words, or none.
 use Rattle.word.proofs.ChoiceLaws.{if-when-true, if-when-false}
 use borrow.Author.Needs.{needs}
-use Rattle.blocks.proofs.one.stored.Statement.{statement}
-use Rattle.blocks.proofs.one.stored.Tie as tie
+use Rattle.blocks.proofs.one.store_words.Statement.{statement}
+use Rattle.blocks.proofs.one.store_words.Tie as tie
 
 narrow-rows-requires : tie.Need-narrow-rows-requires
 narrow-rows-requires c κs = (c .before .before .before .before .pre .0 (c .before .before .if1 .taken), search needs, search needs, search needs, search needs, search needs)
@@ -19,8 +19,8 @@ returns-2 c = search (needs, if-when-true)
 returns-3 : tie.Need-returns-3
 returns-3 c = search (needs, if-when-false)
 
-pub stored-spec : {M : Type 1} → statement M
-stored-spec =
+pub store-words-spec : {M : Type 1} → statement M
+store-words-spec =
     tie.close
     (tie.spec
     narrow-rows-requires

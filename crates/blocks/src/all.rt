@@ -46,7 +46,7 @@ fn repeats(setup: Setup, most: usize, row: usize) -> bool
 }
 
 // Block by block: what is left is done as it would have been.
-fn run(
+fn block_by_block(
     ram: &mut [u16],
     setup: Setup,
     far: Strides,
@@ -153,7 +153,7 @@ pub fn blocks(
     let masks = setup.masks;
     let sources = flow.sources;
     all_rest(uses, masks, width, sources, &mut xa, &mut xb, &mut xc);
-    run(
+    block_by_block(
         ram,
         setup,
         far,

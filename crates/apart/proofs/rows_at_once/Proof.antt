@@ -6,7 +6,8 @@ use Rattle.apart.proofs.rows_at_once.Statement.{statement}
 use Rattle.apart.proofs.rows_at_once.Tie as tie
 
 span-requires : tie.Need-span-requires
-span-requires c κs = (c .before .before .pre .most, c .before .before .pre .d .small, moves-lt _ _ _ _ _ (c .before .before .pre .d), c .before .before .pre .some, c .before .before .pre .narrow, c .before .before .pre .rows, c .before .before .pre .few)
+span-requires c κs =
+    let pre = c .before .before .pre in (pre .most, pre .d .small, moves-lt _ _ _ _ _ (pre .d), pre .some, pre .narrow, pre .rows, pre .few)
 
 returns : tie.Need-returns
 returns c = (omega arith, λ some. absurd (omega arith))
@@ -15,13 +16,16 @@ div-source-rows : tie.Need-div-source-rows
 div-source-rows c = omega (arith, c .before .before .before .before .before .before .pre .some)
 
 source-rows-requires : tie.Need-source-rows-requires
-source-rows-requires c κs = (c .before .before .before .before .before .before .pre .most, c .before .before .before .before .before .before .pre .a .small, moves-lt _ _ _ _ _ (c .before .before .before .before .before .before .pre .a), moves-lt _ _ _ _ _ (c .before .before .before .before .before .before .pre .d), c .before .before .before .before .before .before .pre .some, c .before .before .before .before .before .before .pre .narrow, c .before .before .before .before .before .before .pre .rows, c .before .before .before .before .before .before .pre .few)
+source-rows-requires c κs =
+    let pre = c .before .before .before .before .before .before .pre in (pre .most, pre .a .small, moves-lt _ _ _ _ _ (pre .a), moves-lt _ _ _ _ _ (pre .d), pre .some, pre .narrow, pre .rows, pre .few)
 
 source-rows-requires-2 : tie.Need-source-rows-requires-2
-source-rows-requires-2 c κs = (c .before .before .before .before .before .before .before .before .pre .most, c .before .before .before .before .before .before .before .before .pre .b .small, moves-lt _ _ _ _ _ (c .before .before .before .before .before .before .before .before .pre .b), moves-lt _ _ _ _ _ (c .before .before .before .before .before .before .before .before .pre .d), c .before .before .before .before .before .before .before .before .pre .some, c .before .before .before .before .before .before .before .before .pre .narrow, c .before .before .before .before .before .before .before .before .pre .rows, c .before .before .before .before .before .before .before .before .pre .few)
+source-rows-requires-2 c κs =
+    let pre = c .before .before .before .before .before .before .before .before .pre in (pre .most, pre .b .small, moves-lt _ _ _ _ _ (pre .b), moves-lt _ _ _ _ _ (pre .d), pre .some, pre .narrow, pre .rows, pre .few)
 
 source-rows-requires-3 : tie.Need-source-rows-requires-3
-source-rows-requires-3 c κs = (c .before .before .before .before .before .before .before .before .before .before .pre .most, c .before .before .before .before .before .before .before .before .before .before .pre .c .small, moves-lt _ _ _ _ _ (c .before .before .before .before .before .before .before .before .before .before .pre .c), moves-lt _ _ _ _ _ (c .before .before .before .before .before .before .before .before .before .before .pre .d), c .before .before .before .before .before .before .before .before .before .before .pre .some, c .before .before .before .before .before .before .before .before .before .before .pre .narrow, c .before .before .before .before .before .before .before .before .before .before .pre .rows, c .before .before .before .before .before .before .before .before .before .before .pre .few)
+source-rows-requires-3 c κs =
+    let pre = c .before .before .before .before .before .before .before .before .before .before .pre in (pre .most, pre .c .small, moves-lt _ _ _ _ _ (pre .c), moves-lt _ _ _ _ _ (pre .d), pre .some, pre .narrow, pre .rows, pre .few)
 
 returns-2 : tie.Need-returns-2
 returns-2 c =

@@ -8,19 +8,19 @@ use Rattle.engine.proofs.area_blit.Tie as tie
 
 rows-at-once-requires : tie.Need-rows-at-once-requires
 rows-at-once-requires c κs =
-    record {
+    let pre = c .before .before .before .before .pre in record {
       most = c .before .before .worth-a-block .ensures (c .before .if1 .taken);
-      some = c .before .before .before .before .pre .2;
-      narrow = c .before .before .before .before .pre .3;
-      rows = c .before .before .before .before .pre .4;
-      few = c .before .before .before .before .pre .5;
-      shift-a = c .before .before .before .before .pre .0;
-      shift-b = c .before .before .before .before .pre .1;
-      none = c .before .before .before .before .pre .10;
-      a = record { stride = c .strides .ensures .a; small = c .before .before .before .before .pre .6 };
-      b = record { stride = c .strides .ensures .b; small = c .before .before .before .before .pre .7 };
-      c = record { stride = c .strides .ensures .c; small = c .before .before .before .before .pre .8 };
-      d = record { stride = c .strides .ensures .d; small = c .before .before .before .before .pre .9 };
+      some = pre .2;
+      narrow = pre .3;
+      rows = pre .4;
+      few = pre .5;
+      shift-a = pre .0;
+      shift-b = pre .1;
+      none = pre .10;
+      a = record { stride = c .strides .ensures .a; small = pre .6 };
+      b = record { stride = c .strides .ensures .b; small = pre .7 };
+      c = record { stride = c .strides .ensures .c; small = pre .8 };
+      d = record { stride = c .strides .ensures .d; small = pre .9 };
     }
 
 mul-worth-a-block : tie.Need-mul-worth-a-block

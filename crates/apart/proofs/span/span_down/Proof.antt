@@ -15,8 +15,8 @@ returns-2 c = λ told. never (sym told)
 
 returns-3 : tie.Need-returns-3
 returns-3 c =
-    λ _. span-downward _ _ _ _ _ _ _ _ _ (c .before .before .before .before .before .pre .0) (c .before .before .before .before .before .pre .4) (c .before .before .before .before .before .pre .6) (c .before .before .before .before .below .ensures .0) (c .before .before .before .above .ensures .0) (c .before .before .before .before .before .pre .2) (c .before .before .before .before .before .pre .3)
-    (c .before .before .before .before .before .pre .1) (c .before .before .distance .ensures .0) (omega arith) (omega arith)
+    let pre = c .before .before .before .before .before .pre in λ _. span-downward _ _ _ _ _ _ _ _ _ (pre .0) (pre .4) (pre .6) (c .before .before .before .before .below .ensures .0) (c .before .before .before .above .ensures .0) (pre .2) (pre .3)
+    (pre .1) (c .before .before .distance .ensures .0) (omega arith) (omega arith)
 
 pub span-down-spec : {M : Type 1} → statement M
 span-down-spec =

@@ -18,7 +18,8 @@ returns-2 : tie.Need-returns-2
 returns-2 c = (search needs, fetch-rows-when _ _ (c .before .before .if2 .taken) _ _ _ _ _ _ (c .rows2 .ensures .1))
 
 rows-requires-3 : tie.Need-rows-requires-3
-rows-requires-3 c κs = (even-when _ _ (omega (arith, c .before .before .before .before .pre .2, c .before .before .before .before .pre .3)) _ _ _ _ _ (c .before .before .before .before .pre .0), room-when _ _ (omega (arith, c .before .before .before .before .pre .2, c .before .before .before .before .pre .3)) _ (c .before .before .before .before .pre .1), search needs, search needs, search needs, search needs)
+rows-requires-3 c κs =
+    let pre = c .before .before .before .before .pre in (even-when _ _ (omega (arith, pre .2, pre .3)) _ _ _ _ _ (pre .0), room-when _ _ (omega (arith, pre .2, pre .3)) _ (pre .1), search needs, search needs, search needs, search needs)
 
 returns-3 : tie.Need-returns-3
 returns-3 c = (search needs, fetch-rows-when _ _ (omega arith) _ _ _ _ _ _ (c .rows3 .ensures .1))

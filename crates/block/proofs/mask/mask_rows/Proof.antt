@@ -27,14 +27,15 @@ mask-row-requires : tie.Need-mask-row-requires Inv-loop μ-loop
 mask-row-requires c κs = (search needs, omega (arith, s-room _ _ (c .before .before .loop .row) _ (c .before .before .before .pre .1) (c .before .loop-test .taken) (c .before .before .loop .inv .2)), search needs)
 
 loop-again : tie.Need-loop-again Inv-loop μ-loop
-loop-again c = (
-  search needs,
-  s-room _ _ (c .before .before .before .loop .row) _ (c .before .before .before .before .pre .1) (c .before .before .loop-test .taken) (c .before .before .before .loop .inv .2),
-  s-next _ _ _ (c .before .before .before .loop .inv .2),
-  search needs,
-  mask-row-kept _ _ _ _ _ _ _ (search needs) (c .before .before .before .loop .inv .2) (omega (arith, s-room _ _ (c .before .before .before .loop .row) _ (c .before .before .before .before .pre .1) (c .before .before .loop-test .taken) (c .before .before .before .loop .inv .2), c .before .before .before .loop .inv .3)) (c .mask-row .ensures .1) (c .before .before .before .loop .inv .4),
-  mask-row-turn _ _ _ _ _ _ _ (search needs) (c .before .before .before .loop .inv .2) (omega (arith, s-room _ _ (c .before .before .before .loop .row) _ (c .before .before .before .before .pre .1) (c .before .before .loop-test .taken) (c .before .before .before .loop .inv .2), c .before .before .before .loop .inv .3)) (c .mask-row .ensures .1) (c .before .before .before .loop .inv .4) (c .before .before .before .loop .inv .5),
-)
+loop-again c =
+    let pre = c .before .before .before .before .pre in (
+      search needs,
+      s-room _ _ (c .before .before .before .loop .row) _ (pre .1) (c .before .before .loop-test .taken) (c .before .before .before .loop .inv .2),
+      s-next _ _ _ (c .before .before .before .loop .inv .2),
+      search needs,
+      mask-row-kept _ _ _ _ _ _ _ (search needs) (c .before .before .before .loop .inv .2) (omega (arith, s-room _ _ (c .before .before .before .loop .row) _ (pre .1) (c .before .before .loop-test .taken) (c .before .before .before .loop .inv .2), c .before .before .before .loop .inv .3)) (c .mask-row .ensures .1) (c .before .before .before .loop .inv .4),
+      mask-row-turn _ _ _ _ _ _ _ (search needs) (c .before .before .before .loop .inv .2) (omega (arith, s-room _ _ (c .before .before .before .loop .row) _ (pre .1) (c .before .before .loop-test .taken) (c .before .before .before .loop .inv .2), c .before .before .before .loop .inv .3)) (c .mask-row .ensures .1) (c .before .before .before .loop .inv .4) (c .before .before .before .loop .inv .5),
+    )
 
 returns : tie.Need-returns Inv-loop μ-loop
 returns c = (search needs, each-fewer _ _ _ _ (omega (arith, s-done _ _ _ _ (c .before .loop .inv .0) (omega arith) (c .before .loop .inv .2))) (c .before .loop .inv .5))

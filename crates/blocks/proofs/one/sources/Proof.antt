@@ -5,13 +5,16 @@ use Rattle.blocks.proofs.one.sources.Statement.{statement}
 use Rattle.blocks.proofs.one.sources.Tie as tie
 
 supplied-a-requires : tie.Need-supplied-a-requires
-supplied-a-requires c κs = (c .before .before .before .before .before .pre .0 .a .inside, c .before .before .before .before .before .pre .1, c .before .before .before .before .before .pre .2, c .before .before .before .before .before .pre .0 .some, c .before .before .before .before .before .pre .0 .a .small, stride-lt _ _ _ _ _ _ _ _ (c .before .before .before .before .before .pre .0 .a) (c .before .before .before .before .before .pre .0 .most) (c .before .before .before .before .before .pre .0 .some) (c .before .before .before .before .before .pre .0 .narrow), search needs, c .before .before .before .before .before .pre .6 .a)
+supplied-a-requires c κs =
+    let pre = c .before .before .before .before .before .pre in (pre .0 .a .inside, pre .1, pre .2, pre .0 .some, pre .0 .a .small, stride-lt _ _ _ _ _ _ _ _ (pre .0 .a) (pre .0 .most) (pre .0 .some) (pre .0 .narrow), search needs, pre .6 .a)
 
 supplied-requires : tie.Need-supplied-requires
-supplied-requires c κs = (c .before .before .before .before .before .before .before .before .pre .0 .b .inside, c .before .before .before .before .before .before .before .before .pre .1, c .before .before .before .before .before .before .before .before .pre .2, c .before .before .before .before .before .before .before .before .pre .0 .some, c .before .before .before .before .before .before .before .before .pre .0 .b .small, stride-lt _ _ _ _ _ _ _ _ (c .before .before .before .before .before .before .before .before .pre .0 .b) (c .before .before .before .before .before .before .before .before .pre .0 .most) (c .before .before .before .before .before .before .before .before .pre .0 .some) (c .before .before .before .before .before .before .before .before .pre .0 .narrow), search needs, c .before .before .before .before .before .before .before .before .pre .6 .b)
+supplied-requires c κs =
+    let pre = c .before .before .before .before .before .before .before .before .pre in (pre .0 .b .inside, pre .1, pre .2, pre .0 .some, pre .0 .b .small, stride-lt _ _ _ _ _ _ _ _ (pre .0 .b) (pre .0 .most) (pre .0 .some) (pre .0 .narrow), search needs, pre .6 .b)
 
 supplied-requires-2 : tie.Need-supplied-requires-2
-supplied-requires-2 c κs = (c .before .before .before .before .before .before .before .before .before .before .before .pre .0 .c .inside, c .before .before .before .before .before .before .before .before .before .before .before .pre .1, c .before .before .before .before .before .before .before .before .before .before .before .pre .2, c .before .before .before .before .before .before .before .before .before .before .before .pre .0 .some, c .before .before .before .before .before .before .before .before .before .before .before .pre .0 .c .small, stride-lt _ _ _ _ _ _ _ _ (c .before .before .before .before .before .before .before .before .before .before .before .pre .0 .c) (c .before .before .before .before .before .before .before .before .before .before .before .pre .0 .most) (c .before .before .before .before .before .before .before .before .before .before .before .pre .0 .some) (c .before .before .before .before .before .before .before .before .before .before .before .pre .0 .narrow), c .before .before .before .before .before .before .before .before .before .before .before .pre .5, c .before .before .before .before .before .before .before .before .before .before .before .pre .6 .c)
+supplied-requires-2 c κs =
+    let pre = c .before .before .before .before .before .before .before .before .before .before .before .pre in (pre .0 .c .inside, pre .1, pre .2, pre .0 .some, pre .0 .c .small, stride-lt _ _ _ _ _ _ _ _ (pre .0 .c) (pre .0 .most) (pre .0 .some) (pre .0 .narrow), pre .5, pre .6 .c)
 
 returns : tie.Need-returns
 returns c = (

@@ -35,13 +35,6 @@ fetchedOn direction uses memory flow =
     })
     (fetch uses memory flow)
 
--- a word is finished the same wherever the pointers stand
-pub finish-anywhere : (setup : Setup) (first last : Bool) (pointers : Pointers) (flow : Flow)
-    → finish setup first last (withPointers pointers flow)
-    ≡ (record { word = finish setup first last flow .word; flow = withPointers pointers (finish setup first last flow .flow) })
-unfolding finish final result maskedA
-finish-anywhere setup first last pointers flow = refl
-
 -- the count of a finished word is that before it
 pub finished-room : (setup : Setup) (direction : Direction) (uses : Uses) (first last : Bool) (memory : List ℕ) (flow fetched : Flow) (made : Finished)
     → fetched ≡ fetchedOn direction uses memory flow → made ≡ finish setup first last fetched

@@ -6,12 +6,7 @@ use lib.Bits.{bitAnd}
 use Rattle.word.specs.Word.{bit}
 use Rattle.word.specs.Logic.{logic}
 use Rattle.word.proofs.WordLaws.{bit-lt, bit-of-and, bit-of-ofBits, bits-are-enough, bit-cases}
-use Rattle.word.proofs.LogicLaws.{logic-lt}
-
-pub bit-of-logic : (f a b c i : ℕ) → i < 16 → bit (logic f a b c) i ≡ bit f (4 * bit a i + 2 * bit b i + bit c i)
-unfolding logic
-bit-of-logic f a b c i inside =
-    bit-of-ofBits (λ i. bit f (4 * bit a i + 2 * bit b i + bit c i)) 16 (λ i. bit-lt f (4 * bit a i + 2 * bit b i + bit c i)) i inside
+use Rattle.word.proofs.LogicLaws.{bit-of-logic, logic-lt}
 
 logic-same : (f a b c a′ b′ c′ : ℕ)
     → ((i : ℕ) → i < 16 → bit f (4 * bit a i + 2 * bit b i + bit c i) ≡ bit f (4 * bit a′ i + 2 * bit b′ i + bit c′ i))

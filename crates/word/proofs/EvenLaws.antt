@@ -94,13 +94,3 @@ module _ (n : ℕ) (direction : Direction) (width modulo rows : ℕ) (pointer : 
   pub RowsInside-first : 0 < rows → RowsInside n direction width modulo rows pointer → RowInside n direction width pointer
   unfolding RowsInside repeated
   RowsInside-first more inside = inside 0 more
-
-  pub RowsInside-lt : 0 < rows → 1 ≤ width → RowsInside n direction width modulo rows pointer → pointer .word < n
-  RowsInside-lt more some inside = RowInside-lt n direction width pointer some (RowsInside-first more inside)
-
--- every word of a column lies inside
-pub RowsInside-column : (n : ℕ) (direction : Direction) (modulo rows : ℕ) (pointer : Pointer) → RowsInside n direction 1 modulo rows pointer
-    → (k : ℕ) → k < rows → repeated (λ _. nextRow direction 1 modulo) k pointer .word < n
-unfolding RowsInside
-RowsInside-column n direction modulo rows pointer inside k below =
-    RowInside-lt n direction 1 (repeated (λ _. nextRow direction 1 modulo) k pointer) (omega arith) (inside k below)

@@ -67,30 +67,14 @@ logic-is-tree f a b c ha hb hc =
     ofBits-is-unique (λ i. bit f (4 * bit a i + 2 * bit b i + bit c i)) 16 _ (search (picked-lt, spread-lt))
     (λ i h. simp (bit-of-picked, bit-of-spread) (tree-of-bits f (bit a i) (bit b i) (bit c i) (bit-lt a i) (bit-lt b i) (bit-lt c i)))
 
--- A picks, bit by bit, what the function gives with A all ones, or with A nought
-bit-of-logic : (f a b c i : ℕ) → i < 16 → bit (logic f a b c) i ≡ bit f (4 * bit a i + 2 * bit b i + bit c i)
+-- each bit by the sources' bits
+pub bit-of-logic : (f a b c i : ℕ) → i < 16 → bit (logic f a b c) i ≡ bit f (4 * bit a i + 2 * bit b i + bit c i)
 unfolding logic
 bit-of-logic f a b c i inside = bit-of-ofBits (λ i. bit f (4 * bit a i + 2 * bit b i + bit c i)) 16 (λ i. bit-lt f (4 * bit a i + 2 * bit b i + bit c i)) i inside
 
 pub logic-lt : (f a b c : ℕ) → logic f a b c < 2 ^ 16
 unfolding logic
 logic-lt f a b c = ofBits-lt (λ i. bit f (4 * bit a i + 2 * bit b i + bit c i)) 16 (λ i. bit-lt f (4 * bit a i + 2 * bit b i + bit c i))
-
-chosen-by-a : (f a b c : ℕ) → a < 2 → chosen a (bit f (4 * 1 + 2 * b + c)) (bit f (4 * 0 + 2 * b + c)) ≡ bit f (4 * a + 2 * b + c)
-unfolding chosen
-chosen-by-a f a b c small = bit-cases (λ a. chosen a (bit f (4 * 1 + 2 * b + c)) (bit f (4 * 0 + 2 * b + c)) ≡ bit f (4 * a + 2 * b + c)) refl refl a small
-
-pub logic-by-a : (f a b c : ℕ) → a < 2 ^ 16 → picked a (logic f 65535 b c) (logic f 0 b c) ≡ logic f a b c
-logic-by-a f a b c small =
-    bits-are-enough 16 (picked a (logic f 65535 b c) (logic f 0 b c)) (logic f a b c)
-    (picked-lt a (logic f 65535 b c) (logic f 0 b c) small (logic-lt f 65535 b c) (logic-lt f 0 b c)) (logic-lt f a b c)
-    (λ i inside.
-    bit-of-picked a (logic f 65535 b c) (logic f 0 b c) i
-    ∙ ap₂ (chosen (bit a i))
-    (bit-of-logic f 65535 b c i inside ∙ ap (λ (one : ℕ). bit f (4 * one + 2 * bit b i + bit c i)) (bit-of-spread 1 i inside))
-    (bit-of-logic f 0 b c i inside ∙ ap (λ (none : ℕ). bit f (4 * none + 2 * bit b i + bit c i)) (bit-of-spread 0 i inside))
-    ∙ chosen-by-a f (bit a i) (bit b i) (bit c i) (bit-lt a i)
-    ∙ sym (bit-of-logic f a b c i inside))
 
 -- function F0 gives A
 f0-of-bits : (a b c : ℕ) → a < 2 → b < 2 → c < 2 → a ≡ bit 0xF0 (4 * a + 2 * b + c)

@@ -32,7 +32,7 @@ use Rattle.apart.specs.Inner.Apart.{Apart, AllApart}
 use Rattle.apart.proofs.PlacedLaws.{channel-place, channel-rows}
 use Rattle.blocks.specs.declared.types.Made.{Made}
 use Rattle.blocks.specs.Inner.Rests.{suppliedAt, Rests, AllRest, suppliedA, suppliedB, suppliedC, Supplied}
-use Rattle.blocks.specs.Inner.Repeats.{MadeOf}
+use Rattle.blocks.specs.Inner.MadeOf.{MadeOf}
 use Rattle.blocks.proofs.FinalsLaws.{shiftedAt-same, filledAt-same}
 
 -- what a source gives is what the blit fetches

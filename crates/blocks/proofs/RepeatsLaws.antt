@@ -28,7 +28,8 @@ use Rattle.block.proofs.FillLaws.{carry-of-off}
 use Rattle.apart.specs.declared.types.Strides.{Strides}
 use Rattle.blocks.specs.declared.types.Made.{Made}
 use Rattle.blocks.specs.Inner.Rests.{Rests, AllRest, Supplied}
-use Rattle.blocks.specs.Inner.Repeats.{Still, stillAt, lastWords, Prepared, MadeOf, Repeating}
+use Rattle.blocks.specs.Inner.MadeOf.{MadeOf}
+use Rattle.blocks.specs.Inner.Repeats.{Still, stillAt, lastWords, Prepared, Repeating}
 use Rattle.blocks.proofs.FinalsLaws.{shiftedAt-same, filledAt-same}
 use Rattle.blocks.proofs.SuppliedLaws.{supplied-rests, supplied-level, supplied-idle}
 use Rattle.blocks.proofs.BlockLaws.{before-last, same-earlier, same-sources}

@@ -90,9 +90,9 @@ pub nought-not : (allzero still : Bool) → allzero ≡ false → false ≡ (all
 nought-not allzero still fails = rw fails
 
 -- so many strides on
-pub rows-far : (rows far : ℕ) → rows ≤ 64 → far < pointerEnd → rows * far ≤ 64 * 262144
+pub rows-far : (rows far : ℕ) → rows ≤ 64 → far < pointerEnd → rows * far ≤ 64 * pointerEnd
 rows-far rows far few short =
-    let most : far ≤ 262144 = omega arith in
+    let most : far ≤ pointerEnd = omega arith in
     le-trans (mul-le-mul-right far few) (mul-le-mul-left 64 most)
 
 pub pointer-on : (used : Bool) (far rows : ℕ) (pointer : Pointer) → used ≡ true

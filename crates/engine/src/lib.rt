@@ -38,7 +38,7 @@ fn word_by_word(ram: &mut [u16], setup: Setup, width: u32, height: u32, flow: Fl
     area::store::store_pending(ram, end)
 }
 
-// A few words cost less one by one; and blocks take memory that a pointer can't leave for no more than it is.
+// A few words cost less one by one. Blocks want memory no longer than a pointer reaches.
 fn worth_a_block(n: usize, words: u32) -> bool
     ensures { λ worth. ⌜ (worth ≡ true → n ≤ pointerEnd) ⌝ }
 {

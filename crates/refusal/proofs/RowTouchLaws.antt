@@ -65,8 +65,8 @@ leaves-downward n (suc (suc remaining)) pointer short small some =
         ≡ leaves n (rowTouches Descending (suc remaining) (record { word = (word + (pointerEnd - 1)) % pointerEnd }))
         → ltb (word + 1) (suc (suc remaining)) ≡ leaves n (rowTouches Descending (suc remaining) (record { word = (word + (pointerEnd - 1)) % pointerEnd }))
     rest zero inside later =
-        let round : leb n 262143 ≡ true = le-leb n 262143 (omega arith) in
-        lt-ltb 1 (suc (suc remaining)) (omega arith) ∙ (ap (λ (first : Bool). first || ltb 262144 (suc remaining)) (sym round) ∙ later)
+        let round : leb n (pointerEnd - 1) ≡ true = le-leb n (pointerEnd - 1) (omega arith) in
+        lt-ltb 1 (suc (suc remaining)) (omega arith) ∙ (ap (λ (first : Bool). first || ltb pointerEnd (suc remaining)) (sym round) ∙ later)
     rest (suc word) inside later =
         let next : (suc word + (pointerEnd - 1)) % pointerEnd ≡ word = omega arith in
         let below : leb n word ≡ false = lt-leb n word (omega arith) in

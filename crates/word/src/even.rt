@@ -53,8 +53,7 @@ fn span_inside(n: u32, direction: Direction, width: u32, lowest: u32, highest: u
     }
 }
 
-// No pointer leaves memory of 262,144 words, and a row of one word doesn't
-// go round.
+// No pointer leaves memory of 262,144 words, and a row of one word doesn't go round.
 pub fn evenly_inside(
     n: usize,
     direction: Direction,

@@ -2,18 +2,14 @@
 -- from the second block on. So are the words, which stand ready for every block after that.
 use Prim.Native.Nat.{ℕ, _-_, _*_, _<_, _≤_}
 use mathlib.Core.Path.{_≡_}
-use mathlib.Core.Bool.{true, false, _&&_}
+use mathlib.Core.Bool.{true, false}
 use mathlib.Core.List.{List}
-use lib.ListN.{getD}
 use Rattle.word.specs.declared.types.Fill.the-variants.{Off}
 use Rattle.area.specs.declared.types.Earlier.{Earlier}
 use Rattle.area.specs.declared.types.Sources.{Sources}
 use Rattle.area.specs.declared.types.Setup.{Setup}
 use Rattle.area.specs.declared.types.Flow.{Flow}
-use Rattle.quiet.specs.Words.{maskedAt, finalAt}
-use Rattle.apart.specs.declared.types.Strides.{Strides}
-use Rattle.blocks.specs.declared.types.Made.{Made}
-use Rattle.blocks.specs.Inner.Rests.{Supplied}
+use Rattle.quiet.specs.Words.{maskedAt}
 use Rattle.block.specs.Inner.Each.{at, Each, levelAt, finalWordAt, nought}
 
 pub record Still (setup : Setup) : Type 0 where
@@ -38,15 +34,6 @@ pub record Prepared (setup : Setup) (width rows : ℕ) (flow : Flow) (o : List �
   pub earlier : flow .earlier ≡ lastWords setup width (flow .sources)
   pub carry : flow .carry ≡ setup .carry
   pub zero : flow .allzero ≡ true → nought (rows * width) (at o) ≡ true
-
--- the words of a block in an array, by the words of its sources, with what it hands on
-pub record MadeOf (setup : Setup) (width rows : ℕ) (far : Strides) (flow : Flow) (memory xa xb xc o : List ℕ) (end : Made) : Type 0 where
-  pub supplied : Supplied setup width rows far flow memory xa xb xc (end .sources)
-  pub earlier : end .earlier ≡ record { a = getD xa (rows * width - 1) 0; b = getD xb (rows * width - 1) 0 }
-  pub words : (a : ℕ → ℕ) → Each (rows * width) xa (maskedAt (setup .masks) width a)
-      → Each (rows * width) o (finalWordAt setup width (flow .earlier) a (at xb) (at xc))
-      × (end .carry ≡ finalAt setup width (flow .earlier) a (at xb) (at xc) (rows * width - 1) .carry)
-  pub zero : end .allzero ≡ (flow .allzero && nought (rows * width) (at o))
 
 -- what holds before each block: after one, what was handed on; after two that were full, the words too
 pub record Repeating (setup : Setup) (width most height row : ℕ) (flow : Flow) (o : List ℕ) : Type 0 where

@@ -1,11 +1,12 @@
--- `show_words::words` is safe: the place stays below 262,144.
+-- `show_words::words` is safe: the place stays below what a pointer reaches.
 use Prim.Native.Nat.{_<_}
+use Rattle.word.specs.Pointer.{pointerEnd}
 use borrow.Author.Needs.{needs}
 use Rattle.show_words.proofs.words.Statement.{statement}
 use Rattle.show_words.proofs.words.Tie as tie
 
 abbrev Inv-loop : tie.InvT-loop
-Inv-loop run from count more₀ at₀ more at = at < 262144
+Inv-loop run from count more₀ at₀ more at = at < pointerEnd
 
 abbrev μ-loop : tie.MeasureT-loop
 μ-loop run from count more₀ at₀ more at = more

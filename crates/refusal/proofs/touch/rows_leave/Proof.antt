@@ -1,6 +1,7 @@
 -- `refusal::touch::rows_leave` meets its contract: the rows passed stay inside, and the first that leaves decides.
 use Prim.Native.Nat.{_<_}
 use mathlib.Core.Path.{_≡_}
+use Rattle.word.specs.Pointer.{pointerEnd}
 use Rattle.refusal.specs.Touch.{touches, leaves}
 use Rattle.refusal.proofs.TouchLaws.{touches-when-row-leaves, touches-turn, touches-done}
 use borrow.Author.Needs.{needs}
@@ -8,7 +9,7 @@ use Rattle.refusal.proofs.touch.rows_leave.Statement.{statement}
 use Rattle.refusal.proofs.touch.rows_leave.Tie as tie
 
 abbrev Inv-loop : tie.InvT-loop
-Inv-loop n direction width modulo rows here₀ remaining₀ here remaining = (leaves n (touches direction width modulo remaining here) ≡ leaves n (touches direction width modulo remaining₀ here₀)) × (here .word < 262144)
+Inv-loop n direction width modulo rows here₀ remaining₀ here remaining = (leaves n (touches direction width modulo remaining here) ≡ leaves n (touches direction width modulo remaining₀ here₀)) × (here .word < pointerEnd)
 
 abbrev μ-loop : tie.MeasureT-loop
 μ-loop n direction width modulo rows here₀ remaining₀ here remaining = remaining

@@ -1,9 +1,7 @@
 -- The test before a blit tells what its blocks must be told.
-use mathlib.Core.Path.{_≡_, refl, sym, _∙_}
-use Prim.Native.Nat.{ℕ, _*_, _/_, _<_, _≤_}
-use native.Mathlib.Nat.{mul-le-mul-right, div-add-mod'}
-use native.Mathlib.Omega.{arith}
-use mathlib.Core.Bool.{Bool, true, false, not}
+use Rattle.word.proofs.Base.{_≡_, refl, sym, _∙_, ℕ, _*_, _/_, _<_, _≤_, mul-le-mul-right, arith, Bool, true, false}
+use Rattle.word.proofs.Base.{not}
+use native.Mathlib.Nat.{div-add-mod'}
 use Rattle.word.specs.declared.types.Direction.{Direction}
 use Rattle.word.specs.declared.types.Pointer.{Pointer}
 use Rattle.word.specs.Pointer.{pointerEnd}

@@ -1,10 +1,7 @@
 -- Laws of two channels' words: where D's lie apart from a source's, go along behind them, or are so many rows ahead.
-use mathlib.Core.Path.{_≡_, refl, sym, ap, _∙_}
-use Prim.Native.Nat.{ℕ, suc, _+_, _-_, _*_, _/_, _%_, _<_, _≤_}
-use native.Mathlib.Nat.{mul-le-mul-right, suc-mul, add-mul, mod-lt, div-add-mod', div-lt-iff-lt-mul, le-div-iff-mul-le}
-use native.Mathlib.Decide.{decLt}
-use native.Mathlib.Omega.{arith}
-use mathlib.Core.Bool.{Bool, true, false}
+use Rattle.word.proofs.Base.{_≡_, refl, sym, ap, _∙_, ℕ, suc, _+_, _-_, _*_, _/_, _%_, _<_, _≤_, suc-mul, add-mul}
+use Rattle.word.proofs.Base.{mul-le-mul-right, mod-lt, decLt, arith, Bool, true, false}
+use native.Mathlib.Nat.{div-add-mod', div-lt-iff-lt-mul, le-div-iff-mul-le}
 use mathlib.Core.Logic.{_⊎_, inl, inr, ⊎-elim}
 use Rattle.word.specs.declared.types.Direction.{Direction}
 use Rattle.word.specs.declared.types.Direction.the-variants.{Ascending, Descending}

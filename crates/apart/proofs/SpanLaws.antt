@@ -1,8 +1,6 @@
 -- Laws of a channel's rows: they go up or down without going round, between their lowest word and their highest.
-use mathlib.Core.Path.{_≡_, refl, ap, _∙_}
-use Prim.Native.Nat.{ℕ, _+_, _-_, _*_, _%_, _<_, _≤_}
-use native.Mathlib.Nat.{mul-le-mul-right, mul-le-mul-left, le-trans, mod-eq-of-lt, mul-add, add-mul-mod-self-right}
-use native.Mathlib.Omega.{arith}
+use Rattle.word.proofs.Base.{_≡_, refl, ap, _∙_, ℕ, _+_, _-_, _*_, _%_, _<_, _≤_, mul-le-mul-right, mod-eq-of-lt, arith}
+use native.Mathlib.Nat.{mul-le-mul-left, le-trans, mul-add, add-mul-mod-self-right}
 use Rattle.word.specs.declared.types.Direction.{Direction}
 use Rattle.word.specs.declared.types.Direction.the-variants.{Ascending, Descending}
 use Rattle.word.specs.Pointer.{pointerEnd}

@@ -1,8 +1,5 @@
 -- Laws of single channels through a word, a row and all rows: where a used pointer goes, and what memory D changes.
-use mathlib.Core.Path.{_≡_, refl, ap, _∙_}
-use Prim.Native.Nat.{ℕ, zero, suc}
-use mathlib.Core.Bool.{Bool, true, false}
-use lib.ListN.{set}
+use Rattle.word.proofs.Base.{_≡_, refl, ap, _∙_, ℕ, zero, suc, Bool, true, false, set}
 use Rattle.word.specs.declared.types.Direction.{Direction}
 use Rattle.word.specs.declared.types.Pointer.{Pointer}
 use Rattle.word.specs.Repeat.{repeated}

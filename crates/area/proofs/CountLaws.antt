@@ -1,9 +1,5 @@
 -- Every word is counted if D is used: a blit's count is its words, or none.
-use mathlib.Core.Path.{_≡_, refl, sym, ap, _∙_}
-use Prim.Native.Nat.{ℕ, zero, suc, _+_, _*_}
-use native.Mathlib.Nat.{suc-mul}
-use native.Mathlib.Omega.{arith}
-use mathlib.Core.Bool.{Bool, true, false}
+use Rattle.word.proofs.Base.{_≡_, refl, sym, ap, _∙_, ℕ, zero, suc, _+_, _*_, suc-mul, arith, Bool, true, false}
 use Rattle.word.specs.Choice.{if_then_else_}
 use Rattle.word.specs.Repeat.{repeated}
 use Rattle.area.specs.declared.types.Setup.{Setup}

@@ -1,11 +1,6 @@
 -- W2's order and an earlier store: a word may be stored before the next one's fetches where none of them is at its place.
-use mathlib.Core.Path.{_≡_, refl, ap, _∙_}
-use Prim.Native.Nat.{ℕ, zero, suc, _≤_}
-use native.Mathlib.Omega.{arith}
+use Rattle.word.proofs.Base.{_≡_, refl, ap, _∙_, ℕ, zero, suc, _≤_, arith, Bool, true, false, List, getD-set-other}
 use mathlib.Core.Logic.{_≢_}
-use mathlib.Core.Bool.{Bool, true, false}
-use mathlib.Core.List.{List}
-use lib.Seq.{getD-set-other}
 use Rattle.word.specs.declared.types.Pointer.{Pointer}
 use Rattle.word.specs.declared.types.Uses.{Uses}
 use Rattle.word.specs.Repeat.{repeated}

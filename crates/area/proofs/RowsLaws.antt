@@ -1,11 +1,5 @@
 -- Laws of words and rows: how a word is put together from its parts, and how many words are stored.
-use mathlib.Core.Path.{_≡_, refl, ap, _∙_}
-use Prim.Native.Nat.{ℕ, zero, suc, _+_, _*_, _-_, _<_, _≤_}
-use mathlib.Core.Bool.{Bool}
-use mathlib.Core.List.{List}
-use native.Mathlib.Omega.{arith}
-use lib.Dec.{eqb}
-use lib.ListN.{length}
+use Rattle.word.proofs.Base.{_≡_, refl, ap, _∙_, ℕ, zero, suc, _+_, _-_, _*_, _<_, _≤_, arith, Bool, eqb, List, length}
 use Rattle.word.specs.Repeat.{repeated}
 use Rattle.word.proofs.RepeatLaws.{repeated-turn, repeated-keeps}
 use Rattle.word.specs.declared.types.Direction.{Direction}

@@ -1,7 +1,5 @@
 -- Laws of the set-up: each choice by its bit.
-use mathlib.Core.Path.{_≡_}
-use Prim.Native.Nat.{ℕ}
-use mathlib.Core.Bool.{Bool, true, false}
+use Rattle.word.proofs.Base.{_≡_, ℕ, Bool, true, false}
 use Rattle.word.specs.declared.types.Direction.the-variants.{Ascending, Descending}
 use Rattle.word.specs.declared.types.Fill.the-variants.{Off, Inclusive, Exclusive}
 use Rattle.word.specs.Control.{exclusiveFill, inclusiveFill, descending}

@@ -1,10 +1,5 @@
 -- Words of 16 bits stay so through a blit: those of memory, of the data registers, and the one that waits to be stored.
-use Prim.Native.Nat.{ℕ, _+_, _<_}
-use native.Mathlib.Omega.{arith}
-use mathlib.Core.Bool.{Bool, true, false}
-use mathlib.Core.List.{List}
-use lib.Dec.{eqb}
-use lib.ListN.{getD}
+use Rattle.word.proofs.Base.{ℕ, _+_, _<_, arith, Bool, true, false, eqb, List, getD}
 use Rattle.word.specs.declared.types.Pointer.{Pointer}
 use Rattle.word.specs.Word.{SixteenBits}
 use Rattle.word.proofs.WordLaws.{SixteenBits-of-set}

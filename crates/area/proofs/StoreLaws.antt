@@ -1,10 +1,5 @@
 -- Laws of the pending word and its store.
-use mathlib.Core.Path.{_≡_, refl}
-use Prim.Native.Nat.{ℕ, _+_, _≤_}
-use mathlib.Core.Bool.{Bool, true, false}
-use mathlib.Core.List.{List, []}
-use native.Mathlib.Omega.{arith}
-use lib.ListN.{length, set, length-set}
+use Rattle.word.proofs.Base.{_≡_, refl, ℕ, _+_, _≤_, arith, Bool, true, false, List, [], length, set, length-set}
 use Rattle.area.specs.declared.types.Pending.{Pending}
 use Rattle.area.specs.declared.types.Flow.{Flow}
 use Rattle.area.specs.Flow.{State, state, nothing}

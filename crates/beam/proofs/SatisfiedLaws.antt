@@ -1,11 +1,7 @@
 -- Laws of a comparison: a line that lies below the first word's has no place where it is satisfied.
-use mathlib.Core.Path.{_≡_, sym, ap, _∙_}
-use Prim.Native.Nat.{ℕ, _+_, _*_, _/_, _%_, _^_, _<_}
-use native.Mathlib.Omega.{arith}
-use mathlib.Core.Bool.{Bool, true, false}
-use borrow.Author.Tests.{lt-leb, leb-false, ltb-true}
-use lib.Dec.{ltb, leb}
-use lib.Bits.{bitAnd, and-block, and-lt}
+use Rattle.word.proofs.Base.{_≡_, sym, ap, _∙_, ℕ, _+_, _*_, _/_, _%_, _^_, _<_, arith, Bool, true, false, leb, ltb}
+use Rattle.word.proofs.Base.{lt-leb, leb-false, ltb-true, bitAnd}
+use lib.Bits.{and-block, and-lt}
 use Rattle.beam.specs.Beam.{line, position}
 use Rattle.beam.specs.Inner.LineBelow.{lineBelow}
 use Rattle.beam.specs.Satisfied.{mask, compared, satisfied}

@@ -1,10 +1,6 @@
 -- Laws of a WAIT: places that aren't satisfied are passed, and the first that is satisfied is where it ends.
-use mathlib.Core.Path.{_≡_, sym, ap, _∙_}
-use Prim.Native.Nat.{ℕ, zero, suc, _+_, _-_, _*_, _/_, _%_, _<_, _≤_}
-use native.Mathlib.Nat.{add-zero, zero-add}
-use native.Mathlib.Omega.{arith}
-use mathlib.Core.Bool.{Bool, true, false}
-use lib.Bits.{bitAnd}
+use Rattle.word.proofs.Base.{_≡_, sym, ap, _∙_, ℕ, zero, suc, _+_, _-_, _*_, _/_, _%_, _<_, _≤_, zero-add, add-zero}
+use Rattle.word.proofs.Base.{arith, Bool, true, false, bitAnd}
 use Rattle.beam.specs.Beam.{frameEnd, line, position}
 use Rattle.beam.specs.Inner.LineBelow.{lineBelow}
 use Rattle.beam.specs.Satisfied.{mask, satisfied}

@@ -1,12 +1,7 @@
 -- What a blit leaves is accepted again: a pointer is written as the bits that its registers keep, a data register holds a
 -- word of memory, and the flag is 0 or 1.
-use mathlib.Core.Path.{_≡_, refl, _∙_}
-use Prim.Native.Nat.{ℕ, _+_, _<_}
-use native.Mathlib.Omega.{arith}
-use mathlib.Core.Bool.{Bool, true, false}
-use mathlib.Core.List.{List}
+use Rattle.word.proofs.Base.{_≡_, refl, _∙_, ℕ, _+_, _<_, arith, Bool, true, false, List, length, getD, set}
 use lib.Dec.{lit<}
-use lib.ListN.{length, getD, set}
 use Rattle.word.specs.declared.types.Pointer.{Pointer}
 use Rattle.word.specs.Choice.{if_then_else_}
 use Rattle.word.specs.Pointer.{high, low}

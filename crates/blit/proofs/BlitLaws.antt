@@ -1,12 +1,7 @@
 -- Laws of the blit: what it writes back, and how it is put together from its parts.
-use mathlib.Core.Path.{_≡_, refl, ap}
-use Prim.Native.Nat.{ℕ, _+_, _*_, _<_, _≤_}
-use mathlib.Core.Bool.{Bool, true, false}
-use mathlib.Core.List.{List}
+use Rattle.word.proofs.Base.{_≡_, refl, ap, ℕ, _+_, _*_, _<_, _≤_, arith, Bool, true, false, eqb, List, length, set}
+use Rattle.word.proofs.Base.{length-set}
 use native.Mathlib.Nat.{mul-one, mul-zero}
-use native.Mathlib.Omega.{arith}
-use lib.Dec.{eqb}
-use lib.ListN.{length, set, length-set}
 use Rattle.word.specs.declared.types.Pointer.{Pointer}
 use Rattle.word.specs.declared.types.Uses.{Uses}
 use Rattle.word.specs.Pointer.{pointerEnd, high, low}

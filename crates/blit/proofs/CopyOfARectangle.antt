@@ -1,13 +1,7 @@
 -- A copy of a rectangle is a copying blit whose words lie inside memory.
-use mathlib.Core.Path.{_≡_, refl, sym, _∙_}
-use Prim.Native.Nat.{ℕ, zero, suc, _*_, _/_, _%_, _<_, _≤_}
-use native.Mathlib.Nat.{zero-lt-suc, mod-lt, div-lt-iff-lt-mul}
-use native.Mathlib.Omega.{arith}
-use mathlib.Core.Bool.{Bool, true, false}
-use mathlib.Core.List.{List}
-use borrow.Author.Tests.{leb-false}
-use lib.Dec.{leb}
-use lib.ListN.{length, getD}
+use Rattle.word.proofs.Base.{_≡_, refl, sym, _∙_, ℕ, zero, suc, _*_, _/_, _%_, _<_, _≤_, mod-lt, arith, Bool, true}
+use Rattle.word.proofs.Base.{false, leb, leb-false, List, length, getD}
+use native.Mathlib.Nat.{zero-lt-suc, div-lt-iff-lt-mul}
 use Rattle.word.specs.declared.types.Direction.{Direction}
 use Rattle.word.specs.declared.types.Direction.the-variants.{Ascending, Descending}
 use Rattle.word.specs.declared.types.Pointer.{Pointer}

@@ -1,10 +1,6 @@
 -- A copy of one row is the copy of a rectangle, of which no two words lie at one place.
-use mathlib.Core.Path.{_≡_, sym, ap, _∙_}
-use Prim.Native.Nat.{ℕ, _*_, _<_, _≤_}
-use native.Mathlib.Nat.{div-eq-of-lt, mod-eq-of-lt}
-use native.Mathlib.Omega.{arith}
-use mathlib.Core.Bool.{Bool, true}
-use mathlib.Core.List.{List}
+use Rattle.word.proofs.Base.{_≡_, sym, ap, _∙_, ℕ, _*_, _<_, _≤_, mod-eq-of-lt, arith, Bool, true, List}
+use native.Mathlib.Nat.{div-eq-of-lt}
 use Rattle.word.specs.declared.types.Direction.{Direction}
 use Rattle.word.specs.declared.types.Direction.the-variants.{Ascending, Descending}
 use Rattle.word.specs.declared.types.Pointer.{Pointer}

@@ -1,6 +1,5 @@
 -- Two answers that meet the promise are equal: the numbers tell the refusals apart, and no refusal has the number 0.
-use mathlib.Core.Path.{_≡_, sym, ap, _∙_}
-use Prim.Native.Nat.{ℕ}
+use Rattle.word.proofs.Base.{_≡_, sym, ap, _∙_, ℕ}
 use Rattle.refusal.proofs.OneAnswerLaws.{refusalNumber-is-unique, refusalNumber-positive}
 use Rattle.blit.specs.declared.types.Answer.{Answer}
 use Rattle.blit.specs.declared.types.Answer.the-variants.{Done, Refused}

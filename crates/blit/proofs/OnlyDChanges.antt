@@ -1,12 +1,7 @@
 -- A blit changes no word that D doesn't touch: each word is for D's pointer, which goes where the list of touched words goes.
-use mathlib.Core.Path.{_≡_, refl, sym, ap, _∙_}
-use Prim.Native.Nat.{ℕ, zero, suc}
-use mathlib.Core.Bool.{Bool, true, false, _||_, or-assoc}
-use mathlib.Core.List.{List, [], _∷_, _++_}
-use borrow.Author.Tests.{eqb-false}
-use lib.Dec.{eqb}
-use lib.ListN.{length, getD}
-use lib.Seq.{getD-set-other}
+use Rattle.word.proofs.Base.{_≡_, refl, sym, ap, _∙_, ℕ, zero, suc, Bool, true, false, _||_, eqb, eqb-false, List, []}
+use Rattle.word.proofs.Base.{_∷_, _++_, length, getD, getD-set-other}
+use mathlib.Core.Bool.{or-assoc}
 use Rattle.word.specs.declared.types.Pointer.{Pointer}
 use Rattle.word.specs.Repeat.{repeated}
 use Rattle.word.specs.Pointer.{moved, nextRow}

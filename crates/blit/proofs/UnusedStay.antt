@@ -1,12 +1,6 @@
 -- A blit changes no register but those of used channels and the flag: each is put at its own place.
-use mathlib.Core.Path.{_≡_, refl, sym, _∙_}
-use Prim.Native.Nat.{ℕ, _+_}
-use mathlib.Core.Bool.{Bool, true, false, _||_}
-use mathlib.Core.List.{List, [], _∷_, _++_}
-use borrow.Author.Tests.{eqb-false}
-use lib.Dec.{eqb}
-use lib.ListN.{length, getD, set}
-use lib.Seq.{getD-set-other}
+use Rattle.word.proofs.Base.{_≡_, refl, sym, _∙_, ℕ, _+_, Bool, true, false, _||_, eqb, eqb-false, List, [], _∷_, _++_}
+use Rattle.word.proofs.Base.{length, getD, set, getD-set-other}
 use Rattle.word.specs.declared.types.Pointer.{Pointer}
 use Rattle.word.specs.Choice.{if_then_else_}
 use Rattle.word.specs.Pointer.{high, low}

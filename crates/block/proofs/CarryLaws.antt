@@ -1,13 +1,7 @@
 -- Laws of the carries along a row of prefixes.
-use mathlib.Core.Path.{_≡_, refl, sym, ap, subst, _∙_}
-use Prim.Native.Nat.{ℕ, zero, suc, _+_, _*_, _/_, _%_, _<_, _≤_}
-use native.Mathlib.Nat.{add-zero, add-suc}
-use native.Mathlib.Numerals.{add-one}
-use native.Mathlib.Omega.{arith}
-use mathlib.Core.List.{List}
-use borrow.Author.Tests.{eq-eqb, ne-eqb}
-use lib.Bits.{bitXor, xor-zero-r}
-use lib.ListN.{length, getD, set}
+use Rattle.word.proofs.Base.{_≡_, refl, sym, ap, subst, _∙_, ℕ, zero, suc, _+_, _*_, _/_, _%_, _<_, _≤_, add-zero}
+use Rattle.word.proofs.Base.{add-suc, add-one, arith, eq-eqb, ne-eqb, List, length, getD, set, bitXor}
+use lib.Bits.{xor-zero-r}
 use Rattle.word.specs.declared.types.Fill.the-variants.{Exclusive}
 use Rattle.word.specs.declared.types.Filled.{Filled}
 use Rattle.word.specs.Fill.{carry, exclusive, filled}

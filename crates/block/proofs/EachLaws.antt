@@ -1,16 +1,10 @@
 -- Laws of arrays word by word: turns of the loops that set the next word.
-use mathlib.Core.Path.{_≡_, refl, sym, ap, subst, _∙_}
-use Prim.Native.Nat.{ℕ, zero, suc, _+_, _-_, _*_, _<_, _≤_}
-use native.Mathlib.Nat.{add-assoc, suc-mul, mul-le-mul-right}
-use native.Mathlib.Numerals.{add-one}
-use native.Mathlib.Decide.{decLt}
-use native.Mathlib.Omega.{arith}
-use mathlib.Core.Bool.{Bool, true, false, _&&_}
-use mathlib.Core.List.{List}
-use lib.Bits.{bitOr, or-zero-l, or-add-and, and-le-r}
-use lib.Dec.{T, eqb, eqb·suc-zero}
-use lib.ListN.{length, getD, set}
-use lib.Seq.{getD-set-other, getD-set-same}
+use Rattle.word.proofs.Base.{_≡_, refl, sym, ap, subst, _∙_, ℕ, zero, suc, _+_, _-_, _*_, _<_, _≤_, suc-mul}
+use Rattle.word.proofs.Base.{mul-le-mul-right, add-one, decLt, arith, Bool, true, false, _&&_, T, eqb, List, length}
+use Rattle.word.proofs.Base.{getD, set, getD-set-same, getD-set-other, bitOr}
+use native.Mathlib.Nat.{add-assoc}
+use lib.Bits.{or-zero-l, or-add-and, and-le-r}
+use lib.Dec.{eqb·suc-zero}
 use Rattle.block.specs.Inner.Each.{at, Each, Kept, Laid, nought}
 
 -- what is told of a test that failed

@@ -1,13 +1,6 @@
 -- Laws of the fill of a block's rows: with the carries along, either way of filling.
-use mathlib.Core.Path.{_≡_, refl, sym, ap, _∙_}
-use Prim.Native.Nat.{ℕ, zero, suc, _-_, _*_, _%_, _<_, _≤_}
-use native.Mathlib.Numerals.{sub-one}
-use native.Mathlib.Omega.{arith}
-use mathlib.Core.Bool.{Bool, true, false}
-use mathlib.Core.List.{List}
-use lib.Bits.{bitOr}
-use lib.Dec.{eqb}
-use lib.ListN.{getD}
+use Rattle.word.proofs.Base.{_≡_, refl, sym, ap, _∙_, ℕ, zero, suc, _-_, _*_, _%_, _<_, _≤_, sub-one, arith, Bool, true}
+use Rattle.word.proofs.Base.{false, eqb, List, getD, bitOr}
 use Rattle.word.specs.declared.types.Fill.{Fill}
 use Rattle.word.specs.declared.types.Fill.the-variants.{Off, Inclusive, Exclusive}
 use Rattle.word.specs.Choice.{if_then_else_}

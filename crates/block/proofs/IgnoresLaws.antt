@@ -1,8 +1,6 @@
 -- Laws of the sources that a function ignores: bit 4a + 2b + c of the function is the same for both values of one of them.
-use mathlib.Core.Path.{_≡_, refl, sym, ap, _∙_}
-use Prim.Native.Nat.{ℕ, _+_, _*_, _/_, _%_, _^_, _<_}
+use Rattle.word.proofs.Base.{_≡_, refl, sym, ap, _∙_, ℕ, _+_, _*_, _/_, _%_, _^_, _<_, bitAnd}
 use native.Mathlib.Nat.{div-one, div-div-eq-div-mul}
-use lib.Bits.{bitAnd}
 use Rattle.word.specs.Word.{bit}
 use Rattle.word.specs.Logic.{logic}
 use Rattle.word.proofs.WordLaws.{bit-lt, bit-of-and, bit-of-ofBits, bits-are-enough, bit-cases}

@@ -1,14 +1,7 @@
 -- Laws of A's masks in an array: two words of each row are touched.
-use mathlib.Core.Path.{_≡_, refl, sym, ap, _∙_}
-use Prim.Native.Nat.{ℕ, _+_, _-_, _*_, _%_, _<_, _≤_}
-use native.Mathlib.Omega.{arith}
-use mathlib.Core.Bool.{Bool, true, false}
-use mathlib.Core.List.{List}
-use borrow.Author.Tests.{eq-eqb, ne-eqb, eqb-true, eqb-false}
-use lib.Bits.{bitAnd}
-use lib.Dec.{eqb}
-use lib.ListN.{length, getD, length-set}
-use lib.Seq.{getD-set-other, getD-set-same}
+use Rattle.word.proofs.Base.{_≡_, refl, sym, ap, _∙_, ℕ, _+_, _-_, _*_, _%_, _<_, _≤_, arith, Bool, true, false, eqb}
+use Rattle.word.proofs.Base.{eq-eqb, ne-eqb, eqb-true, eqb-false, List, length, getD, length-set, getD-set-same}
+use Rattle.word.proofs.Base.{getD-set-other, bitAnd}
 use Rattle.word.specs.Mask.{maskedWhen, masked}
 use Rattle.word.proofs.MaskLaws.{masked-by-ones}
 use Rattle.area.specs.declared.types.Masks.{Masks}

@@ -1,9 +1,5 @@
 -- Laws of the mix of one source alone: the word that nought makes, turned over where the source's bits are 1.
-use mathlib.Core.Path.{_≡_, _∙_}
-use Prim.Native.Nat.{ℕ}
-use mathlib.Core.Bool.{Bool, true, false, _&&_, _||_}
-use mathlib.Core.List.{List}
-use lib.ListN.{getD}
+use Rattle.word.proofs.Base.{_≡_, _∙_, ℕ, Bool, true, false, _&&_, _||_, List, getD}
 use Rattle.word.proofs.ChoiceLaws.{or-left, or-right}
 use Rattle.quiet.specs.Words.{mixedAt}
 use Rattle.block.specs.declared.types.Needs.{Needs}

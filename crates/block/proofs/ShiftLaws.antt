@@ -1,10 +1,6 @@
 -- Laws of the shift of an array's words.
-use mathlib.Core.Path.{_≡_, refl, sym, ap, _∙_}
-use Prim.Native.Nat.{ℕ, zero, suc, _+_, _-_, _*_, _/_, _%_, _^_, _<_}
-use native.Mathlib.Numerals.{add-one}
-use native.Mathlib.Omega.{arith}
-use mathlib.Core.List.{List}
-use lib.ListN.{length, getD, set}
+use Rattle.word.proofs.Base.{_≡_, refl, sym, ap, _∙_, ℕ, zero, suc, _+_, _-_, _*_, _/_, _%_, _^_, _<_, add-one, arith}
+use Rattle.word.proofs.Base.{List, length, getD, set}
 use Rattle.word.specs.declared.types.Direction.{Direction}
 use Rattle.word.specs.declared.types.Direction.the-variants.{Ascending, Descending}
 use Rattle.word.specs.Shift.{shifted}

@@ -1,10 +1,7 @@
 -- Laws of the logic function as a sum: on single bits it is computed for all functions and settings, and words go bit by bit.
-use mathlib.Core.Path.{_≡_, refl, sym, _∙_}
-use Prim.Native.Nat.{ℕ, _+_, _*_, _/_, _%_, _^_, _<_}
-use native.Mathlib.Omega.{arith}
-use mathlib.Core.Bool.{Bool}
-use lib.Bits.{bitAnd, bitXor, xor-lt, and-le-r, and-zero-l, xor-zero-r}
-use lib.Dec.{T, eqb, eqb→eq}
+use Rattle.word.proofs.Base.{_≡_, refl, sym, _∙_, ℕ, _+_, _*_, _/_, _%_, _^_, _<_, arith, Bool, T, eqb, eqb→eq, bitAnd}
+use Rattle.word.proofs.Base.{bitXor}
+use lib.Bits.{xor-lt, and-le-r, and-zero-l, xor-zero-r}
 use Rattle.word.specs.Choice.{every}
 use Rattle.word.specs.Word.{bit}
 use Rattle.word.specs.Logic.{logic}

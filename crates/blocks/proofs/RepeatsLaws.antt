@@ -1,13 +1,7 @@
 -- Laws of a blit that uses no source and doesn't fill: a block that stands ready is that block, and what it leaves stands ready for the next.
-use mathlib.Core.Path.{_≡_, refl, sym, ap, subst, _∙_}
-use Prim.Native.Nat.{ℕ, zero, suc, _+_, _-_, _*_, _<_, _≤_}
-use native.Mathlib.Nat.{zero-mul, suc-mul, mul-le-mul-right}
-use native.Mathlib.Decide.{decLt}
-use native.Mathlib.Omega.{arith}
-use mathlib.Core.Bool.{Bool, true, false, _&&_}
-use mathlib.Core.List.{List}
-use lib.Dec.{T, eqb}
-use lib.ListN.{getD}
+use Rattle.word.proofs.Base.{_≡_, refl, sym, ap, subst, _∙_, ℕ, zero, suc, _+_, _-_, _*_, _<_, _≤_, suc-mul}
+use Rattle.word.proofs.Base.{mul-le-mul-right, decLt, arith, Bool, true, false, _&&_, T, eqb, List, getD}
+use native.Mathlib.Nat.{zero-mul}
 use Rattle.word.specs.declared.types.Pointer.{Pointer}
 use Rattle.word.specs.declared.types.Filled.{Filled}
 use Rattle.word.specs.Choice.{every}

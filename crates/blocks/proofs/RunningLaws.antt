@@ -1,11 +1,7 @@
 -- Block by block: so many rows on, a blit is placed and apart as it was, and what is left of it leads to the same end.
-use mathlib.Core.Path.{_≡_, refl, sym, ap, _∙_}
-use Prim.Native.Nat.{ℕ, zero, suc, _+_, _-_, _*_, _/_, _%_, _<_, _≤_}
-use native.Mathlib.Nat.{mul-le-mul, add-mul, mul-le-mul-right, mul-add-div-right, mul-add-mod-self-right}
-use native.Mathlib.Omega.{arith}
-use mathlib.Core.Bool.{Bool, true, false}
-use mathlib.Core.List.{List}
-use lib.ListN.{length}
+use Rattle.word.proofs.Base.{_≡_, refl, sym, ap, _∙_, ℕ, zero, suc, _+_, _-_, _*_, _/_, _%_, _<_, _≤_, add-mul}
+use Rattle.word.proofs.Base.{mul-le-mul, mul-le-mul-right, arith, Bool, true, false, List, length}
+use native.Mathlib.Nat.{mul-add-div-right, mul-add-mod-self-right}
 use Rattle.word.specs.declared.types.Direction.{Direction}
 use Rattle.word.specs.declared.types.Pointer.{Pointer}
 use Rattle.word.specs.Choice.{if_then_else_}

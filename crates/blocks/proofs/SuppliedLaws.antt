@@ -1,13 +1,7 @@
 -- Laws of what a source gives as a block's words, fetched or at rest.
-use mathlib.Core.Path.{_≡_, refl, sym, _∙_}
-use Prim.Native.Nat.{ℕ, _+_, _-_, _*_, _/_, _%_, _<_, _≤_}
-use native.Mathlib.Nat.{div-add-mod', le-div-iff-mul-le, mul-le-mul-right, mul-le-mul-left, le-trans}
-use native.Mathlib.Omega.{arith}
-use mathlib.Core.Bool.{Bool, true, false, _&&_}
-use mathlib.Core.List.{List}
-use lib.Bits.{bitAnd}
-use lib.Dec.{eqb}
-use lib.ListN.{getD}
+use Rattle.word.proofs.Base.{_≡_, refl, sym, _∙_, ℕ, _+_, _-_, _*_, _/_, _%_, _<_, _≤_, mul-le-mul-right, arith, Bool}
+use Rattle.word.proofs.Base.{true, false, _&&_, eqb, List, getD, bitAnd}
+use native.Mathlib.Nat.{div-add-mod', le-div-iff-mul-le, mul-le-mul-left, le-trans}
 use Rattle.word.specs.declared.types.Direction.{Direction}
 use Rattle.word.specs.declared.types.Pointer.{Pointer}
 use Rattle.word.specs.Choice.{if_then_else_}

@@ -1,15 +1,10 @@
 -- The first bytes of a text decide: a good first line is short, and the lines after it have ten bytes each.
-use mathlib.Core.Path.{_≡_, refl, sym, ap, _∙_}
-use Prim.Native.Nat.{ℕ, zero, suc, _+_, _*_, _<_, _≤_}
+use Rattle.word.proofs.Base.{_≡_, refl, sym, ap, _∙_, ℕ, zero, suc, _+_, _*_, _<_, _≤_, decLt, arith, Bool, true, false}
+use Rattle.word.proofs.Base.{_&&_, not, eqb, leb, ne-eqb, eqb-false, not-true, List, [], _∷_, _++_, length, getD, take}
+use Rattle.word.proofs.Base.{drop, length-append, length-take-le}
 use Prim.Native.Char.{code}
-use native.Mathlib.Decide.{decLt}
-use native.Mathlib.Omega.{arith}
-use mathlib.Core.Bool.{Bool, true, false, not, _&&_}
-use mathlib.Core.List.{List, [], _∷_, _++_}
-use borrow.Author.Tests.{ne-eqb, eqb-false, not-true}
-use lib.Dec.{eqb, leb}
-use lib.ListN.{length, getD, take, drop, length-append, length-drop, take-append-drop, List·getD-append}
-use lib.Seq.{length-take-le, take-all, drop-append-le, getD-drop}
+use lib.ListN.{length-drop, take-append-drop, List·getD-append}
+use lib.Seq.{take-all, drop-append-le, getD-drop}
 use Rattle.word.specs.Choice.{if_then_else_}
 use Rattle.word.proofs.ChoiceLaws.{and-left, and-right}
 use Rattle.card_reading.specs.Text.{byte, decimalDigit}

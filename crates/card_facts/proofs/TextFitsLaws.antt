@@ -1,13 +1,6 @@
 -- What a card gives is no longer than its room: each line has its most, and memory at most 32,768 words.
-use mathlib.Core.Path.{_≡_, refl, ap, _∙_}
-use Prim.Native.Nat.{ℕ, _+_, _*_, _/_, _%_, _<_, _≤_}
-use native.Mathlib.Decide.{decLt}
-use native.Mathlib.Omega.{arith}
-use mathlib.Core.Bool.{Bool, true, false}
-use mathlib.Core.List.{List, [], _∷_, _++_}
-use borrow.Author.Tests.{eqb-true}
-use lib.Dec.{eqb, leb}
-use lib.ListN.{length, getD, length-append}
+use Rattle.word.proofs.Base.{_≡_, refl, ap, _∙_, ℕ, _+_, _*_, _/_, _%_, _<_, _≤_, decLt, arith, Bool, true, false, eqb}
+use Rattle.word.proofs.Base.{leb, eqb-true, List, [], _∷_, _++_, length, getD, length-append}
 use Rattle.word.specs.Choice.{if_then_else_}
 use Rattle.file.specs.Places.{fileLength, flag}
 use Rattle.job.specs.Steps.{stepsFrom}

@@ -1,11 +1,6 @@
 -- Laws of a card's job: its writes one by one.
-use mathlib.Core.Path.{_≡_, refl, sym, ap, _∙_}
-use Prim.Native.Nat.{ℕ, suc, _+_, _*_, _-_, _<_, _≤_}
-use native.Mathlib.Omega.{arith}
-use mathlib.Core.List.{List, [], _∷_}
-use lib.Dec.{eqb, eqb→eq}
-use lib.ListN.{length, getD, set, drop, drop-of-length-le}
-use lib.Seq.{drop-cons}
+use Rattle.word.proofs.Base.{_≡_, refl, sym, ap, _∙_, ℕ, suc, _+_, _-_, _*_, _<_, _≤_, arith, eqb, eqb→eq, List, []}
+use Rattle.word.proofs.Base.{_∷_, length, getD, set, drop, drop-of-length-le, drop-cons}
 use Rattle.word.specs.Laid.{laid}
 use Rattle.word.proofs.ChoiceLaws.{every-at}
 use Rattle.word.proofs.LaidLaws.{laid-over}

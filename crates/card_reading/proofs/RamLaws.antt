@@ -1,15 +1,8 @@
 -- Laws of a card's first line: its digits one by one, and what they give.
-use mathlib.Core.Path.{_≡_, refl, sym, ap, _∙_}
-use Prim.Native.Nat.{ℕ, zero, suc, _+_, _<_, _≤_}
+use Rattle.word.proofs.Base.{_≡_, refl, sym, ap, _∙_, ℕ, zero, suc, _+_, _<_, _≤_, decLt, arith, Bool, true, false}
+use Rattle.word.proofs.Base.{_&&_, not, eqb, leb, ne-eqb, eqb-true, le-leb, lt-leb, leb-true, List, [], _∷_, length}
+use Rattle.word.proofs.Base.{getD, drop, List·getD-eq-default, drop-of-length-le, drop-cons}
 use Prim.Native.Char.{code}
-use native.Mathlib.Decide.{decLt}
-use native.Mathlib.Omega.{arith}
-use mathlib.Core.Bool.{Bool, true, false, not, _&&_}
-use mathlib.Core.List.{List, [], _∷_}
-use borrow.Author.Tests.{le-leb, lt-leb, leb-true, ne-eqb, eqb-true}
-use lib.Dec.{eqb, leb}
-use lib.ListN.{length, getD, drop, drop-of-length-le, List·getD-eq-default}
-use lib.Seq.{drop-cons}
 use Rattle.word.specs.Choice.{if_then_else_}
 use Rattle.word.proofs.ChoiceLaws.{and-left, and-right, and-none}
 use Rattle.card_reading.specs.declared.types.Ram.{Ram}

@@ -1,15 +1,8 @@
 -- Laws of a card's lines: what is read of the first, and the first bad one of the others.
-use mathlib.Core.Path.{_≡_, refl, sym, ap, _∙_}
-use Prim.Native.Nat.{ℕ, zero, suc, _+_, _*_, _-_, _<_, _≤_}
+use Rattle.word.proofs.Base.{_≡_, refl, sym, ap, _∙_, ℕ, zero, suc, _+_, _-_, _*_, _<_, _≤_, add-zero, decLt, arith}
+use Rattle.word.proofs.Base.{Bool, true, false, _&&_, eqb, eq-eqb, ne-eqb, eqb-true, List, length, getD}
+use Rattle.word.proofs.Base.{List·getD-eq-default}
 use Prim.Native.Char.{code}
-use native.Mathlib.Nat.{add-zero}
-use native.Mathlib.Decide.{decLt}
-use native.Mathlib.Omega.{arith}
-use mathlib.Core.Bool.{Bool, true, false, _&&_}
-use mathlib.Core.List.{List}
-use borrow.Author.Tests.{eq-eqb, ne-eqb, eqb-true}
-use lib.Dec.{eqb}
-use lib.ListN.{length, getD, List·getD-eq-default}
 use Rattle.word.specs.Choice.{if_then_else_}
 use Rattle.word.proofs.ChoiceLaws.{and-none}
 use Rattle.card_reading.specs.Text.{newline, equals, byte, hexDigit}

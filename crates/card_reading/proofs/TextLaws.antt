@@ -1,13 +1,7 @@
 -- Laws of digits: which bytes they are, and what they are worth.
-use mathlib.Core.Path.{_≡_, sym, _∙_}
-use Prim.Native.Nat.{ℕ, _+_, _*_, _-_, _<_, _≤_}
+use Rattle.word.proofs.Base.{_≡_, sym, _∙_, ℕ, _+_, _-_, _*_, _<_, _≤_, arith, Bool, true, false, _||_, leb, leb-true}
+use Rattle.word.proofs.Base.{List, getD}
 use Prim.Native.Char.{code}
-use native.Mathlib.Omega.{arith}
-use mathlib.Core.Bool.{Bool, true, false, _||_}
-use mathlib.Core.List.{List}
-use borrow.Author.Tests.{leb-true}
-use lib.Dec.{leb}
-use lib.ListN.{getD}
 use Rattle.word.proofs.ChoiceLaws.{and-left, and-right}
 use Rattle.card_reading.specs.Text.{decimalDigit, capital, hexDigit, hexValue, hexWord}
 

@@ -1,11 +1,5 @@
 -- Laws of the card as a whole: the run that it prints, and the cases of its text.
-use mathlib.Core.Path.{_≡_, refl, sym, ap, _∙_}
-use Prim.Native.Nat.{ℕ, _≤_}
-use native.Mathlib.Omega.{arith}
-use mathlib.Core.List.{List}
-use borrow.Author.Tests.{ne-eqb}
-use lib.ListN.{length, take}
-use lib.Seq.{length-take-le}
+use Rattle.word.proofs.Base.{_≡_, refl, sym, ap, _∙_, ℕ, _≤_, arith, ne-eqb, List, length, take, length-take-le}
 use Rattle.file.specs.Places.{fileLength}
 use Rattle.runner.specs.declared.types.Answer.{Answer}
 use Rattle.runner.specs.Run.{ended, machine, run}

@@ -1,12 +1,7 @@
 -- Laws of what is printed: digits, numbers and lines, out of their pieces.
-use mathlib.Core.Path.{_≡_, sym, ap, ap₂, _∙_}
-use Prim.Native.Nat.{ℕ, suc, _+_, _-_, _*_, _/_, _%_, _<_, _≤_}
+use Rattle.word.proofs.Base.{_≡_, sym, ap, ap₂, _∙_, ℕ, suc, _+_, _-_, _*_, _/_, _%_, _<_, _≤_, arith, eq-eqb, ne-eqb}
+use Rattle.word.proofs.Base.{le-leb, lt-leb, List, [], _∷_, length, getD, drop, drop-of-length-le, drop-cons}
 use Prim.Native.Char.{code}
-use native.Mathlib.Omega.{arith}
-use mathlib.Core.List.{List, [], _∷_}
-use borrow.Author.Tests.{le-leb, lt-leb, eq-eqb, ne-eqb}
-use lib.ListN.{length, getD, drop, drop-of-length-le}
-use lib.Seq.{drop-cons}
 use Rattle.file.specs.Places.{pointerD, flag}
 use Rattle.runner.specs.Run.{ended, machine}
 use Rattle.card_reading.specs.Text.{newline, colon, glyph, hex4, hex5, leading, decimal}

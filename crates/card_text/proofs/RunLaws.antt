@@ -1,9 +1,5 @@
 -- Laws of the memory that a card starts with, word by word.
-use mathlib.Core.Path.{_≡_, refl, sym, ap, _∙_}
-use Prim.Native.Nat.{ℕ, zero, suc, _+_, _-_, _<_, _≤_}
-use native.Mathlib.Omega.{arith}
-use mathlib.Core.List.{List}
-use lib.ListN.{length, set}
+use Rattle.word.proofs.Base.{_≡_, refl, sym, ap, _∙_, ℕ, zero, suc, _+_, _-_, _<_, _≤_, arith, List, length, set}
 use Rattle.word.specs.Laid.{laid}
 use Rattle.word.proofs.LaidLaws.{laid-over}
 use Rattle.card_text.specs.Run.{counted}

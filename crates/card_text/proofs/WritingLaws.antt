@@ -1,11 +1,6 @@
 -- Laws of text written on from a place: piece after piece, and how far it goes.
-use mathlib.Core.Path.{_≡_, sym, ap, ap₂, _∙_}
-use Prim.Native.Nat.{ℕ, suc, _+_, _<_, _≤_}
-use native.Mathlib.Nat.{add-zero}
-use native.Mathlib.Omega.{arith}
-use mathlib.Core.List.{List, [], _∷_, _++_}
-use lib.ListN.{length, getD, set, drop, length-append, drop-of-length-le}
-use lib.Seq.{drop-cons}
+use Rattle.word.proofs.Base.{_≡_, sym, ap, ap₂, _∙_, ℕ, suc, _+_, _<_, _≤_, add-zero, arith, List, [], _∷_, _++_}
+use Rattle.word.proofs.Base.{length, getD, set, drop, length-append, drop-of-length-le, drop-cons}
 use Rattle.word.specs.Laid.{laid}
 use Rattle.word.proofs.LaidLaws.{laid-of-append}
 use Rattle.card_text.specs.Card.{Written, written, writing}

@@ -1,12 +1,6 @@
 -- Laws of a frame: how it stops, and how it goes on after an instruction.
-use mathlib.Core.Path.{_≡_, sym, ap, _∙_}
-use Prim.Native.Nat.{ℕ, zero, suc, _+_, _-_, _<_, _≤_}
-use native.Mathlib.Omega.{arith}
-use mathlib.Core.Bool.{Bool, true, false, not}
-use mathlib.Core.List.{List}
-use borrow.Author.Tests.{le-leb, lt-leb, leb-true, eqb-false, ne-eqb, not-false}
-use lib.Dec.{eqb, leb}
-use lib.ListN.{length}
+use Rattle.word.proofs.Base.{_≡_, sym, ap, _∙_, ℕ, zero, suc, _+_, _-_, _<_, _≤_, arith, Bool, true, false, not, eqb}
+use Rattle.word.proofs.Base.{leb, ne-eqb, eqb-false, le-leb, lt-leb, leb-true, not-false, List, length}
 use Rattle.word.specs.Choice.{given}
 use Rattle.file.specs.File.{accepted}
 use Rattle.beam.specs.Beam.{frameEnd}

@@ -1,9 +1,6 @@
 -- What an instruction and a frame leave is accepted again: a blit leaves what is accepted, a register keeps its bits,
 -- and nothing else changes memory or register file.
-use mathlib.Core.Path.{_≡_}
-use Prim.Native.Nat.{ℕ, zero, suc}
-use mathlib.Core.List.{List}
-use lib.Dec.{eqb}
+use Rattle.word.proofs.Base.{_≡_, ℕ, zero, suc, eqb, List}
 use Rattle.word.proofs.ChoiceLaws.{if-either}
 use Rattle.file.specs.File.{kept}
 use Rattle.file.proofs.FileLaws.{kept-again, accepted-of-set}

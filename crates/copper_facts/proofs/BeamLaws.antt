@@ -1,7 +1,5 @@
 -- The beam only goes forward: by an instruction's kind.
-use mathlib.Core.Path.{_≡_}
-use Prim.Native.Nat.{ℕ, zero, suc, _+_, _-_, _≤_}
-use native.Mathlib.Omega.{arith}
+use Rattle.word.proofs.Base.{_≡_, ℕ, zero, suc, _+_, _-_, _≤_, arith}
 use Rattle.word.proofs.ChoiceLaws.{if-either}
 use Rattle.beam.specs.Beam.{frameEnd}
 use Rattle.beam.specs.Satisfied.{satisfied}

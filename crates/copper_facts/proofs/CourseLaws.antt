@@ -1,11 +1,6 @@
 -- Laws of a list's course: instructions that are done one after the other, and where a frame can stop.
-use mathlib.Core.Path.{_≡_, refl, sym, ap, subst, _∙_}
-use Prim.Native.Nat.{ℕ, zero, suc, _+_, _-_, _<_, _≤_}
-use native.Mathlib.Nat.{zero-add}
-use native.Mathlib.Omega.{arith}
-use mathlib.Core.Bool.{Bool, true, false, not, _&&_}
-use borrow.Author.Tests.{eqb-true, eqb-false, eq-eqb, not-true}
-use lib.Dec.{eqb}
+use Rattle.word.proofs.Base.{_≡_, refl, sym, ap, subst, _∙_, ℕ, zero, suc, _+_, _-_, _<_, _≤_, zero-add, arith, Bool}
+use Rattle.word.proofs.Base.{true, false, _&&_, not, eqb, eq-eqb, eqb-true, eqb-false, not-true}
 use Rattle.word.proofs.ChoiceLaws.{and-left, and-right}
 use Rattle.instruction.specs.Effect.{Moment, effect}
 use Rattle.copper.specs.Frame.{endOfFrame, usedUp, refusal, Frame, stopped, over, onward}

@@ -1,13 +1,6 @@
 -- Cutting a frame and going on, and a refused one: wherever a frame stops.
-use mathlib.Core.Path.{_≡_, refl, sym, ap, _∙_}
-use Prim.Native.Nat.{ℕ, zero, suc, _+_}
-use native.Mathlib.Nat.{add-zero}
-use native.Mathlib.Omega.{arith}
-use mathlib.Core.Bool.{Bool, true, false, not}
-use mathlib.Core.List.{List}
-use borrow.Author.Tests.{eq-eqb, ne-eqb, eqb-true}
-use lib.Dec.{eqb}
-use lib.ListN.{length}
+use Rattle.word.proofs.Base.{_≡_, refl, sym, ap, _∙_, ℕ, zero, suc, _+_, add-zero, arith, Bool, true, false, not, eqb}
+use Rattle.word.proofs.Base.{eq-eqb, ne-eqb, eqb-true, List, length}
 use Rattle.word.specs.Choice.{if_then_else_, given}
 use Rattle.file.specs.File.{accepted}
 use Rattle.word.specs.Memory.{memorySize}

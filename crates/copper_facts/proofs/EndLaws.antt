@@ -1,10 +1,5 @@
 -- A frame has room for 14,869 instructions: so many as are done have taken the beam four places on each.
-use mathlib.Core.Path.{_≡_}
-use Prim.Native.Nat.{ℕ, zero, suc, _+_, _*_, _<_, _≤_}
-use native.Mathlib.Omega.{arith}
-use mathlib.Core.Bool.{true, false}
-use borrow.Author.Tests.{leb-false}
-use lib.Dec.{eqb}
+use Rattle.word.proofs.Base.{_≡_, ℕ, zero, suc, _+_, _*_, _<_, _≤_, arith, true, false, eqb, leb-false}
 use Rattle.word.proofs.ChoiceLaws.{if-either}
 use Rattle.beam.specs.Beam.{frameEnd}
 use Rattle.instruction.specs.Effect.{Moment, moment, effect}

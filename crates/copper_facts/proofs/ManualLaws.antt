@@ -1,11 +1,7 @@
 -- Where the sample list's WAITs end. A line that lies below the first word's is passed whole, of any other each
 -- position is tried.
-use mathlib.Core.Path.{_≡_, refl, ap, _∙_}
-use Prim.Native.Nat.{ℕ, _+_, _-_, _*_, _/_, _%_, _<_, _≤_}
-use native.Mathlib.Omega.{arith}
-use mathlib.Core.Bool.{Bool, true, false, not, _||_}
-use borrow.Author.Tests.{not-true}
-use lib.Dec.{T}
+use Rattle.word.proofs.Base.{_≡_, refl, ap, _∙_, ℕ, _+_, _-_, _*_, _/_, _%_, _<_, _≤_, arith, Bool, true, false, _||_}
+use Rattle.word.proofs.Base.{not, T, not-true}
 use Rattle.word.specs.Choice.{every}
 use Rattle.word.proofs.ChoiceLaws.{every-at}
 use Rattle.beam.specs.Beam.{frameEnd, line}

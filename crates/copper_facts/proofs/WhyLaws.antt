@@ -1,9 +1,5 @@
 -- Why a frame stopped: it stops at one place only, and there for one reason.
-use mathlib.Core.Path.{_≡_, sym, ap, _∙_}
-use Prim.Native.Nat.{ℕ, _+_, _<_, _≤_}
-use native.Mathlib.Nat.{add-zero}
-use native.Mathlib.Omega.{arith}
-use mathlib.Core.Bool.{true, false}
+use Rattle.word.proofs.Base.{_≡_, sym, ap, _∙_, ℕ, _+_, _<_, _≤_, add-zero, arith, true, false}
 use Rattle.instruction.specs.Effect.{Moment, moment, effect}
 use Rattle.copper.specs.Frame.{endOfFrame, usedUp, refusal, Frame, stopped, over, onward}
 use Rattle.copper_facts.specs.Course.{after, goes}

@@ -1,14 +1,7 @@
 -- Laws of knowledge that agrees with a register file: every register that is known holds its number.
-use mathlib.Core.Path.{_≡_, refl, sym, ap, _∙_}
-use Prim.Native.Nat.{ℕ, _+_, _<_}
-use native.Mathlib.Decide.{decLt}
-use native.Mathlib.Omega.{arith}
-use mathlib.Core.Bool.{Bool, true, false}
-use mathlib.Core.List.{List}
-use borrow.Author.Tests.{eqb-true, eqb-false}
-use lib.Dec.{eqb}
-use lib.ListN.{length, getD, set, List·getD-eq-default}
-use lib.Seq.{getD-set-other, getD-set-same, set-out}
+use Rattle.word.proofs.Base.{_≡_, refl, sym, ap, _∙_, ℕ, _+_, _<_, decLt, arith, Bool, true, false, eqb, eqb-true}
+use Rattle.word.proofs.Base.{eqb-false, List, length, getD, set, List·getD-eq-default, getD-set-same, getD-set-other}
+use Rattle.word.proofs.Base.{set-out}
 use Rattle.word.specs.declared.types.Pointer.{Pointer}
 use Rattle.word.specs.Pointer.{high, low}
 use Rattle.file.specs.Places.{blitterLength, flag, fileLength}

@@ -1,12 +1,7 @@
 -- Demand 3: step by step the folded job and the original leave the same machine, and what the folder knows agrees with it.
-use mathlib.Core.Path.{_≡_, refl, sym, ap, subst, _∙_}
-use Prim.Native.Nat.{ℕ, zero, suc, _+_, _≤_}
-use native.Mathlib.Omega.{arith}
-use mathlib.Core.Bool.{Bool, true, false, not}
-use mathlib.Core.List.{List, [], _∷_, _++_}
-use borrow.Author.Tests.{eqb-true, le-leb}
-use lib.Dec.{eqb}
-use lib.ListN.{length, getD, set, replicate, length-set}
+use Rattle.word.proofs.Base.{_≡_, refl, sym, ap, subst, _∙_, ℕ, zero, suc, _+_, _≤_, arith, Bool, true, false, not, eqb}
+use Rattle.word.proofs.Base.{eqb-true, le-leb, List, [], _∷_, _++_, length, getD, set, length-set}
+use lib.ListN.{replicate}
 use Rattle.word.specs.declared.types.Pointer.{Pointer}
 use Rattle.word.specs.Choice.{if_then_else_, given}
 use Rattle.word.specs.Pointer.{high, low}

@@ -1,12 +1,6 @@
 -- Laws of a folding that is done: no number is told for any step, and the folded job stands in the front of the output run.
-use mathlib.Core.Path.{_≡_, refl, ap, _∙_}
-use Prim.Native.Nat.{ℕ, _≤_}
-use native.Mathlib.Omega.{arith}
-use mathlib.Core.Bool.{Bool, true, false, not, _||_}
-use mathlib.Core.List.{List, [], _∷_}
-use borrow.Author.Tests.{eqb-true, eqb-false, leb-true}
-use lib.Dec.{eqb, leb}
-use lib.ListN.{length, take, drop}
+use Rattle.word.proofs.Base.{_≡_, refl, ap, _∙_, ℕ, _≤_, arith, Bool, true, false, _||_, not, eqb, leb, eqb-true}
+use Rattle.word.proofs.Base.{eqb-false, leb-true, List, [], _∷_, length, take, drop}
 use lib.Seq.{take-append-seam}
 use Rattle.word.specs.Choice.{if_then_else_, given}
 use Rattle.word.specs.Memory.{memorySize}

@@ -1,13 +1,8 @@
 -- Laws of the steps of a job without faults: each is decoded from its own words, wherever they stand.
-use mathlib.Core.Path.{_≡_, refl, sym, ap, _∙_}
-use Prim.Native.Nat.{ℕ, zero, suc, _+_, _≤_}
+use Rattle.word.proofs.Base.{_≡_, refl, sym, ap, _∙_, ℕ, zero, suc, _+_, _≤_, one-add, arith, Bool, true, false, List}
+use Rattle.word.proofs.Base.{[], _∷_, length, take, drop, length-take-le}
 use native.Mathlib.Nat.{le-refl}
-use native.Mathlib.Numerals.{one-add}
-use native.Mathlib.Omega.{arith}
-use mathlib.Core.Bool.{Bool, true, false}
-use mathlib.Core.List.{List, [], _∷_}
-use lib.ListN.{length, take, drop}
-use lib.Seq.{length-take-le, drop-drop}
+use lib.Seq.{drop-drop}
 use Rattle.word.specs.Choice.{if_then_else_}
 use Rattle.word.specs.Pointer.{pointer}
 use Rattle.job.specs.declared.types.Kind.{Kind}

@@ -1,10 +1,5 @@
 -- Laws of what the folder learns: after every step its knowledge agrees with what the step leaves in the register file.
-use mathlib.Core.Path.{_≡_, refl, sym, ap, _∙_}
-use Prim.Native.Nat.{ℕ}
-use native.Mathlib.Omega.{arith}
-use mathlib.Core.Bool.{Bool, true, false}
-use mathlib.Core.List.{List}
-use lib.ListN.{length, length-set}
+use Rattle.word.proofs.Base.{_≡_, refl, sym, ap, _∙_, ℕ, arith, Bool, true, false, List, length, length-set}
 use Rattle.word.specs.Choice.{if_then_else_}
 use Rattle.file.specs.Places.{blitterLength, control0, pointerA, pointerB, pointerC, pointerD, sourceA, sourceB, sourceC}
 use Rattle.word.specs.declared.types.Uses.{Uses}

@@ -1,13 +1,9 @@
 -- COPCON and the colours touch neither a blit nor the folder's knowledge: a blit reads and writes other places alone, and the
 -- knowledge ends before theirs.
-use mathlib.Core.Path.{_≡_, refl, ap, _∙_}
-use Prim.Native.Nat.{ℕ, _+_, _<_, _≤_}
-use native.Mathlib.Omega.{arith}
-use mathlib.Core.Bool.{Bool, true, false}
-use mathlib.Core.List.{List}
-use lib.Dec.{eqb, lit<}
-use lib.ListN.{length, getD, set}
-use lib.Seq.{getD-set-other, set-comm, set-out}
+use Rattle.word.proofs.Base.{_≡_, refl, ap, _∙_, ℕ, _+_, _<_, _≤_, arith, Bool, true, false, eqb, List, length, getD}
+use Rattle.word.proofs.Base.{set, getD-set-other, set-out}
+use lib.Dec.{lit<}
+use lib.Seq.{set-comm}
 use Rattle.word.specs.declared.types.Pointer.{Pointer}
 use Rattle.word.specs.Choice.{if_then_else_}
 use Rattle.word.specs.Pointer.{high, low}

@@ -1,10 +1,6 @@
 -- The steps of a folded job: a settled blit's words are whole steps, and any other step is its own.
-use mathlib.Core.Path.{_≡_, refl, sym, ap, subst, _∙_}
-use Prim.Native.Nat.{ℕ, zero, suc, _+_, _<_}
-use native.Mathlib.Omega.{arith}
-use mathlib.Core.Bool.{Bool, true, false}
-use mathlib.Core.List.{List, [], _∷_, _++_}
-use lib.ListN.{length}
+use Rattle.word.proofs.Base.{_≡_, refl, sym, ap, subst, _∙_, ℕ, zero, suc, _+_, _<_, arith, Bool, true, false, List, []}
+use Rattle.word.proofs.Base.{_∷_, _++_, length}
 use Rattle.word.specs.declared.types.Pointer.{Pointer}
 use Rattle.word.specs.Choice.{if_then_else_}
 use Rattle.word.specs.Pointer.{pointerEnd}

@@ -1,12 +1,7 @@
 -- Laws of a settled blit: the file of the known numbers agrees with the register file on all that the blit depends on.
-use mathlib.Core.Path.{_≡_, refl, sym, _∙_}
-use Prim.Native.Nat.{ℕ, _+_, _*_, _<_}
-use native.Mathlib.Omega.{arith}
-use mathlib.Core.Bool.{Bool, true, false, not, _&&_, _||_}
-use mathlib.Core.List.{List}
-use borrow.Author.Tests.{eqb-true, not-true}
-use lib.Dec.{eqb, leb, lit<}
-use lib.ListN.{length, getD}
+use Rattle.word.proofs.Base.{_≡_, refl, sym, _∙_, ℕ, _+_, _*_, _<_, arith, Bool, true, false, _&&_, _||_, not, eqb, leb}
+use Rattle.word.proofs.Base.{eqb-true, not-true, List, length, getD}
+use lib.Dec.{lit<}
 use Rattle.word.specs.Size.{height, width}
 use Rattle.word.proofs.ChoiceLaws.{and-left, and-right}
 use Rattle.file.specs.Places.{blitterLength, control0, control1, firstMask, lastMask, pointerD, moduloD, sourceA, sourceB, sourceC}

@@ -1,8 +1,5 @@
 -- Laws of the machine that a run stands on: after every step that is copied, what the folder knows agrees with its file.
-use mathlib.Core.Path.{_≡_, refl, sym, subst, _∙_}
-use Prim.Native.Nat.{ℕ}
-use mathlib.Core.List.{List}
-use lib.ListN.{length, length-set}
+use Rattle.word.proofs.Base.{_≡_, refl, sym, subst, _∙_, ℕ, List, length, length-set}
 use Rattle.word.specs.Choice.{given}
 use Rattle.file.specs.File.{kept}
 use Rattle.file.specs.Places.{blitterLength, fileLength}

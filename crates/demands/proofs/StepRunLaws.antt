@@ -1,12 +1,6 @@
 -- Laws of the run of words that begin with a step: the step is taken, and the run goes on after its words.
-use mathlib.Core.Path.{_≡_, refl, sym, ap, _∙_}
-use Prim.Native.Nat.{ℕ, _+_}
-use native.Mathlib.Numerals.{one-add}
-use native.Mathlib.Omega.{arith}
-use mathlib.Core.Bool.{Bool, true, false}
-use mathlib.Core.List.{List, [], _∷_, _++_}
-use lib.Dec.{eqb}
-use lib.ListN.{length, drop}
+use Rattle.word.proofs.Base.{_≡_, refl, sym, ap, _∙_, ℕ, _+_, one-add, arith, Bool, true, false, eqb, List, [], _∷_}
+use Rattle.word.proofs.Base.{_++_, length, drop}
 use lib.Seq.{drop-at}
 use Rattle.word.specs.Choice.{if_then_else_}
 use Rattle.blit.specs.Blit.{Outcome}

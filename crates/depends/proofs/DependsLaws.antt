@@ -1,12 +1,7 @@
 -- Laws of dependence: the low eight bits of a function decide, an entry tells its sources, and a source that doesn't count may hold anything.
-use mathlib.Core.Path.{_≡_, refl, ap, ap₂, _∙_}
-use Prim.Native.Nat.{ℕ, zero, suc, _+_, _*_, _/_, _%_, _<_}
+use Rattle.word.proofs.Base.{_≡_, refl, ap, ap₂, _∙_, ℕ, zero, suc, _+_, _*_, _/_, _%_, _<_, decLt, arith, Bool, true}
+use Rattle.word.proofs.Base.{false, _||_, not, T, eqb, eqb→eq, eqb-true, not-false}
 use native.Mathlib.Nat.{not-suc-le-zero}
-use native.Mathlib.Decide.{decLt}
-use native.Mathlib.Omega.{arith}
-use mathlib.Core.Bool.{Bool, true, false, not, _||_}
-use borrow.Author.Tests.{eqb-true, not-false}
-use lib.Dec.{T, eqb, eqb→eq}
 use lib.Bits.{xor-lt}
 use Rattle.word.specs.Choice.{if_then_else_, every}
 use Rattle.word.specs.Word.{bit}

@@ -1,9 +1,7 @@
 -- Laws of a table that holds a rule's value at each place: what it holds at a place is the rule's value there.
-use mathlib.Core.Path.{_≡_, sym, ap, _∙_}
-use mathlib.Core.List.{List, [], _∷_}
-use Prim.Native.Nat.{ℕ, zero, suc, _+_, _<_}
-use native.Mathlib.Nat.{add-zero, zero-add, add-suc, suc-add, le-of-suc-le-suc, not-suc-le-zero}
-use lib.ListN.{getD}
+use Rattle.word.proofs.Base.{_≡_, sym, ap, _∙_, ℕ, zero, suc, _+_, _<_, zero-add, add-zero, add-suc, List, [], _∷_}
+use Rattle.word.proofs.Base.{getD}
+use native.Mathlib.Nat.{suc-add, le-of-suc-le-suc, not-suc-le-zero}
 
 -- the rule's values at n places from the first on
 abbrev pub values : (rule : ℕ → ℕ) → (first n : ℕ) → List ℕ

@@ -1,14 +1,7 @@
 -- Laws of places and lengths: a job has at most 4,096 words and a folded job too, so that 32 bits hold them. And what the entries
 -- tell, by the answers of the calls.
-use mathlib.Core.Path.{_≡_, refl, ap}
-use Prim.Native.Nat.{ℕ, zero, suc, _+_, _<_, _≤_}
-use native.Mathlib.Decide.{decLt}
-use native.Mathlib.Omega.{arith}
-use mathlib.Core.Bool.{Bool, true, false}
-use mathlib.Core.List.{List, [], _∷_}
-use borrow.Author.Tests.{eq-eqb, ne-eqb}
-use lib.Dec.{eqb}
-use lib.ListN.{length}
+use Rattle.word.proofs.Base.{_≡_, refl, ap, ℕ, zero, suc, _+_, _<_, _≤_, decLt, arith, Bool, true, false, eqb, eq-eqb}
+use Rattle.word.proofs.Base.{ne-eqb, List, [], _∷_, length}
 use Rattle.word.specs.Choice.{if_then_else_, _when_, given}
 use Rattle.word.specs.Memory.{memorySize}
 use Rattle.job.specs.Step.{front, readNumber}

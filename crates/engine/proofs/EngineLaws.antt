@@ -1,8 +1,6 @@
 -- Laws of the choice between blocks and words.
-use mathlib.Core.Path.{_≡_, _∙_}
-use Prim.Native.Nat.{ℕ, zero, suc, _*_, _≤_}
-use native.Mathlib.Nat.{zero-mul, mul-le-mul}
-use native.Mathlib.Omega.{arith}
+use Rattle.word.proofs.Base.{_≡_, _∙_, ℕ, zero, suc, _*_, _≤_, mul-le-mul, arith}
+use native.Mathlib.Nat.{zero-mul}
 
 -- some rows, where there are some words
 pub one-row : (rows width : ℕ) → 2 ≤ rows * width → 1 ≤ rows

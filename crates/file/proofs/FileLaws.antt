@@ -1,15 +1,10 @@
 -- Laws of the register file: what a register keeps, and when a file is accepted.
-use mathlib.Core.Path.{_≡_, refl, sym, ap, subst, _∙_}
-use Prim.Native.Nat.{ℕ, _+_, _-_, _*_, _/_, _%_, _^_, _<_, _≤_}
-use native.Mathlib.Nat.{lt-of-le-of-lt, mod-eq-of-lt}
-use native.Mathlib.Omega.{arith}
-use mathlib.Core.Bool.{Bool, true, false, _&&_}
-use mathlib.Core.List.{List}
-use borrow.Author.Tests.{eq-eqb, ne-eqb, eqb-true, eqb-false}
-use lib.Dec.{T, eqb, ltb, eqb→eq, ltb→lt}
+use Rattle.word.proofs.Base.{_≡_, refl, sym, ap, subst, _∙_, ℕ, _+_, _-_, _*_, _/_, _%_, _^_, _<_, _≤_, mod-eq-of-lt}
+use Rattle.word.proofs.Base.{arith, Bool, true, false, _&&_, T, eqb, ltb, eqb→eq, eq-eqb, ne-eqb, eqb-true, eqb-false}
+use Rattle.word.proofs.Base.{List, length, getD, set, length-set, getD-set-same, getD-set-other}
+use native.Mathlib.Nat.{lt-of-le-of-lt}
+use lib.Dec.{ltb→lt}
 use lib.Bits.{and-le-r, and-mask, and-high}
-use lib.ListN.{length, getD, set, length-set}
-use lib.Seq.{getD-set-other, getD-set-same}
 use Rattle.word.specs.declared.types.Pointer.{Pointer}
 use Rattle.word.specs.Choice.{every}
 use Rattle.word.specs.Pointer.{high, low}

@@ -1,13 +1,8 @@
 -- Laws of places: a run of offsets, and what no offset of the table is, each by one computed test over the table.
-use mathlib.Core.Path.{_≡_, refl, sym, ap, _∙_}
-use Prim.Native.Nat.{ℕ, suc, _+_, _*_, _-_, _/_, _%_, _<_, _≤_}
+use Rattle.word.proofs.Base.{_≡_, refl, sym, ap, _∙_, ℕ, suc, _+_, _-_, _*_, _/_, _%_, _<_, _≤_, arith, Bool, true}
+use Rattle.word.proofs.Base.{_&&_, not, T, eqb, ltb, eqb→eq, ne-eqb, lt-ltb, List, [], _∷_, length, getD}
 use native.Mathlib.Nat.{zero-lt-suc}
-use native.Mathlib.Omega.{arith}
-use mathlib.Core.Bool.{Bool, true, not, _&&_}
-use mathlib.Core.List.{List, [], _∷_, map}
-use borrow.Author.Tests.{lt-ltb, ne-eqb}
-use lib.Dec.{T, eqb, ltb, eqb→eq}
-use lib.ListN.{length, getD}
+use mathlib.Core.List.{map}
 use Rattle.word.specs.Choice.{every}
 use Rattle.word.proofs.ChoiceLaws.{every-at}
 use Rattle.file.specs.File.{Register, registers, placeIn, place}

@@ -1,15 +1,8 @@
 -- Laws of the folding into a run, step by step: what is left of the job from a place on gives what the whole gives.
-use mathlib.Core.Path.{_≡_, refl, sym, ap, _∙_}
-use Prim.Native.Nat.{ℕ, _+_, _*_, _<_, _≤_}
-use native.Mathlib.Nat.{zero-add}
-use native.Mathlib.Omega.{arith}
-use mathlib.Core.Bool.{Bool, true, false, not, _||_}
-use mathlib.Core.List.{List, [], _∷_, _++_}
+use Rattle.word.proofs.Base.{_≡_, refl, sym, ap, _∙_, ℕ, _+_, _*_, _<_, _≤_, zero-add, arith, Bool, true, false, _||_}
+use Rattle.word.proofs.Base.{not, eqb, leb, ne-eqb, le-leb, lt-leb, List, [], _∷_, _++_, length, drop, length-append}
 use mir.Val.{Fits}
 use mir.Syntax.{w32}
-use lib.Dec.{leb, eqb}
-use lib.ListN.{length, drop, length-append}
-use borrow.Author.Tests.{lt-leb, le-leb, ne-eqb}
 use Rattle.word.specs.Choice.{if_then_else_, given}
 use Rattle.word.specs.Laid.{laid}
 use Rattle.word.proofs.ChoiceLaws.{or-left, or-right, within-when-passed}

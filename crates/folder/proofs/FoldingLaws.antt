@@ -1,11 +1,6 @@
 -- Laws of a folding: what is refused before the first step, and what is handed out of one that is done.
-use mathlib.Core.Path.{_≡_, sym, ap, _∙_}
-use Prim.Native.Nat.{ℕ, _≤_}
-use native.Mathlib.Omega.{arith}
-use mathlib.Core.Bool.{Bool, true, false, not}
-use mathlib.Core.List.{List, _++_}
-use lib.Dec.{leb}
-use lib.ListN.{length, take, drop}
+use Rattle.word.proofs.Base.{_≡_, sym, ap, _∙_, ℕ, _≤_, arith, Bool, true, false, not, leb, List, _++_, length, take}
+use Rattle.word.proofs.Base.{drop}
 use lib.Seq.{take-at}
 use Rattle.word.specs.Choice.{given}
 use Rattle.word.proofs.ChoiceLaws.{or-right, within-when-passed}

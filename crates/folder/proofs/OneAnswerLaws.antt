@@ -1,8 +1,5 @@
 -- The number of a refusal tells it from all others, and is never 0: what an answer leaves tells the answer.
-use mathlib.Core.Path.{_≡_, refl, sym, ap, _∙_}
-use Prim.Native.Nat.{ℕ}
-use mathlib.Core.List.{List}
-use lib.Dec.{eqb}
+use Rattle.word.proofs.Base.{_≡_, refl, sym, ap, _∙_, ℕ, eqb, List}
 use Rattle.word.specs.Choice.{if_then_else_}
 use Rattle.job.specs.declared.types.Refusal as jobs
 use Rattle.folder.specs.declared.types.Refusal.{Refusal}

@@ -1,15 +1,9 @@
 -- Laws of a step laid: what it becomes, how many words those are, and what is known after it.
-use mathlib.Core.Path.{_≡_, refl, sym, ap, _∙_}
-use Prim.Native.Nat.{ℕ, _+_, _*_, _≤_}
-use native.Mathlib.Omega.{arith}
-use mathlib.Core.Bool.{Bool, true, false, _&&_}
-use mathlib.Core.List.{List}
+use Rattle.word.proofs.Base.{_≡_, refl, sym, ap, _∙_, ℕ, _+_, _*_, _≤_, arith, Bool, true, false, _&&_, eqb, leb}
+use Rattle.word.proofs.Base.{leb-true, List, length, take, drop, length-append, length-take-le}
 use mir.Val.{Fits}
 use mir.Syntax.{w32}
-use lib.Dec.{eqb, leb}
-use lib.ListN.{length, take, drop, length-append, length-drop}
-use lib.Seq.{length-take-le}
-use borrow.Author.Tests.{leb-true}
+use lib.ListN.{length-drop}
 use Rattle.word.specs.Laid.{laid}
 use Rattle.word.specs.Size.{height, width}
 use Rattle.word.specs.declared.types.Pointer.{Pointer}

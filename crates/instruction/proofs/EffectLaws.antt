@@ -1,12 +1,6 @@
 -- Laws of an instruction's effect: what each kind leaves, and that a refused one changes nothing.
-use mathlib.Core.Path.{_≡_, refl}
-use Prim.Native.Nat.{ℕ, zero, suc, _+_, _<_, _≤_}
-use native.Mathlib.Omega.{arith}
-use mathlib.Core.Bool.{Bool, true, false, not}
-use mathlib.Core.List.{List}
-use borrow.Author.Tests.{eq-eqb, ne-eqb, eqb-false, le-leb, lt-leb}
-use lib.Dec.{eqb}
-use lib.ListN.{length, getD, set}
+use Rattle.word.proofs.Base.{_≡_, refl, ℕ, zero, suc, _+_, _<_, _≤_, arith, Bool, true, false, not, eqb, eq-eqb, ne-eqb}
+use Rattle.word.proofs.Base.{eqb-false, le-leb, lt-leb, List, length, getD, set}
 use Rattle.word.specs.Choice.{given}
 use Rattle.word.proofs.ChoiceLaws.{if-either}
 use Rattle.file.specs.File.{place, kept}

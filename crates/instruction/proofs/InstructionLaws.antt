@@ -1,8 +1,5 @@
 -- Laws of an instruction: what it is, by its words' parity.
-use mathlib.Core.Path.{_≡_}
-use Prim.Native.Nat.{ℕ, _%_}
-use native.Mathlib.Omega.{arith}
-use borrow.Author.Tests.{eq-eqb, ne-eqb}
+use Rattle.word.proofs.Base.{_≡_, ℕ, _%_, arith, eq-eqb, ne-eqb}
 use Rattle.instruction.specs.declared.types.Instruction.the-variants.{Move, Wait, Skip}
 use Rattle.instruction.specs.Instruction.{offset, instruction}
 

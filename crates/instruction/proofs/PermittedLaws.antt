@@ -1,12 +1,6 @@
 -- Laws of the offsets that a MOVE may write: their parts.
-use mathlib.Core.Path.{_≡_}
-use Prim.Native.Nat.{ℕ, _/_, _%_, _<_, _≤_}
-use native.Mathlib.Omega.{arith}
-use mathlib.Core.Bool.{Bool, true, false, _||_}
-use mathlib.Core.List.{List}
-use borrow.Author.Tests.{le-leb, lt-leb}
-use lib.Dec.{eqb, ltb}
-use lib.ListN.{getD}
+use Rattle.word.proofs.Base.{_≡_, ℕ, _/_, _%_, _<_, _≤_, arith, Bool, true, false, _||_, eqb, ltb, le-leb, lt-leb, List}
+use Rattle.word.proofs.Base.{getD}
 use Rattle.file.specs.Places.{copcon, flag}
 use Rattle.file.specs.File.{place, isRegister}
 use Rattle.instruction.specs.Permitted.{danger, permitted, sizeOffset, modelled}

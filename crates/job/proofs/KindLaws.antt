@@ -1,8 +1,5 @@
 -- Laws of a first word: what the tests on it, in the decoder's order, say of its kind.
-use mathlib.Core.Path.{_≡_}
-use Prim.Native.Nat.{ℕ, _-_, _<_, _≤_}
-use native.Mathlib.Omega.{arith}
-use borrow.Author.Tests.{lt-ltb, le-ltb, le-leb, lt-leb, eq-eqb, ne-eqb}
+use Rattle.word.proofs.Base.{_≡_, ℕ, _-_, _<_, _≤_, arith, eq-eqb, ne-eqb, le-leb, lt-leb, lt-ltb, le-ltb}
 use Rattle.file.specs.File.{isRegister, place}
 use Rattle.file.specs.Places.{flag}
 use Rattle.job.specs.declared.types.Kind.{Kind}

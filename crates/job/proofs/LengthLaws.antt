@@ -1,11 +1,5 @@
 -- Laws of a job's length.
-use mathlib.Core.Path.{_≡_, sym, _∙_}
-use Prim.Native.Nat.{ℕ, _≤_}
-use mathlib.Core.Bool.{Bool, false}
-use mathlib.Core.List.{List}
-use borrow.Author.Tests.{le-leb}
-use lib.Dec.{ltb}
-use lib.ListN.{length}
+use Rattle.word.proofs.Base.{_≡_, sym, _∙_, ℕ, _≤_, Bool, false, ltb, le-leb, List, length}
 use Rattle.word.proofs.ChoiceLaws.{beyond-is-not-within, within-when-passed}
 use Rattle.job.specs.Length.{jobMost, jobLength}
 

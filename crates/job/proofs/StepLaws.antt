@@ -1,13 +1,7 @@
 -- Laws of a step: what the words after a first word make of it, and what stands at a place of a job.
-use mathlib.Core.Path.{_≡_, refl, sym, ap, _∙_}
-use Prim.Native.Nat.{ℕ, suc, _+_, _-_, _%_, _<_, _≤_}
-use native.Mathlib.Decide.{decLt}
-use native.Mathlib.Omega.{arith}
-use mathlib.Core.Bool.{Bool, true, false}
-use mathlib.Core.List.{List, [], _∷_, _++_}
-use borrow.Author.Tests.{eq-eqb, ne-eqb}
-use lib.ListN.{length, getD, drop, length-drop, drop-of-length-le}
-use lib.Seq.{drop-cons}
+use Rattle.word.proofs.Base.{_≡_, refl, sym, ap, _∙_, ℕ, suc, _+_, _-_, _%_, _<_, _≤_, decLt, arith, Bool, true, false}
+use Rattle.word.proofs.Base.{eq-eqb, ne-eqb, List, [], _∷_, _++_, length, getD, drop, drop-of-length-le, drop-cons}
+use lib.ListN.{length-drop}
 use Rattle.word.specs.Choice.{if_then_else_}
 use Rattle.word.specs.Pointer.{pointer}
 use Rattle.word.specs.declared.types.Pointer.{Pointer}

@@ -1,10 +1,6 @@
 -- Laws of the list of a job's steps: how it begins at a place, by what stands there.
-use mathlib.Core.Path.{_≡_, refl, ap, _∙_}
-use Prim.Native.Nat.{ℕ, zero, suc, _+_, _<_, _≤_}
-use native.Mathlib.Nat.{add-zero}
-use native.Mathlib.Omega.{arith}
-use mathlib.Core.List.{List, [], _∷_}
-use lib.ListN.{length, drop, drop-of-length-le}
+use Rattle.word.proofs.Base.{_≡_, refl, ap, _∙_, ℕ, zero, suc, _+_, _<_, _≤_, add-zero, arith, List, [], _∷_, length}
+use Rattle.word.proofs.Base.{drop, drop-of-length-le}
 use lib.Seq.{drop-drop}
 use Rattle.word.specs.Choice.{given}
 use Rattle.job.specs.declared.types.Step.{Step}

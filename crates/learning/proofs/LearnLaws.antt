@@ -1,9 +1,5 @@
 -- Laws of what a step does to the knowledge: each change from its parts.
-use mathlib.Core.Path.{_≡_, sym, _∙_}
-use Prim.Native.Nat.{ℕ, _+_}
-use mathlib.Core.Bool.{Bool, true, false}
-use mathlib.Core.List.{List}
-use lib.ListN.{getD, set}
+use Rattle.word.proofs.Base.{_≡_, sym, _∙_, ℕ, _+_, Bool, true, false, List, getD, set}
 use Rattle.word.specs.declared.types.Pointer.{Pointer}
 use Rattle.word.specs.Pointer.{high, low}
 use Rattle.file.specs.File.{kept}

@@ -1,12 +1,6 @@
 -- Laws of the words of a step laid into the output: a store, a pointer's two writes, a flag step, words copied.
-use mathlib.Core.Path.{_≡_, sym, ap, _∙_}
-use Prim.Native.Nat.{ℕ, zero, suc, _+_, _-_, _<_, _≤_}
-use native.Mathlib.Numerals.{sub-one}
-use native.Mathlib.Omega.{arith}
-use mathlib.Core.Bool.{Bool, true, false}
-use mathlib.Core.List.{List, [], _∷_, _++_}
-use lib.ListN.{length, getD, set, take, drop}
-use lib.Seq.{drop-cons}
+use Rattle.word.proofs.Base.{_≡_, sym, ap, _∙_, ℕ, zero, suc, _+_, _-_, _<_, _≤_, sub-one, arith, Bool, true, false}
+use Rattle.word.proofs.Base.{List, [], _∷_, _++_, length, getD, set, take, drop, drop-cons}
 use Rattle.word.specs.declared.types.Pointer.{Pointer}
 use Rattle.word.specs.Laid.{laid}
 use Rattle.word.specs.Pointer.{high, low}

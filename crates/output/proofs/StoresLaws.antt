@@ -1,12 +1,9 @@
 -- Laws of a settled blit's stores laid into the output from the two runs that hold them.
-use mathlib.Core.Path.{_≡_, refl, sym, ap, _∙_}
-use Prim.Native.Nat.{ℕ, zero, suc, _+_, _*_, _-_, _<_, _≤_}
-use native.Mathlib.Omega.{arith}
-use mathlib.Core.Bool.{Bool}
-use mathlib.Core.List.{List, [], _∷_, _++_}
+use Rattle.word.proofs.Base.{_≡_, refl, sym, ap, _∙_, ℕ, zero, suc, _+_, _-_, _*_, _<_, _≤_, arith, Bool, List, [], _∷_}
+use Rattle.word.proofs.Base.{_++_, length, getD, drop}
 use mir.Val.{Fits}
 use mir.Syntax.{w32}
-use lib.ListN.{length, getD, drop, length-map}
+use lib.ListN.{length-map}
 use Rattle.word.specs.declared.types.Pointer.{Pointer}
 use Rattle.word.specs.Laid.{laid}
 use Rattle.word.specs.Size.{height, width}

@@ -1,11 +1,8 @@
 -- Laws of a copying set-up: use A and D, function F0, shift 0, no fill, both masks all ones. Each final word is the one at
 -- A's pointer.
-use mathlib.Core.Path.{_≡_, refl, sym, ap, fun-ext, _∙_}
-use Prim.Native.Nat.{ℕ, zero, suc, _+_, _*_, _<_, _≤_}
-use native.Mathlib.Omega.{arith}
-use mathlib.Core.Bool.{Bool, true, false}
-use mathlib.Core.List.{List}
-use lib.ListN.{getD}
+use Rattle.word.proofs.Base.{_≡_, refl, sym, ap, _∙_, ℕ, zero, suc, _+_, _*_, _<_, _≤_, arith, Bool, true, false, List}
+use Rattle.word.proofs.Base.{getD}
+use mathlib.Core.Path.{fun-ext}
 use Rattle.word.specs.declared.types.Direction.{Direction}
 use Rattle.word.specs.declared.types.Pointer.{Pointer}
 use Rattle.word.specs.declared.types.Fill.{Fill}

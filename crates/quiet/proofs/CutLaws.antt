@@ -1,11 +1,8 @@
 -- A blit cut between two rows: the second part begins with the first one's last word stored, where none of its sources
 -- fetches that word first.
-use mathlib.Core.Path.{_≡_, refl, sym, ap, _∙_}
-use Prim.Native.Nat.{ℕ, zero, suc, _+_, _-_, _*_, _≤_}
-use native.Mathlib.Nat.{add-zero, zero-add, suc-add}
-use native.Mathlib.Omega.{arith}
-use mathlib.Core.Bool.{true}
-use mathlib.Core.List.{List}
+use Rattle.word.proofs.Base.{_≡_, refl, sym, ap, _∙_, ℕ, zero, suc, _+_, _-_, _*_, _≤_, zero-add, add-zero, arith, true}
+use Rattle.word.proofs.Base.{List}
+use native.Mathlib.Nat.{suc-add}
 use Rattle.word.specs.Repeat.{repeated}
 use Rattle.area.specs.declared.types.Setup.{Setup}
 use Rattle.area.specs.declared.types.Flow.{Flow}

@@ -1,15 +1,7 @@
 -- A quiet blit's words are those of the sequence: the definition's own steps lead from each to the next.
-use mathlib.Core.Path.{_≡_, refl, sym, ap, _∙_}
-use Prim.Native.Nat.{ℕ, zero, suc, _+_, _-_, _*_, _/_, _%_, _<_, _≤_}
-use native.Mathlib.Nat.{suc-mul, mul-le-mul-right}
-use native.Mathlib.Numerals.{sub-one}
-use native.Mathlib.Omega.{arith}
-use mathlib.Core.Bool.{Bool, true, false, _&&_}
-use mathlib.Core.List.{List}
-use borrow.Author.Tests.{ne-eqb, eq-eqb}
-use lib.Dec.{eqb}
-use lib.ListN.{getD, set}
-use lib.Seq.{getD-set-other}
+use Rattle.word.proofs.Base.{_≡_, refl, sym, ap, _∙_, ℕ, zero, suc, _+_, _-_, _*_, _/_, _%_, _<_, _≤_, suc-mul}
+use Rattle.word.proofs.Base.{mul-le-mul-right, sub-one, arith, Bool, true, false, _&&_, eqb, eq-eqb, ne-eqb, List, getD}
+use Rattle.word.proofs.Base.{set, getD-set-other}
 use Rattle.word.specs.declared.types.Pointer.{Pointer}
 use Rattle.word.specs.Choice.{if_then_else_, every}
 use Rattle.word.specs.Repeat.{repeated}

@@ -1,15 +1,8 @@
 -- Laws of a blit's words as a sequence: their numbers, where a channel stands, and words laid in order.
-use mathlib.Core.Path.{_≡_, refl, sym, ap, _∙_}
-use Prim.Native.Nat.{ℕ, zero, suc, _+_, _*_, _/_, _%_, _<_}
-use native.Mathlib.Nat.{mul-add-div-right, mul-add-mod-self-right, mod-eq-of-lt, div-eq-of-lt}
-use native.Mathlib.Decide.{decLt}
-use native.Mathlib.Omega.{arith}
-use mathlib.Core.Bool.{Bool, true, false}
-use mathlib.Core.List.{List}
-use borrow.Author.Tests.{ne-eqb, eq-eqb}
-use lib.Dec.{eqb}
-use lib.ListN.{length, getD, set, length-set}
-use lib.Seq.{getD-set-other, getD-set-same}
+use Rattle.word.proofs.Base.{_≡_, refl, sym, ap, _∙_, ℕ, zero, suc, _+_, _*_, _/_, _%_, _<_, mod-eq-of-lt, decLt, arith}
+use Rattle.word.proofs.Base.{Bool, true, false, eqb, eq-eqb, ne-eqb, List, length, getD, set, length-set, getD-set-same}
+use Rattle.word.proofs.Base.{getD-set-other}
+use native.Mathlib.Nat.{mul-add-div-right, mul-add-mod-self-right, div-eq-of-lt}
 use Rattle.word.specs.declared.types.Direction.{Direction}
 use Rattle.word.specs.declared.types.Pointer.{Pointer}
 use Rattle.word.specs.Repeat.{repeated}

@@ -1,9 +1,5 @@
 -- The number of a refusal tells it from all others, and is never 0: what a verdict's number is tells the verdict.
-use mathlib.Core.Path.{_≡_, refl, sym, ap, _∙_}
-use Prim.Native.Nat.{ℕ}
-use mathlib.Core.Bool.{Bool, true}
-use borrow.Author.Tests.{eqb-false, eq-eqb}
-use lib.Dec.{eqb}
+use Rattle.word.proofs.Base.{_≡_, refl, sym, ap, _∙_, ℕ, Bool, true, eqb, eq-eqb, eqb-false}
 use Rattle.word.specs.Choice.{if_then_else_}
 use Rattle.refusal.specs.declared.types.Refusal.{Refusal}
 use Rattle.refusal.specs.declared.types.Refusal.the-variants.{MemorySize, RegisterFile, Line, BothFills, FillUpward, ALeaves, BLeaves, CLeaves, DLeaves}

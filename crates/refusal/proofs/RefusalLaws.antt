@@ -1,10 +1,5 @@
 -- Laws of the refusals.
-use mathlib.Core.Path.{_≡_, refl, sym, ap, _∙_}
-use Prim.Native.Nat.{ℕ, _<_, _≤_}
-use mathlib.Core.Bool.{Bool, true, false, not, _&&_, _||_}
-use mathlib.Core.List.{List}
-use native.Mathlib.Omega.{arith}
-use lib.Dec.{eqb}
+use Rattle.word.proofs.Base.{_≡_, refl, sym, ap, _∙_, ℕ, _<_, _≤_, arith, Bool, true, false, _&&_, _||_, not, eqb, List}
 use Rattle.word.specs.Choice.{if_then_else_, given}
 use Rattle.word.specs.Pointer.{pointerEnd, pointer}
 use Rattle.word.specs.Size.{height, width}

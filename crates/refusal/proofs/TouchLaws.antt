@@ -1,12 +1,7 @@
 -- Laws of the words that a channel touches: a row tells for the rest.
-use mathlib.Core.Path.{_≡_, refl, sym, ap, subst, _∙_}
-use Prim.Native.Nat.{ℕ, zero, suc, _+_, _-_, _<_, _≤_}
-use native.Mathlib.Numerals.{sub-one}
-use native.Mathlib.Omega.{arith}
-use mathlib.Core.Bool.{Bool, true, false, _||_, and-false, or-assoc}
-use mathlib.Core.List.{List, [], _∷_, _++_}
-use borrow.Author.Tests.{le-ltb, lt-leb}
-use lib.Dec.{leb}
+use Rattle.word.proofs.Base.{_≡_, refl, sym, ap, subst, _∙_, ℕ, zero, suc, _+_, _-_, _<_, _≤_, sub-one, arith, Bool}
+use Rattle.word.proofs.Base.{true, false, _||_, leb, lt-leb, le-ltb, List, [], _∷_, _++_}
+use mathlib.Core.Bool.{and-false, or-assoc}
 use Rattle.word.specs.declared.types.Direction.{Direction}
 use Rattle.word.specs.declared.types.Direction.the-variants.{Ascending, Descending}
 use Rattle.word.specs.declared.types.Pointer.{Pointer}

@@ -1,11 +1,8 @@
 -- What a step and a run leave is accepted again: a register keeps its bits, a store puts a word of the job into memory, a flag
 -- step sets the flag to 0 or 1, and a blit leaves what is accepted.
-use mathlib.Core.Path.{_≡_, refl, _∙_}
-use Prim.Native.Nat.{ℕ, zero, suc, _+_, _<_}
-use mathlib.Core.Bool.{Bool, true, false, _&&_}
-use mathlib.Core.List.{List, [], _∷_}
-use lib.Dec.{eqb, leb, lit<}
-use lib.ListN.{drop, length-set}
+use Rattle.word.proofs.Base.{_≡_, refl, _∙_, ℕ, zero, suc, _+_, _<_, Bool, true, false, _&&_, eqb, leb, List, [], _∷_}
+use Rattle.word.proofs.Base.{drop, length-set}
+use lib.Dec.{lit<}
 use Rattle.word.specs.Choice.{if_then_else_}
 use Rattle.word.specs.Pointer.{pointer}
 use Rattle.word.specs.Word.{SixteenBits}

@@ -1,13 +1,6 @@
 -- Laws of a refused run: where it stops, the words before that place are whole steps, and their run is done.
-use mathlib.Core.Path.{_≡_, refl, sym, ap, _∙_}
-use Prim.Native.Nat.{ℕ, zero, suc, _+_, _≤_}
-use native.Mathlib.Nat.{add-zero}
-use native.Mathlib.Omega.{arith}
-use mathlib.Core.Bool.{Bool, true, false, _&&_}
-use mathlib.Core.List.{List, [], _∷_}
-use borrow.Author.Tests.{eq-eqb, eqb-true}
-use lib.Dec.{eqb}
-use lib.ListN.{take, drop}
+use Rattle.word.proofs.Base.{_≡_, refl, sym, ap, _∙_, ℕ, zero, suc, _+_, _≤_, add-zero, arith, Bool, true, false, _&&_}
+use Rattle.word.proofs.Base.{eqb, eq-eqb, eqb-true, List, [], _∷_, take, drop}
 use Rattle.word.specs.Choice.{if_then_else_}
 use Rattle.blit.specs.Blit.{refused}
 use Rattle.job.specs.declared.types.Step.{Step}

@@ -1,13 +1,8 @@
 -- 1 to 3 are the rules of the list before the first step. A refused run stops where the steps before are done and a row applies;
 -- and where that is so the run can stop nowhere else, for the run of the steps before is the run's beginning.
-use mathlib.Core.Path.{_≡_, refl, sym, ap, _∙_}
-use Prim.Native.Nat.{ℕ, _+_, _<_, _≤_}
-use native.Mathlib.Nat.{zero-add}
-use native.Mathlib.Decide.{decLt}
-use native.Mathlib.Omega.{arith}
-use mathlib.Core.List.{List}
-use lib.ListN.{length, take, drop, take-append-drop}
-use lib.Seq.{length-take-le}
+use Rattle.word.proofs.Base.{_≡_, refl, sym, ap, _∙_, ℕ, _+_, _<_, _≤_, zero-add, decLt, arith, List, length, take}
+use Rattle.word.proofs.Base.{drop, length-take-le}
+use lib.ListN.{take-append-drop}
 use Rattle.word.specs.Choice.{given}
 use Rattle.blit.specs.Blit.{refused}
 use Rattle.job.specs.declared.types.Read.{Read}

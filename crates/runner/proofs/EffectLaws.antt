@@ -1,11 +1,5 @@
 -- Laws of a step: what each kind of step leaves, how many words a step stores at most, and that a refused one changes nothing.
-use mathlib.Core.Path.{_≡_, refl, ap}
-use Prim.Native.Nat.{ℕ, _<_, _≤_}
-use native.Mathlib.Omega.{arith}
-use mathlib.Core.List.{List}
-use borrow.Author.Tests.{le-leb, lt-leb}
-use lib.Dec.{eqb}
-use lib.ListN.{length, set}
+use Rattle.word.proofs.Base.{_≡_, refl, ap, ℕ, _<_, _≤_, arith, eqb, le-leb, lt-leb, List, length, set}
 use Rattle.word.specs.Choice.{given}
 use Rattle.word.proofs.ChoiceLaws.{if-either}
 use Rattle.file.specs.File.{kept}

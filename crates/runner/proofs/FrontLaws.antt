@@ -1,10 +1,5 @@
 -- Laws of what stands at the front of a run of words: a step stands there too when the run is cut after it, and the end never does.
-use mathlib.Core.Path.{_≡_, ap}
-use Prim.Native.Nat.{ℕ, zero, suc, _≤_}
-use native.Mathlib.Omega.{arith}
-use mathlib.Core.Bool.{Bool, true, false}
-use mathlib.Core.List.{List, [], _∷_}
-use lib.ListN.{length, take}
+use Rattle.word.proofs.Base.{_≡_, ap, ℕ, zero, suc, _≤_, arith, Bool, true, false, List, [], _∷_, length, take}
 use Rattle.word.specs.Choice.{if_then_else_}
 use Rattle.word.specs.Pointer.{pointer}
 use Rattle.job.specs.declared.types.Kind.{Kind}

@@ -1,10 +1,5 @@
 -- Laws of the lengths of memory and file: no step changes them, and no run changes that of memory.
-use mathlib.Core.Path.{_≡_, refl, _∙_}
-use Prim.Native.Nat.{ℕ}
-use mathlib.Core.Bool.{Bool, true, false}
-use mathlib.Core.List.{List, [], _∷_}
-use lib.Dec.{eqb}
-use lib.ListN.{length, length-set}
+use Rattle.word.proofs.Base.{_≡_, refl, _∙_, ℕ, Bool, true, false, eqb, List, [], _∷_, length, length-set}
 use Rattle.word.specs.Choice.{if_then_else_}
 use Rattle.file.specs.File.{kept}
 use Rattle.file.specs.Places.{flag}

@@ -1,11 +1,7 @@
 -- A run that is refused at a step has started, and so has the job cut before that step; the cut job's run is done.
-use mathlib.Core.Path.{_≡_, sym, ap, _∙_}
-use Prim.Native.Nat.{ℕ, _<_, _≤_}
-use native.Mathlib.Nat.{zero-add}
-use native.Mathlib.Decide.{decLt}
-use native.Mathlib.Omega.{arith}
-use mathlib.Core.List.{List}
-use lib.ListN.{length, take, drop, length-append, take-append-drop}
+use Rattle.word.proofs.Base.{_≡_, sym, ap, _∙_, ℕ, _<_, _≤_, zero-add, decLt, arith, List, length, take, drop}
+use Rattle.word.proofs.Base.{length-append}
+use lib.ListN.{take-append-drop}
 use Rattle.job.specs.Step.{front, stepAt}
 use Rattle.runner.specs.Run.{machine, effectOn, End, ended, runFrom, startRefusal, run}
 use Rattle.runner.specs.RefusedRunStands.{RefusedRunStands}

@@ -1,11 +1,6 @@
 -- Laws of the rules: the first that applies has the number that the effect has, and every number of theirs is past 3.
-use mathlib.Core.Path.{_≡_, refl, sym, _∙_}
-use Prim.Native.Nat.{ℕ, _<_}
-use mathlib.Core.Bool.{Bool, true, false, _&&_}
-use mathlib.Core.List.{List, [], _∷_}
-use borrow.Author.Tests.{eqb-true, ltb-true}
-use lib.Dec.{eqb, ltb}
-use lib.ListN.{length}
+use Rattle.word.proofs.Base.{_≡_, refl, sym, _∙_, ℕ, _<_, Bool, true, false, _&&_, eqb, ltb, eqb-true, ltb-true, List}
+use Rattle.word.proofs.Base.{[], _∷_, length}
 use Rattle.word.specs.Choice.{if_then_else_, Rule, given}
 use Rattle.word.proofs.ChoiceLaws.{and-left, and-right}
 use Rattle.blit.specs.Blit.{refused}

@@ -1,12 +1,6 @@
 -- Laws of a run that follows another: the run of two lists of steps, of words cut at a step boundary, and of a job.
-use mathlib.Core.Path.{_≡_, refl, sym, ap, _∙_}
-use Prim.Native.Nat.{ℕ, _+_, _≤_}
-use native.Mathlib.Omega.{arith}
-use mathlib.Core.Bool.{Bool, true, false}
-use mathlib.Core.List.{List, [], _∷_, _++_}
-use borrow.Author.Tests.{ne-eqb}
-use lib.Dec.{eqb}
-use lib.ListN.{length, length-append}
+use Rattle.word.proofs.Base.{_≡_, refl, sym, ap, _∙_, ℕ, _+_, _≤_, arith, Bool, true, false, eqb, ne-eqb, List, [], _∷_}
+use Rattle.word.proofs.Base.{_++_, length, length-append}
 use Rattle.word.specs.Choice.{if_then_else_}
 use Rattle.blit.specs.Blit.{refused}
 use Rattle.job.specs.declared.types.Read.{Read}

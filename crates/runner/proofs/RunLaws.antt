@@ -1,13 +1,8 @@
 -- Laws of a run: its first step, how it goes on from a place of the job by what stands there, and what is refused before the first step.
-use mathlib.Core.Path.{_≡_, refl, sym, ap, _∙_}
-use Prim.Native.Nat.{ℕ, _+_, _*_, _-_, _<_, _≤_}
-use native.Mathlib.Omega.{arith}
-use mathlib.Core.Bool.{Bool, true, false, not}
-use mathlib.Core.List.{List, [], _∷_}
+use Rattle.word.proofs.Base.{_≡_, refl, sym, ap, _∙_, ℕ, _+_, _-_, _*_, _<_, _≤_, arith, Bool, true, false, not, eq-eqb}
+use Rattle.word.proofs.Base.{ne-eqb, List, [], _∷_, length, drop}
 use mir.Val.{Fits}
 use mir.Syntax.{w32}
-use borrow.Author.Tests.{eq-eqb, ne-eqb}
-use lib.ListN.{length, drop}
 use Rattle.word.specs.Choice.{given}
 use Rattle.file.specs.File.{accepted}
 use Rattle.word.specs.Memory.{memorySize}

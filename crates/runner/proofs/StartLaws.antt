@@ -1,11 +1,5 @@
 -- Laws of what is refused before the first step: when it is, and that a part of a job is taken where the job is.
-use mathlib.Core.Path.{_≡_, refl}
-use Prim.Native.Nat.{ℕ, _≤_}
-use native.Mathlib.Omega.{arith}
-use mathlib.Core.Bool.{Bool, true, false, not}
-use mathlib.Core.List.{List, [], _∷_}
-use borrow.Author.Tests.{eq-eqb, ne-eqb}
-use lib.ListN.{length}
+use Rattle.word.proofs.Base.{_≡_, refl, ℕ, _≤_, arith, Bool, true, false, not, eq-eqb, ne-eqb, List, [], _∷_, length}
 use Rattle.word.specs.Choice.{_when_, given}
 use Rattle.file.specs.File.{accepted}
 use Rattle.word.specs.Memory.{memorySize}

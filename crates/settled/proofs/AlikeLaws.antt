@@ -1,8 +1,5 @@
 -- Set-ups and flows that agree on what counts finish the same word: a source that doesn't count may hold anything.
-use mathlib.Core.Path.{_≡_, refl, ap, ap₂, _∙_}
-use Prim.Native.Nat.{ℕ, zero}
-use mathlib.Core.Bool.{Bool, true, false, _&&_}
-use lib.Dec.{eqb}
+use Rattle.word.proofs.Base.{_≡_, refl, ap, ap₂, _∙_, ℕ, zero, Bool, true, false, _&&_, eqb}
 use Rattle.word.specs.declared.types.Direction.{Direction}
 use Rattle.word.specs.declared.types.Fill.{Fill}
 use Rattle.word.specs.declared.types.Filled.{Filled}

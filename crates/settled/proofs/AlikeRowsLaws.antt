@@ -1,9 +1,5 @@
 -- Rows of set-ups and flows that agree on what counts give the same stores, and flows that agree again.
-use mathlib.Core.Path.{_≡_, refl, sym, ap, ap₂, subst, _∙_}
-use Prim.Native.Nat.{ℕ, zero, suc, _+_}
-use mathlib.Core.Bool.{Bool}
-use mathlib.Core.List.{List, [], _∷_, _++_}
-use lib.Dec.{eqb}
+use Rattle.word.proofs.Base.{_≡_, refl, sym, ap, ap₂, subst, _∙_, ℕ, zero, suc, _+_, Bool, eqb, List, [], _∷_, _++_}
 use Rattle.word.specs.declared.types.Direction.{Direction}
 use Rattle.word.specs.declared.types.Pointer.{Pointer}
 use Rattle.word.specs.declared.types.Filled.{Filled}

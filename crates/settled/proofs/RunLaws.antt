@@ -1,9 +1,7 @@
 -- Laws of a settled blit's stores when they are run: they leave memory with each of them set in turn, and count as many words.
-use mathlib.Core.Path.{_≡_, ap, _∙_}
-use Prim.Native.Nat.{ℕ, zero, suc, _+_, _*_, _<_}
-use native.Mathlib.Omega.{arith}
-use mathlib.Core.List.{List, [], _∷_, _++_, append-assoc}
-use lib.ListN.{length, set, length-set, length-append}
+use Rattle.word.proofs.Base.{_≡_, ap, _∙_, ℕ, zero, suc, _+_, _*_, _<_, arith, List, [], _∷_, _++_, length, set}
+use Rattle.word.proofs.Base.{length-set, length-append}
+use mathlib.Core.List.{append-assoc}
 use Rattle.runner.specs.Run.{machine, runFrom}
 use Rattle.stores.specs.Stores.{Store}
 use Rattle.stores.proofs.OnMemoryLaws.{storedInto, Inside}

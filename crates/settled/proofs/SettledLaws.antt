@@ -1,11 +1,6 @@
 -- Laws of a settled blit: each condition from its parts.
-use mathlib.Core.Path.{_≡_, refl, sym, ap, _∙_}
-use Prim.Native.Nat.{ℕ, _+_, _*_, _%_}
-use mathlib.Core.Bool.{Bool, true, false, not, _&&_, _||_}
-use mathlib.Core.List.{List}
-use borrow.Author.Tests.{eq-eqb}
-use lib.Dec.{eqb, leb}
-use lib.ListN.{getD}
+use Rattle.word.proofs.Base.{_≡_, refl, sym, ap, _∙_, ℕ, _+_, _*_, _%_, Bool, true, false, _&&_, _||_, not, eqb, leb}
+use Rattle.word.proofs.Base.{eq-eqb, List, getD}
 use Rattle.word.specs.Size.{height, width}
 use Rattle.word.proofs.ChoiceLaws.{and-none}
 use Rattle.file.specs.Places.{control0, control1, firstMask, lastMask, pointerD, moduloD, sourceA, sourceB, sourceC}

@@ -1,12 +1,6 @@
 -- Laws of store steps: what the words of a store, a pointer and a flag do when they are run.
-use mathlib.Core.Path.{_≡_, refl, _∙_}
-use Prim.Native.Nat.{ℕ, zero, suc, _+_, _%_, _<_}
-use native.Mathlib.Nat.{add-zero}
-use native.Mathlib.Omega.{arith}
-use mathlib.Core.Bool.{Bool, true, false}
-use mathlib.Core.List.{List, _∷_, _++_}
-use borrow.Author.Tests.{ne-eqb, lt-leb}
-use lib.ListN.{length, set}
+use Rattle.word.proofs.Base.{_≡_, refl, _∙_, ℕ, zero, suc, _+_, _%_, _<_, add-zero, arith, Bool, true, false, ne-eqb}
+use Rattle.word.proofs.Base.{lt-leb, List, _∷_, _++_, length, set}
 use Rattle.word.specs.declared.types.Pointer.{Pointer}
 use Rattle.word.specs.Choice.{if_then_else_, given}
 use Rattle.word.specs.Pointer.{pointerEnd, pointer, high, low}

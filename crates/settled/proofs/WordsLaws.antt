@@ -1,10 +1,7 @@
 -- A settled blit's words, run, leave what the blit leaves.
-use mathlib.Core.Path.{_≡_, sym, ap, _∙_}
-use Prim.Native.Nat.{ℕ, _+_, _*_}
-use mathlib.Core.Bool.{Bool, true, false}
-use mathlib.Core.List.{List, [], _++_, append-assoc}
-use lib.ListN.{length, set}
-use native.Mathlib.Nat.{zero-add, mul-one}
+use Rattle.word.proofs.Base.{_≡_, sym, ap, _∙_, ℕ, _+_, _*_, zero-add, Bool, true, false, List, [], _++_, length, set}
+use mathlib.Core.List.{append-assoc}
+use native.Mathlib.Nat.{mul-one}
 use Rattle.word.specs.declared.types.Pointer.{Pointer}
 use Rattle.word.specs.Choice.{if_then_else_}
 use Rattle.word.specs.Pointer.{high, low}

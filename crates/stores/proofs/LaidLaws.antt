@@ -1,12 +1,8 @@
 -- Laws of a blit's stores laid into a run, word by word and row by row: of their places and of their values alike.
-use mathlib.Core.Path.{_≡_, refl, sym, ap, _∙_}
-use Prim.Native.Nat.{ℕ, zero, suc, _+_, _*_, _-_, _<_, _≤_}
-use native.Mathlib.Numerals.{sub-one}
-use native.Mathlib.Omega.{arith}
-use mathlib.Core.Bool.{Bool, true, _&&_}
-use lib.Dec.{eqb}
-use mathlib.Core.List.{List, [], _∷_, _++_, map, map-append}
-use lib.ListN.{length, set, length-map}
+use Rattle.word.proofs.Base.{_≡_, refl, sym, ap, _∙_, ℕ, zero, suc, _+_, _-_, _*_, _<_, _≤_, sub-one, arith, Bool, true}
+use Rattle.word.proofs.Base.{_&&_, eqb, List, [], _∷_, _++_, length, set}
+use mathlib.Core.List.{map, map-append}
+use lib.ListN.{length-map}
 use Rattle.word.specs.Laid.{laid}
 use Rattle.word.specs.Size.{height, width}
 use Rattle.word.proofs.LaidLaws.{laid-of-append}

@@ -1,12 +1,7 @@
 -- A blit that uses D alone is its stores: on any memory they are the same, each lies inside where the blit is lawful, and memory
 -- after the blit is memory with each of them set in turn.
-use mathlib.Core.Path.{_≡_, refl, sym, ap, _∙_}
-use Prim.Native.Nat.{ℕ, zero, suc, _<_}
-use mathlib.Core.Bool.{Bool, true, false, _||_}
-use mathlib.Core.List.{List, [], _∷_, _++_}
-use borrow.Author.Tests.{leb-false}
-use lib.Dec.{leb}
-use lib.ListN.{length, set}
+use Rattle.word.proofs.Base.{_≡_, refl, sym, ap, _∙_, ℕ, zero, suc, _<_, Bool, true, false, _||_, leb, leb-false, List}
+use Rattle.word.proofs.Base.{[], _∷_, _++_, length, set}
 use Rattle.word.specs.declared.types.Pointer.{Pointer}
 use Rattle.word.specs.Repeat.{repeated}
 use Rattle.word.specs.Pointer.{pointerEnd, moved, nextRow}

@@ -1,12 +1,6 @@
 -- Laws of the list of a blit's stores: how many there are, and that D's pointer and the flag come of it.
-use mathlib.Core.Path.{_≡_, refl, sym, ap, _∙_}
-use Prim.Native.Nat.{ℕ, zero, suc, _+_, _*_, _<_, _≤_}
-use native.Mathlib.Nat.{suc-mul}
-use native.Mathlib.Omega.{arith}
-use mathlib.Core.Bool.{Bool, true, false, _&&_}
-use mathlib.Core.List.{List, [], _∷_, _++_}
-use lib.Dec.{eqb}
-use lib.ListN.{length, length-append}
+use Rattle.word.proofs.Base.{_≡_, refl, sym, ap, _∙_, ℕ, zero, suc, _+_, _*_, _<_, _≤_, suc-mul, arith, Bool, true}
+use Rattle.word.proofs.Base.{false, _&&_, eqb, List, [], _∷_, _++_, length, length-append}
 use Rattle.word.specs.declared.types.Pointer.{Pointer}
 use Rattle.word.specs.Repeat.{repeated}
 use Rattle.word.specs.Pointer.{pointerEnd, nextRow}

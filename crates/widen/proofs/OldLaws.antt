@@ -1,11 +1,6 @@
 -- Laws of the old rule for the old file.
-use mathlib.Core.Path.{_≡_, sym, _∙_}
-use Prim.Native.Nat.{ℕ, _≤_}
-use mathlib.Core.Bool.{Bool, true, false, not, _&&_}
-use mathlib.Core.List.{List}
-use borrow.Author.Tests.{eq-eqb, ne-eqb, eqb-true, leb-true, not-false}
-use lib.Dec.{eqb, leb}
-use lib.ListN.{length, getD}
+use Rattle.word.proofs.Base.{_≡_, sym, _∙_, ℕ, _≤_, Bool, true, false, _&&_, not, eqb, leb, eq-eqb, ne-eqb, eqb-true}
+use Rattle.word.proofs.Base.{leb-true, not-false, List, length, getD}
 use Rattle.word.specs.Choice.{every}
 use Rattle.word.proofs.ChoiceLaws.{and-left, and-right}
 use Rattle.file.specs.Places.{blitterLength}

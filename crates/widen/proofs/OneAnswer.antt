@@ -1,7 +1,5 @@
 -- Two answers that meet the promise are equal: the three numbers differ.
-use mathlib.Core.Path.{_≡_, refl, sym, ap, _∙_}
-use Prim.Native.Nat.{ℕ}
-use lib.Dec.{eqb}
+use Rattle.word.proofs.Base.{_≡_, refl, sym, ap, _∙_, ℕ, eqb}
 use Rattle.word.specs.Choice.{if_then_else_}
 use Rattle.widen.specs.declared.types.Answer.{Answer}
 use Rattle.widen.specs.declared.types.Answer.the-variants.{Done, OldFile, TargetLength}

@@ -1,14 +1,9 @@
 -- Laws of a widening: the new file's word at each place, its words laid into the target, and its number.
-use mathlib.Core.Path.{_≡_, sym, ap, _∙_}
-use Prim.Native.Nat.{ℕ, suc, _+_, _-_, _<_, _≤_}
-use native.Mathlib.Decide.{decLt}
-use native.Mathlib.Omega.{arith}
-use mathlib.Core.Bool.{Bool, true, false, not}
-use mathlib.Core.List.{List, [], _∷_, _++_}
-use borrow.Author.Tests.{eq-eqb, ne-eqb}
-use lib.Dec.{eqb, eqb→eq}
-use lib.ListN.{length, getD, take, drop, set, replicate, length-append, length-take, drop-of-length-le, List·getD-append, List·getD-eq-default}
-use lib.Seq.{getD-take, getD-append-add, drop-cons}
+use Rattle.word.proofs.Base.{_≡_, sym, ap, _∙_, ℕ, suc, _+_, _-_, _<_, _≤_, decLt, arith, Bool, true, false, not, eqb}
+use Rattle.word.proofs.Base.{eqb→eq, eq-eqb, ne-eqb, List, [], _∷_, _++_, length, getD, set, take, drop, length-append}
+use Rattle.word.proofs.Base.{List·getD-eq-default, drop-of-length-le, drop-cons}
+use lib.ListN.{replicate, length-take, List·getD-append}
+use lib.Seq.{getD-take, getD-append-add}
 use Rattle.word.specs.Choice.{given}
 use Rattle.word.specs.Laid.{laid}
 use Rattle.word.proofs.ChoiceLaws.{every-at}

@@ -1,14 +1,6 @@
 -- A widened file is accepted: its first 19 words are the old file's, 0 has no bit that isn't kept, and the flag is 0 or 1.
-use mathlib.Core.Path.{_≡_, refl}
-use Prim.Native.Nat.{ℕ, _<_}
-use native.Mathlib.Decide.{decLt}
-use native.Mathlib.Omega.{arith}
-use mathlib.Core.Bool.{true}
-use mathlib.Core.List.{List}
-use borrow.Author.Tests.{eq-eqb}
-use lib.Dec.{eqb→eq}
+use Rattle.word.proofs.Base.{_≡_, refl, ℕ, _<_, decLt, arith, true, eqb→eq, eq-eqb, List, length, getD}
 use lib.Bits.{and-zero-l}
-use lib.ListN.{length, getD}
 use Rattle.word.proofs.ChoiceLaws.{every-at, every-of-each}
 use Rattle.file.specs.Places.{fileLength, blitterLength, flag}
 use Rattle.file.specs.File.{registers, keptBits, kept, keptAt, accepted}

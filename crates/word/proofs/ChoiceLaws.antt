@@ -1,13 +1,8 @@
 -- Laws of choices, and of tests at every number below one.
-use mathlib.Core.Path.{_≡_, refl, ap, _∙_}
-use Prim.Native.Nat.{ℕ, zero, suc, _+_, _<_, _≤_}
-use native.Mathlib.Nat.{not-suc-le-zero, add-zero, add-suc}
-use native.Mathlib.Numerals.{add-one}
-use native.Mathlib.Decide.{decLt}
-use native.Mathlib.Omega.{arith}
-use mathlib.Core.Bool.{Bool, true, false, not, _&&_, _||_}
-use borrow.Author.Tests.{lt-ltb, le-ltb, le-leb, lt-leb}
-use lib.Dec.{T, leb, ltb}
+use Rattle.word.proofs.Base.{_≡_, refl, ap, _∙_, ℕ, zero, suc, _+_, _<_, _≤_, add-zero, add-suc, add-one, decLt}
+use Rattle.word.proofs.Base.{arith, Bool, true, false, _&&_, _||_, not, T, leb, ltb, le-leb, lt-leb, lt-ltb}
+use Rattle.word.proofs.Base.{le-ltb}
+use native.Mathlib.Nat.{not-suc-le-zero}
 use Rattle.word.specs.Choice.{if_then_else_, every}
 
 -- what a choice gives, by its test

@@ -1,11 +1,7 @@
 -- Laws of rows that lie inside memory: where none goes round, the first and the last tell for those between.
-use mathlib.Core.Path.{_≡_, sym, subst}
-use mathlib.Core.Bool.{Bool, true, false, _&&_}
-use Prim.Native.Nat.{ℕ, suc, _+_, _-_, _*_, _<_, _≤_}
-use native.Mathlib.Nat.{mul-le-mul-right, lt-of-lt-of-le}
-use native.Mathlib.Omega.{arith}
-use borrow.Author.Tests.{leb-true, eqb-true}
-use lib.Dec.{T, leb, eqb}
+use Rattle.word.proofs.Base.{_≡_, sym, subst, ℕ, suc, _+_, _-_, _*_, _<_, _≤_, mul-le-mul-right, arith, Bool}
+use Rattle.word.proofs.Base.{true, false, _&&_, T, eqb, leb, eqb-true, leb-true}
+use native.Mathlib.Nat.{lt-of-lt-of-le}
 use Rattle.word.specs.declared.types.Direction.{Direction}
 use Rattle.word.specs.declared.types.Direction.the-variants.{Ascending, Descending}
 use Rattle.word.specs.declared.types.Pointer.{Pointer}

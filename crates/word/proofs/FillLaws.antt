@@ -1,12 +1,10 @@
 -- Laws of the fill. Each bit of an exclusive fill is the XOR of the carry and all the bits up to it, which four doublings make:
 -- `x ^= x << 1`, then by 2, by 4 and by 8.
-use mathlib.Core.Path.{_≡_, refl, sym, ap, ap₂, _∙_}
-use Prim.Native.Nat.{ℕ, zero, suc, _+_, _*_, _/_, _%_, _^_, _<_}
-use native.Mathlib.Nat.{zero-add, suc-add, mul-one, mul-assoc, pow-suc, mod-lt, not-suc-le-zero, le-of-suc-le-suc, zero-lt-suc}
-use native.Mathlib.Numerals.{one-add}
-use native.Mathlib.Omega.{arith}
+use Rattle.word.proofs.Base.{_≡_, refl, sym, ap, ap₂, _∙_, ℕ, zero, suc, _+_, _*_, _/_, _%_, _^_, _<_, zero-add}
+use Rattle.word.proofs.Base.{mod-lt, one-add, arith, bitOr, bitXor}
+use native.Mathlib.Nat.{suc-add, mul-one, mul-assoc, pow-suc, not-suc-le-zero, le-of-suc-le-suc, zero-lt-suc}
 use lib.Dec.{lit<}
-use lib.Bits.{bitOr, bitXor, xor-comm, xor-zero-r, xor-lt, or-lt}
+use lib.Bits.{xor-comm, xor-zero-r, xor-lt, or-lt}
 use Rattle.word.specs.declared.types.Fill.{Fill}
 use Rattle.word.specs.declared.types.Fill.the-variants.{Off, Inclusive, Exclusive}
 use Rattle.word.specs.declared.types.Filled.{Filled}

@@ -1,10 +1,8 @@
 -- Laws of words laid into a run: one after the other, and what the run then holds.
-use mathlib.Core.Path.{_≡_, refl, ap, _∙_}
-use Prim.Native.Nat.{ℕ, suc, _+_, _≤_}
-use native.Mathlib.Nat.{add-zero, le-of-suc-le-suc}
-use native.Mathlib.Omega.{arith}
-use mathlib.Core.List.{List, [], _∷_, _++_, append-nil}
-use lib.ListN.{length, set, drop, length-set}
+use Rattle.word.proofs.Base.{_≡_, refl, ap, _∙_, ℕ, suc, _+_, _≤_, add-zero, arith, List, [], _∷_, _++_, length}
+use Rattle.word.proofs.Base.{set, drop, length-set}
+use native.Mathlib.Nat.{le-of-suc-le-suc}
+use mathlib.Core.List.{append-nil}
 use lib.Seq.{drop-length}
 use Rattle.word.specs.Laid.{laid}
 

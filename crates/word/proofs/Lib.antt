@@ -1,4 +1,5 @@
 -- The laws of the definitions in specs/, a file for each.
+pub mod Base
 pub mod ChoiceLaws
 pub mod RepeatLaws
 pub mod WordLaws

@@ -1,9 +1,8 @@
 -- Laws of the logic function: picking one of two words bit by bit, `y ^ (s & (y ^ x))`, and the tree of seven picks that computes it.
-use mathlib.Core.Path.{_≡_, refl, sym, ap, ap₂, _∙_}
-use Prim.Native.Nat.{ℕ, zero, suc, _+_, _*_, _/_, _%_, _^_, _<_}
+use Rattle.word.proofs.Base.{_≡_, refl, sym, ap, ap₂, _∙_, ℕ, zero, suc, _+_, _*_, _/_, _%_, _^_, _<_, arith}
+use Rattle.word.proofs.Base.{bitAnd, bitXor}
 use native.Mathlib.Nat.{div-one}
-use native.Mathlib.Omega.{arith}
-use lib.Bits.{bitAnd, bitXor, and-lt, xor-lt, xor-zero-r}
+use lib.Bits.{and-lt, xor-lt, xor-zero-r}
 use Rattle.word.specs.Word.{bit}
 use Rattle.word.specs.Logic.{logic}
 use Rattle.word.proofs.WordLaws.{bit-lt, bit-of-and, bit-of-xor, bit-of-spread, bit-of-ofBits, bits-are-enough, ofBits-lt, ofBits-is-unique, bit-cases}

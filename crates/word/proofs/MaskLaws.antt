@@ -1,9 +1,6 @@
 -- Laws of the masks of A.
-use mathlib.Core.Path.{_≡_, refl, ap, _∙_}
-use Prim.Native.Nat.{ℕ, _<_}
-use native.Mathlib.Nat.{mod-eq-of-lt}
-use mathlib.Core.Bool.{Bool, true, false}
-use lib.Bits.{bitAnd, and-mask}
+use Rattle.word.proofs.Base.{_≡_, refl, ap, _∙_, ℕ, _<_, mod-eq-of-lt, Bool, true, false, bitAnd}
+use lib.Bits.{and-mask}
 use Rattle.word.specs.Mask.{maskedWhen, masked}
 
 pub maskedWhen-when-applies : (applies : Bool) (mask word : ℕ) → applies ≡ true → bitAnd word mask ≡ maskedWhen applies mask word

@@ -1,8 +1,5 @@
 -- Laws of memory's size.
-use mathlib.Core.Path.{_≡_, sym, ap, _∙_}
-use Prim.Native.Nat.{ℕ, _≤_}
-use mathlib.Core.Bool.{Bool, false, not, _||_}
-use lib.Dec.{eqb, leb, ltb}
+use Rattle.word.proofs.Base.{_≡_, sym, ap, _∙_, ℕ, _≤_, Bool, false, _||_, not, eqb, leb, ltb}
 use Rattle.word.specs.Pointer.{pointerEnd}
 use Rattle.word.specs.Memory.{memorySize}
 use Rattle.word.proofs.ChoiceLaws.{or-right, beyond-is-not-within, within-when-passed}

@@ -1,8 +1,5 @@
 -- Laws of a step done n times: a turn of a loop that counts down, its end, and what every step keeps.
-use mathlib.Core.Path.{_≡_, refl, _∙_}
-use Prim.Native.Nat.{ℕ, zero, suc, _-_, _<_, _≤_}
-use native.Mathlib.Numerals.{sub-one}
-use native.Mathlib.Omega.{arith}
+use Rattle.word.proofs.Base.{_≡_, refl, _∙_, ℕ, zero, suc, _-_, _<_, _≤_, sub-one, arith}
 use Rattle.word.specs.Repeat.{repeated}
 
 pub repeated-turn : {State : Type 0} (step : ℕ → State → State) (n : ℕ) (now next whole : State)

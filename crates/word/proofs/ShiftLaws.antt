@@ -1,7 +1,5 @@
 -- Laws of the shift. The shift of nought is the one people look for first.
-use mathlib.Core.Path.{_≡_}
-use Prim.Native.Nat.{ℕ}
-use native.Mathlib.Omega.{arith}
+use Rattle.word.proofs.Base.{_≡_, ℕ, arith}
 use Rattle.word.specs.declared.types.Direction.{Direction}
 use Rattle.word.specs.declared.types.Direction.the-variants.{Ascending, Descending}
 use Rattle.word.specs.Shift.{shifted}

@@ -1,12 +1,7 @@
 -- Laws of a blit's size.
-use mathlib.Core.Path.{_≡_}
-use Prim.Native.Nat.{ℕ, zero, suc, _*_, _/_, _%_, _<_, _≤_}
-use native.Mathlib.Nat.{mul-le-mul}
-use native.Mathlib.Omega.{arith}
+use Rattle.word.proofs.Base.{_≡_, ℕ, zero, suc, _*_, _/_, _%_, _<_, _≤_, mul-le-mul, arith, eqb, eq-eqb, ne-eqb}
 use mir.Val.{Fits}
 use mir.Syntax.{w32}
-use borrow.Author.Tests.{eq-eqb, ne-eqb}
-use lib.Dec.{eqb}
 use Rattle.word.specs.Choice.{if_then_else_}
 use Rattle.word.specs.Size.{height, width}
 use Rattle.word.specs.EverySizeHasAWord.{EverySizeHasAWord}

@@ -1,8 +1,7 @@
 -- Laws of the stride from row to row: every row starts as far from the one before it.
-use mathlib.Core.Path.{_≡_, refl, sym, ap, _∙_}
-use Prim.Native.Nat.{ℕ, zero, suc, _+_, _-_, _*_, _%_, _<_, _≤_}
-use native.Mathlib.Nat.{mul-le-mul-right, mul-le-mul-left, le-trans}
-use native.Mathlib.Omega.{arith}
+use Rattle.word.proofs.Base.{_≡_, refl, sym, ap, _∙_, ℕ, zero, suc, _+_, _-_, _*_, _%_, _<_, _≤_}
+use Rattle.word.proofs.Base.{mul-le-mul-right, arith}
+use native.Mathlib.Nat.{mul-le-mul-left, le-trans}
 use mir.Syntax.{w32}
 use mir.Val.{Fits}
 use Rattle.word.specs.declared.types.Direction.{Direction}

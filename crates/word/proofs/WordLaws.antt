@@ -1,19 +1,13 @@
 -- Laws of words and their bits.
-use mathlib.Core.Path.{_≡_, refl, sym, ap, ap₂, _∙_}
-use Prim.Native.Nat.{ℕ, zero, suc, _+_, _-_, _*_, _/_, _%_, _^_, _<_}
-use native.Mathlib.Nat.{mod-lt, mod-one, mod-eq-of-lt, add-zero, zero-lt-suc}
-use native.Mathlib.Numerals.{one-add}
-use native.Mathlib.Decide.{decLt}
-use native.Mathlib.Omega.{arith}
-use mathlib.Core.Bool.{Bool, true, false}
-use mathlib.Core.List.{List, _∷_}
-use borrow.Author.Tests.{eqb-true, eqb-false}
-use lib.Dec.{eqb, lit<, eqb→eq}
-use lib.ListN.{length, getD, set}
-use lib.Seq.{getD-set-other, getD-set-same, set-out}
+use Rattle.word.proofs.Base.{_≡_, refl, sym, ap, ap₂, _∙_, ℕ, zero, suc, _+_, _-_, _*_, _/_, _%_, _^_, _<_}
+use Rattle.word.proofs.Base.{add-zero, mod-lt, mod-eq-of-lt, one-add, decLt, arith, Bool, true, false, eqb}
+use Rattle.word.proofs.Base.{eqb→eq, eqb-true, eqb-false, List, _∷_, length, getD, set, getD-set-same}
+use Rattle.word.proofs.Base.{getD-set-other, set-out, bitAnd, bitOr, bitXor}
+use native.Mathlib.Nat.{mod-one, zero-lt-suc}
+use lib.Dec.{lit<}
 use lib.Pow.{mod-pow-add, pow-pos, field, mod-mod-pow, high, low, shr-shr, shl-shr}
 use lib.Arith.{digits-lt}
-use lib.Bits.{bitAnd, bitOr, bitXor, and-shr, or-shr, xor-shr, and-mod, or-mod, xor-mod}
+use lib.Bits.{and-shr, or-shr, xor-shr, and-mod, or-mod, xor-mod}
 use Rattle.word.specs.Choice.{every}
 use Rattle.word.specs.Word.{SixteenBits, bit, ofBits}
 use Rattle.word.proofs.ChoiceLaws.{every-at}

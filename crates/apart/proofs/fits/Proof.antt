@@ -1,6 +1,6 @@
 -- `apart::fits` meets its contract.
 use Rattle.apart.proofs.ApartLaws.{fits-unused}
-use borrow.Author.Needs.{needs}
+use Rattle.word.proofs.Base.{needs}
 use Rattle.apart.proofs.fits.Statement.{statement}
 use Rattle.apart.proofs.fits.Tie as tie
 

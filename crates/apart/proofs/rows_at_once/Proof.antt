@@ -1,7 +1,6 @@
 -- `apart::rows_at_once` meets its contract: each source leaves as many rows as the one before it, or fewer.
-use native.Mathlib.Omega.{arith}
+use Rattle.word.proofs.Base.{arith, needs}
 use Rattle.apart.proofs.ApartLaws.{moves-lt, rows-room, all-apart, not-false}
-use borrow.Author.Needs.{needs}
 use Rattle.apart.proofs.rows_at_once.Statement.{statement}
 use Rattle.apart.proofs.rows_at_once.Tie as tie
 
@@ -38,17 +37,6 @@ returns-2 c =
 
 pub rows-at-once-spec : {M : Type 1} → statement M
 rows-at-once-spec =
-    tie.close
-    (tie.spec
-    (λ c. search needs)
-    span-requires
-    (λ c κs. search needs)
-    returns
-    (λ c. search needs)
-    div-source-rows
-    source-rows-requires
-    (λ c. search needs)
-    source-rows-requires-2
-    (λ c. search needs)
-    source-rows-requires-3
-    returns-2)
+    tie.close (tie.spec (λ c. search needs) span-requires (λ c κs. search needs) returns (λ c. search needs)
+    div-source-rows source-rows-requires (λ c. search needs) source-rows-requires-2 (λ c. search needs)
+    source-rows-requires-3 returns-2)

@@ -1,5 +1,5 @@
 -- `apart::strides` meets its contract, channel by channel.
-use borrow.Author.Needs.{needs}
+use Rattle.word.proofs.Base.{needs}
 use Rattle.apart.proofs.strides.Statement.{statement}
 use Rattle.apart.proofs.strides.Tie as tie
 
@@ -8,14 +8,5 @@ returns c = record { a = c .before .before .before .stride .ensures .0; b = c .b
 
 pub strides-spec : {M : Type 1} → statement M
 strides-spec =
-    tie.close
-    (tie.spec
-    (λ c κs. search needs)
-    (λ c κs. search needs)
-    (λ c κs. search needs)
-    (λ c κs. search needs)
-    (λ c. search needs)
-    (λ c. search needs)
-    (λ c. search needs)
-    (λ c. search needs)
-    returns)
+    tie.close (tie.spec (λ c κs. search needs) (λ c κs. search needs) (λ c κs. search needs) (λ c κs. search needs)
+    (λ c. search needs) (λ c. search needs) (λ c. search needs) (λ c. search needs) returns)

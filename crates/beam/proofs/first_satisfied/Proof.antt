@@ -1,11 +1,9 @@
 -- `beam::first_satisfied` meets its contract: from here on the first place is the one from the start on.
-use mathlib.Core.Path.{_≡_}
-use Prim.Native.Nat.{_-_}
+use Rattle.word.proofs.Base.{_≡_, _-_, needs}
 use Rattle.beam.specs.Beam.{frameEnd}
 use Rattle.beam.specs.Wait.{firstSatisfied}
 use Rattle.beam.proofs.SatisfiedLaws.{satisfied-told}
 use Rattle.beam.proofs.WaitLaws.{firstSatisfied-at, firstSatisfied-past, firstSatisfied-turn}
-use borrow.Author.Needs.{needs}
 use Rattle.beam.proofs.first_satisfied.Statement.{statement}
 use Rattle.beam.proofs.first_satisfied.Tie as tie
 
@@ -15,17 +13,11 @@ Inv-loop first second from place₀ place = firstSatisfied first second (frameEn
 abbrev μ-loop : tie.MeasureT-loop
 μ-loop first second from place₀ place = frameEnd - place
 
-loop-holds : tie.Need-loop-holds Inv-loop μ-loop
-loop-holds c = search needs
-
 returns : tie.Need-returns Inv-loop μ-loop
 returns c = search firstSatisfied-at
 
 next-tried-requires : tie.Need-next-tried-requires Inv-loop μ-loop
 next-tried-requires c κs = (search needs, search satisfied-told)
-
-loop-less : tie.Need-loop-less Inv-loop μ-loop
-loop-less c = search needs
 
 loop-again : tie.Need-loop-again Inv-loop μ-loop
 loop-again c = search firstSatisfied-turn
@@ -35,14 +27,5 @@ returns-2 c = search firstSatisfied-past
 
 pub first-satisfied-spec : {M : Type 1} → statement M
 first-satisfied-spec =
-    tie.close
-    (tie.spec
-    Inv-loop
-    μ-loop
-    loop-holds
-    (λ c κs. search needs)
-    returns
-    next-tried-requires
-    loop-less
-    loop-again
-    returns-2)
+    tie.close (tie.spec Inv-loop μ-loop (λ c. search needs) (λ c κs. search needs) returns next-tried-requires
+    (λ c. search needs) loop-again returns-2)

@@ -1,6 +1,6 @@
 -- `beam::line_below` meets its contract: it compares the high bytes.
 use Rattle.beam.proofs.SatisfiedLaws.{lineBelow-of-mask}
-use borrow.Author.Needs.{needs}
+use Rattle.word.proofs.Base.{needs}
 use Rattle.beam.proofs.line_below.Statement.{statement}
 use Rattle.beam.proofs.line_below.Tie as tie
 

@@ -1,12 +1,9 @@
 -- `beam::next_tried` meets its contract: no place is passed where the comparison is satisfied.
-use mathlib.Core.Path.{_≡_}
-use Prim.Native.Nat.{_+_, _-_, _*_, _/_, _%_, _<_, _≤_}
-use lib.Bits.{bitAnd}
+use Rattle.word.proofs.Base.{_≡_, _+_, _-_, _*_, _/_, _%_, _<_, _≤_, needs, bitAnd}
 use Rattle.beam.specs.Beam.{frameEnd}
 use Rattle.beam.specs.Satisfied.{mask}
 use Rattle.beam.specs.Wait.{firstSatisfied}
 use Rattle.beam.proofs.WaitLaws.{firstSatisfied-past-line, firstSatisfied-past-place, firstSatisfied-on-line}
-use borrow.Author.Needs.{needs}
 use Rattle.beam.proofs.next_tried.Statement.{statement}
 use Rattle.beam.proofs.next_tried.Tie as tie
 
@@ -31,9 +28,6 @@ loop-holds c = (search firstSatisfied-past-place, search needs, search needs, se
 returns-2 : tie.Need-returns-2 Inv-loop μ-loop
 returns-2 c = (search needs, search needs, search needs)
 
-loop-less : tie.Need-loop-less Inv-loop μ-loop
-loop-less c = search needs
-
 loop-again : tie.Need-loop-again Inv-loop μ-loop
 loop-again c = (search firstSatisfied-on-line, search needs, search needs, search needs, search needs, search needs)
 
@@ -42,21 +36,6 @@ returns-3 c = (search needs, search needs, search needs)
 
 pub next-tried-spec : {M : Type 1} → statement M
 next-tried-spec =
-    tie.close
-    (tie.spec
-    Inv-loop
-    μ-loop
-    (λ c κs. search needs)
-    (λ c. search needs)
-    (λ c. search needs)
-    returns
-    (λ c κs. search needs)
-    (λ c. search needs)
-    (λ c. search needs)
-    loop-holds
-    returns-2
-    (λ c. search needs)
-    (λ c. search needs)
-    loop-less
-    loop-again
-    returns-3)
+    tie.close (tie.spec Inv-loop μ-loop (λ c κs. search needs) (λ c. search needs) (λ c. search needs) returns
+    (λ c κs. search needs) (λ c. search needs) (λ c. search needs) loop-holds returns-2 (λ c. search needs)
+    (λ c. search needs) (λ c. search needs) loop-again returns-3)

@@ -1,6 +1,6 @@
 -- `beam::satisfied` meets its contract: both sides are ANDed with the mask.
 use Rattle.beam.proofs.SatisfiedLaws.{satisfied-of-parts}
-use borrow.Author.Needs.{needs}
+use Rattle.word.proofs.Base.{needs}
 use Rattle.beam.proofs.satisfied.Statement.{statement}
 use Rattle.beam.proofs.satisfied.Tie as tie
 

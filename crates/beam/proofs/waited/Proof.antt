@@ -1,6 +1,6 @@
 -- `beam::waited` meets its contract: the places from six positions on are tried.
 use Rattle.beam.proofs.WaitLaws.{waited-of-first}
-use borrow.Author.Needs.{needs}
+use Rattle.word.proofs.Base.{needs}
 use Rattle.beam.proofs.waited.Statement.{statement}
 use Rattle.beam.proofs.waited.Tie as tie
 

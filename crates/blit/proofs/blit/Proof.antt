@@ -1,6 +1,6 @@
 -- `blit::blit` meets its contract: it is answered as its refusal says.
 use Rattle.blit.proofs.BlitLaws.{blit-of-answer}
-use borrow.Author.Needs.{needs}
+use Rattle.word.proofs.Base.{needs}
 use Rattle.blit.proofs.blit.Statement.{statement}
 use Rattle.blit.proofs.blit.Tie as tie
 

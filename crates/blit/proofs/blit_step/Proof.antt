@@ -1,6 +1,6 @@
 -- `blit::blit_step` meets its contract: it is answered as its refusal says.
 use Rattle.blit.proofs.BlitLaws.{blitStep-of-answer}
-use borrow.Author.Needs.{needs}
+use Rattle.word.proofs.Base.{needs}
 use Rattle.blit.proofs.blit_step.Statement.{statement}
 use Rattle.blit.proofs.blit_step.Tie as tie
 

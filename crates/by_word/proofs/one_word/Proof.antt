@@ -1,6 +1,6 @@
 -- `by_word::one_word` meets its contract: its five calls are the definition's parts; the sources' pointers move as they are fetched.
 use Rattle.area.proofs.RowsLaws.{finished-room, oneWord-of-parts}
-use borrow.Author.Needs.{needs}
+use Rattle.word.proofs.Base.{needs}
 use Rattle.by_word.proofs.one_word.Statement.{statement}
 use Rattle.by_word.proofs.one_word.Tie as tie
 

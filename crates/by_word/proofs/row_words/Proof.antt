@@ -1,6 +1,6 @@
 -- `by_word::row_words` meets its contract: the row's start, then its words.
 use Rattle.area.proofs.RowsLaws.{rowStart-room, rowStart-words}
-use borrow.Author.Needs.{needs}
+use Rattle.word.proofs.Base.{needs}
 use Rattle.by_word.proofs.row_words.Statement.{statement}
 use Rattle.by_word.proofs.row_words.Tie as tie
 

@@ -1,6 +1,6 @@
 -- `by_word::some_rows` meets its contract: one row is done, by its words and its end.
 use Rattle.area.proofs.RowsLaws.{rows-turn, rows-room}
-use borrow.Author.Needs.{needs}
+use Rattle.word.proofs.Base.{needs}
 use Rattle.by_word.proofs.some_rows.Statement.{statement}
 use Rattle.by_word.proofs.some_rows.Tie as tie
 

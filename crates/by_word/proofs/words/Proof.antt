@@ -1,12 +1,9 @@
 -- `by_word::words` meets its contract: what is left from here gives what the whole gives.
-use Prim.Native.Nat.{_+_, _<_, _≤_}
-use mathlib.Core.Path.{_≡_}
-use lib.ListN.{length}
+use Rattle.word.proofs.Base.{_≡_, _+_, _<_, _≤_, needs, length}
 use Rattle.word.proofs.RepeatLaws.{repeated-turn, repeated-done}
 use Rattle.area.specs.Flow.{state}
 use Rattle.area.specs.Rows.{words}
 use Rattle.area.proofs.RowsLaws.{words-room}
-use borrow.Author.Needs.{needs}
 use Rattle.by_word.proofs.words.Statement.{statement}
 use Rattle.by_word.proofs.words.Tie as tie
 
@@ -17,12 +14,6 @@ Inv-loop ram₀ setup width here₀ remaining₀ ram here remaining = (words set
 abbrev μ-loop : tie.MeasureT-loop
 μ-loop ram₀ setup width here₀ remaining₀ ram here remaining = remaining
 
-loop-holds : tie.Need-loop-holds Inv-loop μ-loop
-loop-holds c = search needs
-
-loop-less : tie.Need-loop-less Inv-loop μ-loop
-loop-less c = search needs
-
 loop-again : tie.Need-loop-again Inv-loop μ-loop
 loop-again c = (search repeated-turn, search words-room, search needs, search needs)
 
@@ -31,15 +22,5 @@ returns c = search repeated-done
 
 pub words-spec : {M : Type 1} → statement M
 words-spec =
-    tie.close
-    (tie.spec
-    Inv-loop
-    μ-loop
-    loop-holds
-    (λ c. search needs)
-    (λ c κs. search needs)
-    (λ c. search needs)
-    loop-less
-    loop-again
-    (λ c. search needs)
-    returns)
+    tie.close (tie.spec Inv-loop μ-loop (λ c. search needs) (λ c. search needs) (λ c κs. search needs)
+    (λ c. search needs) (λ c. search needs) loop-again (λ c. search needs) returns)

@@ -14,11 +14,6 @@ prefix-length text many inside = sym (length-take-le many text inside)
 slice-aggregate-write-all : tie.Need-slice-aggregate-write-all
 slice-aggregate-write-all c = search prefix-length
 
-returns : tie.Need-returns
-returns c = search needs
-
-returns-2 : tie.Need-returns-2
-returns-2 c = search needs
-
 pub print-spec : {M : Type 1} → statement M
-print-spec = tie.close (tie.spec slice-aggregate-write-all (λ c κs. search needs) returns returns-2)
+print-spec =
+    tie.close (tie.spec slice-aggregate-write-all (λ c κs. search needs) (λ c. search needs) (λ c. search needs))

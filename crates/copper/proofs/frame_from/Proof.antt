@@ -1,7 +1,7 @@
 -- `copper::frame_from` meets its contract: 1, then 2, then the instructions.
 use Rattle.word.proofs.MemoryLaws.{memorySize-when-taken}
 use Rattle.copper.proofs.FrameLaws.{frameFrom-by-memory, frameFrom-by-file, frameFrom-onward}
-use borrow.Author.Needs.{needs}
+use Rattle.word.proofs.Base.{needs}
 use Rattle.copper.proofs.frame_from.Statement.{statement}
 use Rattle.copper.proofs.frame_from.Tie as tie
 
@@ -19,17 +19,6 @@ returns-3 c = search frameFrom-onward
 
 pub frame-from-spec : {M : Type 1} → statement M
 frame-from-spec =
-    tie.close
-    (tie.spec
-    (λ c κs. search needs)
-    (λ c κs. search needs)
-    (λ c κs. search needs)
-    (λ c. search needs)
-    returns
-    (λ c κs. search needs)
-    (λ c. search needs)
-    returns-2
-    onward-requires
-    (λ c. search needs)
-    (λ c. search needs)
+    tie.close (tie.spec (λ c κs. search needs) (λ c κs. search needs) (λ c κs. search needs) (λ c. search needs) returns
+    (λ c κs. search needs) (λ c. search needs) returns-2 onward-requires (λ c. search needs) (λ c. search needs)
     returns-3)

@@ -1,11 +1,6 @@
 -- The examples are computed, but for the two WAITs of the sample list, whose ends are laws.
-use mathlib.Core.Path.{_≡_, refl, ap, _∙_}
-use mathlib.Core.List.{List, [], _∷_, _++_, map}
-use Prim.Native.Nat.{ℕ}
-use native.Mathlib.Omega.{arith}
-use mathlib.Core.Bool.{Bool, true, false, _&&_}
-use borrow.Author.Tests.{eqb-true}
-use lib.Dec.{eqb}
+use Rattle.word.proofs.Base.{_≡_, refl, ap, _∙_, ℕ, arith, Bool, true, false, _&&_, eqb, eqb-true, List, [], _∷_, _++_}
+use mathlib.Core.List.{map}
 use Rattle.word.specs.Example.{Example}
 use Rattle.word.specs.Choice.{given}
 use Rattle.word.proofs.ChoiceLaws.{and-left, and-right}

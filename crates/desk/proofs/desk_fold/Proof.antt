@@ -1,6 +1,6 @@
 -- `desk::desk_fold` meets its contract: it tells what the folding answers; its place and length are small.
 use Rattle.desk.proofs.PlaceLaws.{folding-place-lt, folding-long-lt, folding-of-answer}
-use borrow.Author.Needs.{needs}
+use Rattle.word.proofs.Base.{needs}
 use Rattle.desk.proofs.desk_fold.Statement.{statement}
 use Rattle.desk.proofs.desk_fold.Tie as tie
 
@@ -15,13 +15,5 @@ returns c = search folding-of-answer
 
 pub desk-fold-spec : {M : Type 1} → statement M
 desk-fold-spec =
-    tie.close
-    (tie.spec
-    (λ c κs. search needs)
-    (λ c κs. search needs)
-    (λ c κs. search needs)
-    cast-place
-    (λ c κs. search needs)
-    cast-long
-    (λ c. search needs)
-    returns)
+    tie.close (tie.spec (λ c κs. search needs) (λ c κs. search needs) (λ c κs. search needs) cast-place
+    (λ c κs. search needs) cast-long (λ c. search needs) returns)

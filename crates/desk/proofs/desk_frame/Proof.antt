@@ -1,6 +1,6 @@
 -- `desk::desk_frame` meets its contract: it tells what the frame answers.
 use Rattle.desk.proofs.PlaceLaws.{frame-of-answer}
-use borrow.Author.Needs.{needs}
+use Rattle.word.proofs.Base.{needs}
 use Rattle.desk.proofs.desk_frame.Statement.{statement}
 use Rattle.desk.proofs.desk_frame.Tie as tie
 
@@ -9,5 +9,5 @@ returns c = search frame-of-answer
 
 pub desk-frame-spec : {M : Type 1} → statement M
 desk-frame-spec =
-    tie.close
-    (tie.spec (λ c κs. search needs) (λ c κs. search needs) (λ c κs. search needs) (λ c. search needs) (λ c. search needs) returns)
+    tie.close (tie.spec (λ c κs. search needs) (λ c κs. search needs) (λ c κs. search needs) (λ c. search needs)
+    (λ c. search needs) returns)

@@ -1,6 +1,6 @@
 -- `desk::desk_widen` meets its contract: it tells what the widening answers.
 use Rattle.desk.proofs.PlaceLaws.{widening-of-answer}
-use borrow.Author.Needs.{needs}
+use Rattle.word.proofs.Base.{needs}
 use Rattle.desk.proofs.desk_widen.Statement.{statement}
 use Rattle.desk.proofs.desk_widen.Tie as tie
 

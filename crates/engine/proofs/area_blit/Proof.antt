@@ -1,8 +1,7 @@
 -- `engine::area_blit` meets its contract: by blocks or word by word, as the test says.
-use native.Mathlib.Omega.{arith}
+use Rattle.word.proofs.Base.{arith, needs}
 use Rattle.area.specs.Rows.{rows}
 use Rattle.engine.proofs.EngineLaws.{words-le, one-row}
-use borrow.Author.Needs.{needs}
 use Rattle.engine.proofs.area_blit.Statement.{statement}
 use Rattle.engine.proofs.area_blit.Tie as tie
 
@@ -37,19 +36,6 @@ blocks-requires c κs =
 
 pub area-blit-spec : {M : Type 1} → statement M
 area-blit-spec =
-    tie.close
-    (tie.spec
-    mul-worth-a-block
-    (λ c κs. search needs)
-    (λ c κs. search needs)
-    rows-at-once-requires
-    mul-if2
-    blocks-requires
-    (λ c. search needs)
-    (λ c. search needs)
-    (λ c κs. search needs)
-    (λ c. search needs)
-    (λ c. search needs)
-    (λ c κs. search needs)
-    (λ c. search needs)
-    (λ c. search needs))
+    tie.close (tie.spec mul-worth-a-block (λ c κs. search needs) (λ c κs. search needs) rows-at-once-requires mul-if2
+    blocks-requires (λ c. search needs) (λ c. search needs) (λ c κs. search needs) (λ c. search needs)
+    (λ c. search needs) (λ c κs. search needs) (λ c. search needs) (λ c. search needs))

@@ -1,12 +1,9 @@
 -- `engine::rows` meets its contract: what is left from here gives what the whole gives.
-use Prim.Native.Nat.{_+_, _*_, _<_}
-use lib.ListN.{length}
-use mathlib.Core.Path.{_≡_}
+use Rattle.word.proofs.Base.{_≡_, _+_, _*_, _<_, needs, length}
 use Rattle.area.specs.Flow.{state}
 use Rattle.area.specs.Rows.{rows}
 use Rattle.word.proofs.RepeatLaws.{repeated-done}
 use Rattle.engine.proofs.EngineLaws.{goes-on}
-use borrow.Author.Needs.{needs}
 use Rattle.engine.proofs.rows.Statement.{statement}
 use Rattle.engine.proofs.rows.Tie as tie
 
@@ -25,13 +22,5 @@ returns c = search repeated-done
 
 pub rows-spec : {M : Type 1} → statement M
 rows-spec =
-    tie.close
-    (tie.spec
-    Inv-loop
-    μ-loop
-    (λ c. search needs)
-    (λ c κs. search needs)
-    (λ c. search needs)
-    loop-again
-    (λ c. search needs)
-    returns)
+    tie.close (tie.spec Inv-loop μ-loop (λ c. search needs) (λ c κs. search needs) (λ c. search needs) loop-again
+    (λ c. search needs) returns)

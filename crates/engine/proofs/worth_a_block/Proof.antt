@@ -1,6 +1,6 @@
 -- `engine::worth_a_block` meets its contract.
 use Rattle.word.proofs.ChoiceLaws.{and-left}
-use borrow.Author.Tests.{leb-true}
+use Rattle.word.proofs.Base.{leb-true}
 use Rattle.engine.proofs.worth_a_block.Statement.{statement}
 use Rattle.engine.proofs.worth_a_block.Tie as tie
 

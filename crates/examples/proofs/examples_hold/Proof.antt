@@ -1,5 +1,5 @@
 -- The examples are computed.
-use mathlib.Core.Path.{refl}
+use Rattle.word.proofs.Base.{refl}
 use Rattle.word.specs.Word.{ofBits}
 use Rattle.word.specs.Size.{height, width}
 use Rattle.word.specs.Mask.{maskedWhen, masked}

@@ -1,6 +1,6 @@
 -- `file::accepted` meets its contract: the length, then the flag, the colours and the words before them.
 use Rattle.file.proofs.FileLaws.{accepted-of-length, accepted-of-parts}
-use borrow.Author.Needs.{needs}
+use Rattle.word.proofs.Base.{needs}
 use Rattle.file.proofs.accepted.Statement.{statement}
 use Rattle.file.proofs.accepted.Tie as tie
 
@@ -12,13 +12,5 @@ returns-2 c = search accepted-of-parts
 
 pub accepted-spec : {M : Type 1} → statement M
 accepted-spec =
-    tie.close
-    (tie.spec
-    returns
-    (λ c. search needs)
-    (λ c. search needs)
-    (λ c. search needs)
-    (λ c κs. search needs)
-    (λ c κs. search needs)
-    (λ c κs. search needs)
-    returns-2)
+    tie.close (tie.spec returns (λ c. search needs) (λ c. search needs) (λ c. search needs) (λ c κs. search needs)
+    (λ c κs. search needs) (λ c κs. search needs) returns-2)

@@ -1,8 +1,5 @@
 -- `file::bits` meets its contract: the colours and the flag first, then the tests go up through the runs of places that keep the same bits.
-use mathlib.Core.Path.{_≡_, sym}
-use Prim.Native.Nat.{ℕ, _+_, _*_, _-_, _/_, _%_, _<_, _≤_}
-use native.Mathlib.Omega.{arith}
-use lib.ListN.{getD, List·getD-eq-default}
+use Rattle.word.proofs.Base.{_≡_, sym, ℕ, _+_, _-_, _*_, _/_, _%_, _<_, _≤_, arith, getD, List·getD-eq-default}
 use Rattle.file.specs.File.{registers, keptBits}
 use Rattle.file.specs.Places.{pointerC, moduloC, sourceC, copcon, colour0, flag, fileLength}
 use Rattle.file.proofs.FileLaws.{keptBits-by, keptBits-in-run, keptBits-of-colour}
@@ -73,15 +70,4 @@ returns-9 : tie.Need-returns-9
 returns-9 c = search bits-of-copcon
 
 pub bits-spec : {M : Type 1} → statement M
-bits-spec =
-    tie.close
-    (tie.spec
-    returns
-    returns-2
-    returns-3
-    returns-4
-    returns-5
-    returns-6
-    returns-7
-    returns-8
-    returns-9)
+bits-spec = tie.close (tie.spec returns returns-2 returns-3 returns-4 returns-5 returns-6 returns-7 returns-8 returns-9)

@@ -1,18 +1,10 @@
 -- `file::colours_keep` meets its contract: it is told so far whether every colour keeps its bits.
-use mathlib.Core.Path.{_≡_, refl, ap}
-use Prim.Native.Nat.{ℕ, _+_, _-_, _<_, _≤_}
-use native.Mathlib.Omega.{arith}
-use mathlib.Core.Bool.{Bool, _&&_}
-use mathlib.Core.List.{List}
-use lib.Dec.{eqb}
-use lib.Bits.{bitAnd}
-use lib.ListN.{getD}
+use Rattle.word.proofs.Base.{_≡_, refl, ap, ℕ, _+_, _-_, _<_, _≤_, arith, Bool, _&&_, eqb, needs, List, getD, bitAnd}
 use Rattle.word.specs.Choice.{every}
 use Rattle.word.proofs.ChoiceLaws.{every-turn, every-done}
 use Rattle.file.specs.Places.{colourCount, colour0}
 use Rattle.file.specs.File.{kept, keptAt}
 use Rattle.file.proofs.FileLaws.{keptBits-of-colour}
-use borrow.Author.Needs.{needs}
 use Rattle.file.proofs.colours_keep.Statement.{statement}
 use Rattle.file.proofs.colours_keep.Tie as tie
 
@@ -36,9 +28,6 @@ abbrev μ-loop : tie.MeasureT-loop
 loop-holds : tie.Need-loop-holds Inv-loop μ-loop
 loop-holds c = (refl, search needs)
 
-loop-less : tie.Need-loop-less Inv-loop μ-loop
-loop-less c = search needs
-
 loop-again : tie.Need-loop-again Inv-loop μ-loop
 loop-again c = (search keeps-turn, search needs)
 
@@ -47,16 +36,5 @@ returns c = search every-done
 
 pub colours-keep-spec : {M : Type 1} → statement M
 colours-keep-spec =
-    tie.close
-    (tie.spec
-    Inv-loop
-    μ-loop
-    loop-holds
-    (λ c. search needs)
-    (λ c. search needs)
-    (λ c. search needs)
-    (λ c. search needs)
-    (λ c. search needs)
-    loop-less
-    loop-again
-    returns)
+    tie.close (tie.spec Inv-loop μ-loop loop-holds (λ c. search needs) (λ c. search needs) (λ c. search needs)
+    (λ c. search needs) (λ c. search needs) (λ c. search needs) loop-again returns)

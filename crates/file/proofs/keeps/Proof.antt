@@ -1,14 +1,8 @@
 -- `file::keeps` meets its contract: it is told so far whether every place keeps its bits.
-use mathlib.Core.Path.{_≡_, refl, ap}
-use Prim.Native.Nat.{ℕ, _+_, _-_, _≤_}
-use mathlib.Core.Bool.{Bool, _&&_}
-use mathlib.Core.List.{List}
-use lib.Dec.{eqb}
-use lib.ListN.{getD}
+use Rattle.word.proofs.Base.{_≡_, refl, ap, ℕ, _+_, _-_, _≤_, Bool, _&&_, eqb, needs, List, getD}
 use Rattle.word.specs.Choice.{every}
 use Rattle.word.proofs.ChoiceLaws.{every-turn, every-done}
 use Rattle.file.specs.File.{kept, keptAt}
-use borrow.Author.Needs.{needs}
 use Rattle.file.proofs.keeps.Statement.{statement}
 use Rattle.file.proofs.keeps.Tie as tie
 
@@ -27,9 +21,6 @@ abbrev μ-loop : tie.MeasureT-loop
 loop-holds : tie.Need-loop-holds Inv-loop μ-loop
 loop-holds c = (refl, search needs)
 
-loop-less : tie.Need-loop-less Inv-loop μ-loop
-loop-less c = search needs
-
 loop-again : tie.Need-loop-again Inv-loop μ-loop
 loop-again c = (search keeps-turn, search needs)
 
@@ -38,16 +29,5 @@ returns c = search every-done
 
 pub keeps-spec : {M : Type 1} → statement M
 keeps-spec =
-    tie.close
-    (tie.spec
-    Inv-loop
-    μ-loop
-    loop-holds
-    (λ c. search needs)
-    (λ c. search needs)
-    (λ c. search needs)
-    (λ c κs. search needs)
-    (λ c. search needs)
-    loop-less
-    loop-again
-    returns)
+    tie.close (tie.spec Inv-loop μ-loop loop-holds (λ c. search needs) (λ c. search needs) (λ c. search needs)
+    (λ c κs. search needs) (λ c. search needs) (λ c. search needs) loop-again returns)

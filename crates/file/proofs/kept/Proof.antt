@@ -1,10 +1,6 @@
 -- `file::kept` meets its contract: the value, of which the kept bits are left.
-use mathlib.Core.Path.{_≡_}
-use Prim.Native.Nat.{ℕ}
-use lib.Bits.{bitAnd}
-use lib.ListN.{getD}
+use Rattle.word.proofs.Base.{_≡_, ℕ, needs, getD, bitAnd}
 use Rattle.file.specs.File.{keptBits, kept}
-use borrow.Author.Needs.{needs}
 use Rattle.file.proofs.kept.Statement.{statement}
 use Rattle.file.proofs.kept.Tie as tie
 

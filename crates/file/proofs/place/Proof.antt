@@ -1,14 +1,9 @@
 -- `file::place` meets its contract: the colours' run first, then the tests go up through the others and the gaps between them.
-use mathlib.Core.Path.{_≡_}
-use Prim.Native.Nat.{ℕ, _+_, _-_, _/_, _%_, _<_, _≤_}
-use native.Mathlib.Omega.{arith}
-use mathlib.Core.Bool.{not, _&&_}
-use borrow.Author.Tests.{lt-ltb, eq-eqb, ne-eqb}
-use lib.Dec.{eqb, ltb}
+use Rattle.word.proofs.Base.{_≡_, ℕ, _+_, _-_, _/_, _%_, _<_, _≤_, arith, _&&_, not, eqb, ltb, eq-eqb, ne-eqb, lt-ltb}
+use Rattle.word.proofs.Base.{needs}
 use Rattle.file.specs.File.{registers, placeIn, place}
 use Rattle.file.specs.Places.{control0, moduloC, sourceC, copcon, colourCount, colour0, flag}
 use Rattle.file.proofs.PlaceLaws.{place-of-none, place-between, place-in-run}
-use borrow.Author.Needs.{needs}
 use Rattle.file.proofs.place.Statement.{statement}
 use Rattle.file.proofs.place.Tie as tie
 
@@ -94,24 +89,6 @@ returns-11 c = search place-past-data
 
 pub place-spec : {M : Type 1} → statement M
 place-spec =
-    tie.close
-    (tie.spec
-    (λ c. search needs)
-    returns
-    (λ c. search needs)
-    (λ c. search needs)
-    returns-2
-    returns-3
-    returns-4
-    returns-5
-    (λ c. search needs)
-    returns-6
-    returns-7
-    (λ c. search needs)
-    (λ c. search needs)
-    returns-8
-    returns-9
-    (λ c. search needs)
-    (λ c. search needs)
-    returns-10
-    returns-11)
+    tie.close (tie.spec (λ c. search needs) returns (λ c. search needs) (λ c. search needs) returns-2 returns-3
+    returns-4 returns-5 (λ c. search needs) returns-6 returns-7 (λ c. search needs) (λ c. search needs) returns-8
+    returns-9 (λ c. search needs) (λ c. search needs) returns-10 returns-11)

@@ -1,7 +1,7 @@
 -- `folder::fold` meets its contract: the folded job is handed out only when it is done.
 use Rattle.job.proofs.LengthLaws.{jobLength-when-short}
 use Rattle.folder.proofs.FoldingLaws.{folding-by-memory, folding-by-length, folding-by-refused, folding-by-done, room-when-done, run-when-done}
-use borrow.Author.Needs.{needs}
+use Rattle.word.proofs.Base.{needs}
 use Rattle.folder.proofs.fold.Statement.{statement}
 use Rattle.folder.proofs.fold.Tie as tie
 

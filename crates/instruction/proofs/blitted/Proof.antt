@@ -1,6 +1,6 @@
 -- `instruction::blitted` meets its contract: the MOVE answers what its blit answers.
 use Rattle.instruction.proofs.EffectLaws.{blitted-when-done, blitted-when-refused}
-use borrow.Author.Needs.{needs}
+use Rattle.word.proofs.Base.{needs}
 use Rattle.instruction.proofs.blitted.Statement.{statement}
 use Rattle.instruction.proofs.blitted.Tie as tie
 
@@ -12,15 +12,5 @@ returns-2 c = search blitted-when-refused
 
 pub blitted-spec : {M : Type 1} → statement M
 blitted-spec =
-    tie.close
-    (tie.spec
-    (λ c κs. search needs)
-    (λ c. search needs)
-    (λ c κs. search needs)
-    (λ c. search needs)
-    (λ c. search needs)
-    (λ c. search needs)
-    returns
-    (λ c. search needs)
-    (λ c. search needs)
-    returns-2)
+    tie.close (tie.spec (λ c κs. search needs) (λ c. search needs) (λ c κs. search needs) (λ c. search needs)
+    (λ c. search needs) (λ c. search needs) returns (λ c. search needs) (λ c. search needs) returns-2)

@@ -1,6 +1,6 @@
 -- `instruction::move_effect` meets its contract: 21, then 22, then the blit or the register.
 use Rattle.instruction.proofs.EffectLaws.{instructionEffect-when-forbidden, instructionEffect-when-not-modelled, instructionEffect-of-size, instructionEffect-of-register}
-use borrow.Author.Needs.{needs}
+use Rattle.word.proofs.Base.{needs}
 use Rattle.instruction.proofs.move_effect.Statement.{statement}
 use Rattle.instruction.proofs.move_effect.Tie as tie
 
@@ -18,21 +18,6 @@ returns-4 c = search instructionEffect-of-register
 
 pub move-effect-spec : {M : Type 1} → statement M
 move-effect-spec =
-    tie.close
-    (tie.spec
-    (λ c κs. search needs)
-    (λ c κs. search needs)
-    (λ c κs. search needs)
-    (λ c. search needs)
-    returns
-    (λ c. search needs)
-    returns-2
-    (λ c κs. search needs)
-    (λ c. search needs)
-    (λ c. search needs)
-    returns-3
-    (λ c κs. search needs)
-    (λ c κs. search needs)
-    (λ c κs. search needs)
-    (λ c. search needs)
-    returns-4)
+    tie.close (tie.spec (λ c κs. search needs) (λ c κs. search needs) (λ c κs. search needs) (λ c. search needs) returns
+    (λ c. search needs) returns-2 (λ c κs. search needs) (λ c. search needs) (λ c. search needs) returns-3
+    (λ c κs. search needs) (λ c κs. search needs) (λ c κs. search needs) (λ c. search needs) returns-4)

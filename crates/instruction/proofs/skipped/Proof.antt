@@ -1,6 +1,6 @@
 -- `instruction::skipped` meets its contract: one test decides.
 use Rattle.instruction.proofs.EffectLaws.{skipped-when-satisfied, skipped-when-not}
-use borrow.Author.Needs.{needs}
+use Rattle.word.proofs.Base.{needs}
 use Rattle.instruction.proofs.skipped.Statement.{statement}
 use Rattle.instruction.proofs.skipped.Tie as tie
 

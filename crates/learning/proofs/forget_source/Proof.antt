@@ -1,6 +1,6 @@
 -- `learning::forget_source` meets its contract, used or not.
 use Rattle.learning.proofs.LearnLaws.{forgetSource-when-used, forgetSource-when-unused}
-use borrow.Author.Needs.{needs}
+use Rattle.word.proofs.Base.{needs}
 use Rattle.learning.proofs.forget_source.Statement.{statement}
 use Rattle.learning.proofs.forget_source.Tie as tie
 

@@ -1,6 +1,6 @@
 -- `learning::forgotten` meets its contract: the channels that the blit may use.
 use Rattle.learning.proofs.LearnLaws.{forgotten-of-parts}
-use borrow.Author.Needs.{needs}
+use Rattle.word.proofs.Base.{needs}
 use Rattle.learning.proofs.forgotten.Statement.{statement}
 use Rattle.learning.proofs.forgotten.Tie as tie
 

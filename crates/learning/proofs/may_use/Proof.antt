@@ -1,6 +1,6 @@
 -- `learning::may_use` meets its contract: the channels of a known BLTCON0, else all.
 use Rattle.learning.proofs.LearnLaws.{mayUse-when-known, mayUse-when-unknown}
-use borrow.Author.Needs.{needs}
+use Rattle.word.proofs.Base.{needs}
 use Rattle.learning.proofs.may_use.Statement.{statement}
 use Rattle.learning.proofs.may_use.Tie as tie
 

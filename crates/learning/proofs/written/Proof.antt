@@ -1,6 +1,6 @@
 -- `learning::written` meets its contract: the kept bits.
 use Rattle.learning.proofs.LearnLaws.{written-of-parts}
-use borrow.Author.Needs.{needs}
+use Rattle.word.proofs.Base.{needs}
 use Rattle.learning.proofs.written.Statement.{statement}
 use Rattle.learning.proofs.written.Tie as tie
 

@@ -1,7 +1,6 @@
 -- `refusal::both_fills` meets its contract: the two bits.
-use mathlib.Core.Path.{refl}
+use Rattle.word.proofs.Base.{refl, needs}
 use Rattle.refusal.specs.Refusal.{bothFills}
-use borrow.Author.Needs.{needs}
 use Rattle.refusal.proofs.both_fills.Statement.{statement}
 use Rattle.refusal.proofs.both_fills.Tie as tie
 

@@ -1,7 +1,6 @@
 -- `refusal::first_leaving` meets its contract: the channels one after the other, the first that leaves decides.
 use Rattle.refusal.proofs.RefusalLaws.{leaving-by-a, leaving-by-b, leaving-by-c, leaving-by-d, leaving-by-none}
-use mathlib.Core.Path.{refl}
-use borrow.Author.Needs.{needs}
+use Rattle.word.proofs.Base.{refl, needs}
 use Rattle.refusal.proofs.first_leaving.Statement.{statement}
 use Rattle.refusal.proofs.first_leaving.Tie as tie
 

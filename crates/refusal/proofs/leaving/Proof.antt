@@ -1,7 +1,6 @@
 -- `refusal::leaving` meets its contract: no channel leaves memory that no pointer does.
-use mathlib.Core.Path.{refl}
+use Rattle.word.proofs.Base.{refl, needs}
 use Rattle.refusal.proofs.RefusalLaws.{leaving-at-end}
-use borrow.Author.Needs.{needs}
 use Rattle.refusal.proofs.leaving.Statement.{statement}
 use Rattle.refusal.proofs.leaving.Tie as tie
 

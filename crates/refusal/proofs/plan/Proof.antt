@@ -1,8 +1,6 @@
 -- `refusal::plan` meets its contract, field by field.
-use mathlib.Core.Path.{refl}
-use native.Mathlib.Omega.{arith}
+use Rattle.word.proofs.Base.{refl, arith, needs}
 use Rattle.word.proofs.SizeLaws.{height-le, width-le}
-use borrow.Author.Needs.{needs}
 use Rattle.refusal.proofs.plan.Statement.{statement}
 use Rattle.refusal.proofs.plan.Tie as tie
 
@@ -18,12 +16,5 @@ returns c =
 
 pub plan-spec : {M : Type 1} → statement M
 plan-spec =
-    tie.close
-    (tie.spec
-    (λ c κs. search needs)
-    (λ c κs. search needs)
-    (λ c κs. search needs)
-    cast-width
-    (λ c κs. search needs)
-    cast-height
-    returns)
+    tie.close (tie.spec (λ c κs. search needs) (λ c κs. search needs) (λ c κs. search needs) cast-width
+    (λ c κs. search needs) cast-height returns)

@@ -1,7 +1,6 @@
 -- `refusal::refusal` meets its contract: memory and file are tried first, then the rules of the blit.
-use mathlib.Core.Path.{refl}
+use Rattle.word.proofs.Base.{refl, needs}
 use Rattle.refusal.proofs.RefusalLaws.{refused-by-memory, refused-by-file, refused-by-blit}
-use borrow.Author.Needs.{needs}
 use Rattle.refusal.proofs.refusal.Statement.{statement}
 use Rattle.refusal.proofs.refusal.Tie as tie
 
@@ -16,11 +15,5 @@ returns-3 c = (search refused-by-blit, search needs)
 
 pub refusal-spec : {M : Type 1} → statement M
 refusal-spec =
-    tie.close
-    (tie.spec
-    (λ c κs. search needs)
-    returns
-    (λ c κs. search needs)
-    returns-2
-    (λ c κs. search needs)
+    tie.close (tie.spec (λ c κs. search needs) returns (λ c κs. search needs) returns-2 (λ c κs. search needs)
     returns-3)

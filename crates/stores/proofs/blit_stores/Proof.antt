@@ -1,9 +1,6 @@
 -- `stores::blit_stores` meets its contract: what remains of the rows from here gives what the whole gives.
 -- The facts of a row are named by their paths: the structs hold more records than a search looks into.
-use mathlib.Core.Path.{_≡_}
-use mathlib.Core.List.{[]}
-use Prim.Native.Nat.{_+_, _*_, _<_, _≤_}
-use lib.ListN.{length}
+use Rattle.word.proofs.Base.{_≡_, _+_, _*_, _<_, _≤_, needs, [], length}
 use Rattle.word.specs.Laid.{laid}
 use Rattle.word.proofs.RepeatLaws.{repeated-turn, repeated-done}
 use Rattle.area.specs.Flow.{state}
@@ -11,7 +8,6 @@ use Rattle.area.specs.Rows.{rows}
 use Rattle.stores.specs.Stores as specs
 use Rattle.stores.specs.Stores.{Store, blitStores}
 use Rattle.stores.proofs.LaidLaws.{blit-turn, blit-done, rows-room}
-use borrow.Author.Needs.{needs}
 use Rattle.stores.proofs.blit_stores.Statement.{statement}
 use Rattle.stores.proofs.blit_stores.Tie as tie
 
@@ -29,12 +25,6 @@ Inv-loop places₀ values₀ setup width height here₀ to₀ remaining₀ place
 
 abbrev μ-loop : tie.MeasureT-loop
 μ-loop places₀ values₀ setup width height here₀ to₀ remaining₀ places values here to remaining = remaining
-
-loop-holds : tie.Need-loop-holds Inv-loop μ-loop
-loop-holds c = search needs
-
-loop-less : tie.Need-loop-less Inv-loop μ-loop
-loop-less c = search needs
 
 loop-again : tie.Need-loop-again Inv-loop μ-loop
 loop-again c =
@@ -55,16 +45,5 @@ returns c = (search blit-done, search blit-done, search repeated-done)
 
 pub blit-stores-spec : {M : Type 1} → statement M
 blit-stores-spec =
-    tie.close
-    (tie.spec
-    Inv-loop
-    μ-loop
-    loop-holds
-    (λ c κs. search needs)
-    (λ c. search needs)
-    (λ c. search needs)
-    loop-less
-    loop-again
-    (λ c. search needs)
-    (λ c. search needs)
-    returns)
+    tie.close (tie.spec Inv-loop μ-loop (λ c. search needs) (λ c κs. search needs) (λ c. search needs)
+    (λ c. search needs) (λ c. search needs) loop-again (λ c. search needs) (λ c. search needs) returns)

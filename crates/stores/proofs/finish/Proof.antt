@@ -1,7 +1,6 @@
 -- `stores::finish` meets its contract, field by field.
-use mathlib.Core.Path.{refl}
+use Rattle.word.proofs.Base.{refl, needs}
 use Rattle.area.specs.Finish.{final, finish}
-use borrow.Author.Needs.{needs}
 use Rattle.stores.proofs.finish.Statement.{statement}
 use Rattle.stores.proofs.finish.Tie as tie
 

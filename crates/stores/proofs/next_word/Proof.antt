@@ -1,7 +1,7 @@
 -- `stores::next_word` meets its contract: its five calls are the definition's parts, and a memory of no words stays so.
 use Rattle.area.proofs.RowsLaws.{finished-room}
 use Rattle.stores.proofs.LaidLaws.{nextWord-of-parts}
-use borrow.Author.Needs.{needs}
+use Rattle.word.proofs.Base.{needs}
 use Rattle.stores.proofs.next_word.Statement.{statement}
 use Rattle.stores.proofs.next_word.Tie as tie
 
@@ -13,14 +13,5 @@ returns c = search nextWord-of-parts
 
 pub next-word-spec : {M : Type 1} → statement M
 next-word-spec =
-    tie.close
-    (tie.spec
-    (λ c. search needs)
-    (λ c κs. search needs)
-    (λ c. search needs)
-    (λ c κs. search needs)
-    (λ c. search needs)
-    store-pending-requires
-    (λ c κs. search needs)
-    (λ c κs. search needs)
-    returns)
+    tie.close (tie.spec (λ c. search needs) (λ c κs. search needs) (λ c. search needs) (λ c κs. search needs)
+    (λ c. search needs) store-pending-requires (λ c κs. search needs) (λ c κs. search needs) returns)

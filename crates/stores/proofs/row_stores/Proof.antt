@@ -1,9 +1,6 @@
 -- `stores::row_stores` meets its contract: what remains of the row from here gives what the whole gives.
 -- The facts of a step are named by their paths: the structs hold more records than a search looks into.
-use mathlib.Core.Path.{_≡_}
-use mathlib.Core.List.{[]}
-use Prim.Native.Nat.{_+_, _<_, _≤_}
-use lib.ListN.{length}
+use Rattle.word.proofs.Base.{_≡_, _+_, _<_, _≤_, needs, [], length}
 use Rattle.word.specs.Laid.{laid}
 use Rattle.word.proofs.RepeatLaws.{repeated-turn, repeated-done}
 use Rattle.area.specs.Flow.{state}
@@ -12,7 +9,6 @@ use Rattle.area.proofs.RowsLaws.{words-room}
 use Rattle.stores.specs.Stores as specs
 use Rattle.stores.specs.Stores.{Store, rowStores}
 use Rattle.stores.proofs.LaidLaws.{row-turn, row-done}
-use borrow.Author.Needs.{needs}
 use Rattle.stores.proofs.row_stores.Statement.{statement}
 use Rattle.stores.proofs.row_stores.Tie as tie
 
@@ -31,12 +27,6 @@ Inv-loop places₀ values₀ at setup width here₀ to₀ remaining₀ places va
 
 abbrev μ-loop : tie.MeasureT-loop
 μ-loop places₀ values₀ at setup width here₀ to₀ remaining₀ places values here to remaining = remaining
-
-loop-holds : tie.Need-loop-holds Inv-loop μ-loop
-loop-holds c = search needs
-
-loop-less : tie.Need-loop-less Inv-loop μ-loop
-loop-less c = search needs
 
 loop-again : tie.Need-loop-again Inv-loop μ-loop
 loop-again c =
@@ -58,17 +48,6 @@ returns c = (search row-done, search row-done, search repeated-done)
 
 pub row-stores-spec : {M : Type 1} → statement M
 row-stores-spec =
-    tie.close
-    (tie.spec
-    Inv-loop
-    μ-loop
-    loop-holds
-    (λ c. search needs)
-    (λ c κs. search needs)
-    (λ c. search needs)
-    (λ c. search needs)
-    loop-less
-    loop-again
-    (λ c. search needs)
-    (λ c. search needs)
+    tie.close (tie.spec Inv-loop μ-loop (λ c. search needs) (λ c. search needs) (λ c κs. search needs)
+    (λ c. search needs) (λ c. search needs) (λ c. search needs) loop-again (λ c. search needs) (λ c. search needs)
     returns)

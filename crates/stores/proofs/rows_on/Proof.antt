@@ -1,10 +1,8 @@
 -- `stores::rows_on` meets its contract: what remains of the rows from here goes to the same end.
-use mathlib.Core.Path.{_≡_}
-use Prim.Native.Nat.{_<_}
+use Rattle.word.proofs.Base.{_≡_, _<_, needs}
 use Rattle.word.specs.Repeat.{repeated}
 use Rattle.word.specs.Pointer.{pointerEnd, nextRow}
 use Rattle.word.proofs.RepeatLaws.{repeated-turn, repeated-done}
-use borrow.Author.Needs.{needs}
 use Rattle.stores.proofs.rows_on.Statement.{statement}
 use Rattle.stores.proofs.rows_on.Tie as tie
 
@@ -16,12 +14,6 @@ Inv-loop direction width modulo rows here₀ remaining₀ here remaining =
 abbrev μ-loop : tie.MeasureT-loop
 μ-loop direction width modulo rows here₀ remaining₀ here remaining = remaining
 
-loop-holds : tie.Need-loop-holds Inv-loop μ-loop
-loop-holds c = search needs
-
-loop-less : tie.Need-loop-less Inv-loop μ-loop
-loop-less c = search needs
-
 loop-again : tie.Need-loop-again Inv-loop μ-loop
 loop-again c = (search repeated-turn, search needs)
 
@@ -30,13 +22,5 @@ returns c = search repeated-done
 
 pub rows-on-spec : {M : Type 1} → statement M
 rows-on-spec =
-    tie.close
-    (tie.spec
-    Inv-loop
-    μ-loop
-    loop-holds
-    (λ c κs. search needs)
-    (λ c. search needs)
-    loop-less
-    loop-again
-    returns)
+    tie.close (tie.spec Inv-loop μ-loop (λ c. search needs) (λ c κs. search needs) (λ c. search needs)
+    (λ c. search needs) loop-again returns)

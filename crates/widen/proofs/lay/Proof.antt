@@ -1,13 +1,10 @@
 -- `widen::lay` meets its contract: the words from here on give what all give.
-use mathlib.Core.Path.{_≡_}
-use Prim.Native.Nat.{_-_, _≤_}
-use lib.ListN.{length, drop}
+use Rattle.word.proofs.Base.{_≡_, _-_, _≤_, needs, length, drop}
 use Rattle.word.specs.Laid.{laid}
 use Rattle.file.specs.Places.{fileLength}
 use Rattle.widen.specs.Old.{oldLength}
 use Rattle.widen.specs.Widen.{widened}
 use Rattle.widen.proofs.WidenLaws.{widened-turn, widened-done}
-use borrow.Author.Needs.{needs}
 use Rattle.widen.proofs.lay.Statement.{statement}
 use Rattle.widen.proofs.lay.Tie as tie
 
@@ -21,12 +18,6 @@ Inv-loop old target₀ place₀ target place =
 abbrev μ-loop : tie.MeasureT-loop
 μ-loop old target₀ place₀ target place = fileLength - place
 
-loop-holds : tie.Need-loop-holds Inv-loop μ-loop
-loop-holds c = search needs
-
-loop-less : tie.Need-loop-less Inv-loop μ-loop
-loop-less c = search needs
-
 loop-again : tie.Need-loop-again Inv-loop μ-loop
 loop-again c = (search widened-turn, search needs, search needs, search needs)
 
@@ -35,14 +26,5 @@ returns c = search widened-done
 
 pub lay-spec : {M : Type 1} → statement M
 lay-spec =
-    tie.close
-    (tie.spec
-    Inv-loop
-    μ-loop
-    loop-holds
-    (λ c κs. search needs)
-    (λ c. search needs)
-    loop-less
-    loop-again
-    (λ c. search needs)
-    returns)
+    tie.close (tie.spec Inv-loop μ-loop (λ c. search needs) (λ c κs. search needs) (λ c. search needs)
+    (λ c. search needs) loop-again (λ c. search needs) returns)

@@ -1,10 +1,6 @@
 -- `widen::lay_word` meets its contract: the word is the new file's.
-use mathlib.Core.Path.{_≡_}
-use Prim.Native.Nat.{ℕ}
-use mathlib.Core.List.{List}
-use lib.ListN.{getD, set}
+use Rattle.word.proofs.Base.{_≡_, ℕ, needs, List, getD, set}
 use Rattle.widen.specs.Widen.{widened}
-use borrow.Author.Needs.{needs}
 use Rattle.widen.proofs.lay_word.Statement.{statement}
 use Rattle.widen.proofs.lay_word.Tie as tie
 

@@ -1,6 +1,6 @@
 -- `widen::old_accepted` meets its contract: the length, then the first 19 words and the flag.
 use Rattle.widen.proofs.OldLaws.{oldAccepted-of-length, oldAccepted-of-kept}
-use borrow.Author.Needs.{needs}
+use Rattle.word.proofs.Base.{needs}
 use Rattle.widen.proofs.old_accepted.Statement.{statement}
 use Rattle.widen.proofs.old_accepted.Tie as tie
 

@@ -1,7 +1,7 @@
 -- `widen::widen` meets its contract: the old file, then the target's length, each refused before anything is written.
 use Rattle.widen.proofs.OldLaws.{oldAccepted-length-told}
 use Rattle.widen.proofs.WidenLaws.{widening-of-old-file, widening-of-target-length, widening-when-done}
-use borrow.Author.Needs.{needs}
+use Rattle.word.proofs.Base.{needs}
 use Rattle.widen.proofs.widen.Statement.{statement}
 use Rattle.widen.proofs.widen.Tie as tie
 

@@ -1,6 +1,6 @@
 -- `widen::word_at` meets its contract: the first 19 words, the flag, and 0 between them.
 use Rattle.widen.proofs.WidenLaws.{widened-of-blitter, widened-of-flag, widened-of-screen}
-use borrow.Author.Needs.{needs}
+use Rattle.word.proofs.Base.{needs}
 use Rattle.widen.proofs.word_at.Statement.{statement}
 use Rattle.widen.proofs.word_at.Tie as tie
 

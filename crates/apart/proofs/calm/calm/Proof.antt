@@ -1,7 +1,6 @@
 -- `apart::calm::calm` meets its contract: apart altogether, or evenly.
-use native.Mathlib.Omega.{arith}
+use Rattle.word.proofs.Base.{arith, needs}
 use Rattle.apart.proofs.ClearLaws.{clear-under, clear-over, clear-evenly}
-use borrow.Author.Needs.{needs}
 use Rattle.apart.proofs.calm.calm.Statement.{statement}
 use Rattle.apart.proofs.calm.calm.Tie as tie
 
@@ -18,11 +17,4 @@ returns-4 : tie.Need-returns-4
 returns-4 c = (omega arith, λ some. absurd (omega arith))
 
 pub calm-spec : {M : Type 1} → statement M
-calm-spec =
-    tie.close
-    (tie.spec
-    returns
-    returns-2
-    (λ c κs. search needs)
-    returns-3
-    returns-4)
+calm-spec = tie.close (tie.spec returns returns-2 (λ c κs. search needs) returns-3 returns-4)

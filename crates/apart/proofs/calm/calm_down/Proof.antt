@@ -1,7 +1,6 @@
 -- `apart::calm::calm_down` meets its contract: behind, or so many strides ahead.
-use native.Mathlib.Omega.{arith}
+use Rattle.word.proofs.Base.{arith, needs}
 use Rattle.apart.proofs.ClearLaws.{behind-down, ahead-down}
-use borrow.Author.Needs.{needs}
 use Rattle.apart.proofs.calm.calm_down.Statement.{statement}
 use Rattle.apart.proofs.calm.calm_down.Tie as tie
 
@@ -19,14 +18,5 @@ returns-4 c = (c .fewer .ensures .0, ahead-down _ _ _ _ _ (c .before .before .be
 
 pub calm-down-spec : {M : Type 1} → statement M
 calm-down-spec =
-    tie.close
-    (tie.spec
-    returns
-    (λ c. search needs)
-    returns-2
-    returns-3
-    (λ c. search needs)
-    (λ c. search needs)
-    (λ c. search needs)
-    (λ c κs. search needs)
-    returns-4)
+    tie.close (tie.spec returns (λ c. search needs) returns-2 returns-3 (λ c. search needs) (λ c. search needs)
+    (λ c. search needs) (λ c κs. search needs) returns-4)

@@ -1,6 +1,6 @@
 -- `apart::calm::calm_evenly` meets its contract, by the direction.
 use Rattle.apart.proofs.ClearLaws.{evenly-when}
-use borrow.Author.Needs.{needs}
+use Rattle.word.proofs.Base.{needs}
 use Rattle.apart.proofs.calm.calm_evenly.Statement.{statement}
 use Rattle.apart.proofs.calm.calm_evenly.Tie as tie
 
@@ -12,11 +12,5 @@ returns-2 c = (c .calm-down .ensures .0, evenly-when _ _ _ _ _ _ _ _ (c .before 
 
 pub calm-evenly-spec : {M : Type 1} → statement M
 calm-evenly-spec =
-    tie.close
-    (tie.spec
-    (λ c. search needs)
-    (λ c κs. search needs)
-    (λ c. search needs)
-    (λ c κs. search needs)
-    returns
+    tie.close (tie.spec (λ c. search needs) (λ c κs. search needs) (λ c. search needs) (λ c κs. search needs) returns
     returns-2)

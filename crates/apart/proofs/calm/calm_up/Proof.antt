@@ -1,7 +1,6 @@
 -- `apart::calm::calm_up` meets its contract: behind, or so many strides ahead.
-use native.Mathlib.Omega.{arith}
+use Rattle.word.proofs.Base.{arith, needs}
 use Rattle.apart.proofs.ClearLaws.{behind-up, ahead-up}
-use borrow.Author.Needs.{needs}
 use Rattle.apart.proofs.calm.calm_up.Statement.{statement}
 use Rattle.apart.proofs.calm.calm_up.Tie as tie
 
@@ -19,12 +18,5 @@ returns-4 c = (c .fewer .ensures .0, ahead-up _ _ _ _ _ (c .before .before .befo
 
 pub calm-up-spec : {M : Type 1} → statement M
 calm-up-spec =
-    tie.close
-    (tie.spec
-    returns
-    returns-2
-    returns-3
-    (λ c. search needs)
-    (λ c. search needs)
-    (λ c κs. search needs)
+    tie.close (tie.spec returns returns-2 returns-3 (λ c. search needs) (λ c. search needs) (λ c κs. search needs)
     returns-4)

@@ -1,7 +1,6 @@
 -- `apart::calm::source_rows` meets its contract, by whether the source and D are used.
-use native.Mathlib.Omega.{arith}
+use Rattle.word.proofs.Base.{arith, needs}
 use Rattle.apart.proofs.ClearLaws.{told-both, told-alone, unused-told}
-use borrow.Author.Needs.{needs}
 use Rattle.apart.proofs.calm.source_rows.Statement.{statement}
 use Rattle.apart.proofs.calm.source_rows.Tie as tie
 
@@ -19,11 +18,4 @@ returns-4 c = (search needs, unused-told _ _ _ _ _ _ _ _ _ _ _ _ _ (c .if1 .left
 
 pub source-rows-spec : {M : Type 1} → statement M
 source-rows-spec =
-    tie.close
-    (tie.spec
-    (λ c κs. search needs)
-    (λ c κs. search needs)
-    returns
-    returns-2
-    returns-3
-    returns-4)
+    tie.close (tie.spec (λ c κs. search needs) (λ c κs. search needs) returns returns-2 returns-3 returns-4)

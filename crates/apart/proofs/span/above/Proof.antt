@@ -1,6 +1,6 @@
 -- `apart::span::above` meets its contract, by the direction.
 use Rattle.apart.proofs.SpanLaws.{above-when}
-use borrow.Author.Needs.{needs}
+use Rattle.word.proofs.Base.{needs}
 use Rattle.apart.proofs.span.above.Statement.{statement}
 use Rattle.apart.proofs.span.above.Tie as tie
 
@@ -9,10 +9,4 @@ returns c = (search above-when, search needs)
 
 pub above-spec : {M : Type 1} → statement M
 above-spec =
-    tie.close
-    (tie.spec
-    (λ c. search needs)
-    (λ c. search needs)
-    (λ c. search needs)
-    returns
-    (λ c. search needs))
+    tie.close (tie.spec (λ c. search needs) (λ c. search needs) (λ c. search needs) returns (λ c. search needs))

@@ -1,8 +1,6 @@
 -- `apart::span::distance` meets its contract.
-use mathlib.Core.Path.{refl}
-use native.Mathlib.Omega.{arith}
+use Rattle.word.proofs.Base.{refl, arith, needs}
 use Rattle.apart.proofs.SpanLaws.{distance-le}
-use borrow.Author.Needs.{needs}
 use Rattle.apart.proofs.span.distance.Statement.{statement}
 use Rattle.apart.proofs.span.distance.Tie as tie
 

@@ -1,9 +1,7 @@
 -- `apart::span::span_down` meets its contract: the first row and the last tell.
-use mathlib.Core.Path.{sym}
-use native.Mathlib.Omega.{arith}
+use Rattle.word.proofs.Base.{sym, arith, needs}
 use Rattle.block.proofs.EachLaws.{never}
 use Rattle.apart.proofs.SpanLaws.{span-downward}
-use borrow.Author.Needs.{needs}
 use Rattle.apart.proofs.span.span_down.Statement.{statement}
 use Rattle.apart.proofs.span.span_down.Tie as tie
 
@@ -20,17 +18,6 @@ returns-3 c =
 
 pub span-down-spec : {M : Type 1} → statement M
 span-down-spec =
-    tie.close
-    (tie.spec
-    (λ c κs. search needs)
-    (λ c κs. search needs)
-    (λ c. search needs)
-    (λ c κs. search needs)
-    (λ c. search needs)
-    returns
-    (λ c. search needs)
-    returns-2
-    (λ c. search needs)
-    (λ c. search needs)
-    (λ c. search needs)
-    returns-3)
+    tie.close (tie.spec (λ c κs. search needs) (λ c κs. search needs) (λ c. search needs) (λ c κs. search needs)
+    (λ c. search needs) returns (λ c. search needs) returns-2 (λ c. search needs) (λ c. search needs)
+    (λ c. search needs) returns-3)

@@ -1,9 +1,7 @@
 -- `apart::span::span_up` meets its contract: the first row and the last tell.
-use mathlib.Core.Path.{sym}
-use native.Mathlib.Omega.{arith}
+use Rattle.word.proofs.Base.{sym, arith, needs}
 use Rattle.block.proofs.EachLaws.{never}
 use Rattle.apart.proofs.SpanLaws.{span-upward}
-use borrow.Author.Needs.{needs}
 use Rattle.apart.proofs.span.span_up.Statement.{statement}
 use Rattle.apart.proofs.span.span_up.Tie as tie
 
@@ -20,15 +18,5 @@ returns-3 c =
 
 pub span-up-spec : {M : Type 1} → statement M
 span-up-spec =
-    tie.close
-    (tie.spec
-    (λ c κs. search needs)
-    (λ c κs. search needs)
-    (λ c κs. search needs)
-    returns
-    (λ c. search needs)
-    (λ c. search needs)
-    returns-2
-    (λ c. search needs)
-    (λ c. search needs)
-    returns-3)
+    tie.close (tie.spec (λ c κs. search needs) (λ c κs. search needs) (λ c κs. search needs) returns (λ c. search needs)
+    (λ c. search needs) returns-2 (λ c. search needs) (λ c. search needs) returns-3)

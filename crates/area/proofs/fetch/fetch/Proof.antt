@@ -1,7 +1,6 @@
 -- `area::fetch::fetch` meets its contract, source by source.
-use mathlib.Core.Path.{refl}
+use Rattle.word.proofs.Base.{refl, needs}
 use Rattle.area.specs.Fetch.{fetch}
-use borrow.Author.Needs.{needs}
 use Rattle.area.proofs.fetch.fetch.Statement.{statement}
 use Rattle.area.proofs.fetch.fetch.Tie as tie
 

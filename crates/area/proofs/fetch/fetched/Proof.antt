@@ -2,7 +2,7 @@
 use Rattle.word.proofs.ChoiceLaws.{if-when-true, if-when-false}
 use Rattle.area.specs.Fetch.{fetched}
 use Rattle.area.specs.Move.{stepped}
-use borrow.Author.Needs.{needs}
+use Rattle.word.proofs.Base.{needs}
 use Rattle.area.proofs.fetch.fetched.Statement.{statement}
 use Rattle.area.proofs.fetch.fetched.Tie as tie
 

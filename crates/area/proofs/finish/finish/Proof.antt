@@ -1,7 +1,6 @@
 -- `area::finish::finish` meets its contract, field by field.
-use mathlib.Core.Path.{refl}
+use Rattle.word.proofs.Base.{refl, needs}
 use Rattle.area.specs.Finish.{final, finish}
-use borrow.Author.Needs.{needs}
 use Rattle.area.proofs.finish.finish.Statement.{statement}
 use Rattle.area.proofs.finish.finish.Tie as tie
 

@@ -1,6 +1,6 @@
 -- `area::finish::masked_a` meets its contract: it is the mask's.
 use Rattle.area.specs.Finish.{maskedA}
-use borrow.Author.Needs.{needs}
+use Rattle.word.proofs.Base.{needs}
 use Rattle.area.proofs.finish.masked_a.Statement.{statement}
 use Rattle.area.proofs.finish.masked_a.Tie as tie
 

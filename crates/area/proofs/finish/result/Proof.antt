@@ -1,12 +1,10 @@
 -- `area::finish::result` meets its contract: the shifts' and the logic function's, one in the other.
-use Prim.Native.Nat.{ℕ}
-use mathlib.Core.Path.{_≡_, refl}
+use Rattle.word.proofs.Base.{_≡_, refl, ℕ, needs}
 use Rattle.word.specs.Shift.{shifted}
 use Rattle.word.specs.Logic.{logic}
 use Rattle.area.specs.declared.types.Flow.{Flow}
 use Rattle.area.specs.declared.types.Setup.{Setup}
 use Rattle.area.specs.Finish.{result}
-use borrow.Author.Needs.{needs}
 use Rattle.area.proofs.finish.result.Statement.{statement}
 use Rattle.area.proofs.finish.result.Tie as tie
 

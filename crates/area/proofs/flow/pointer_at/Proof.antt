@@ -1,7 +1,6 @@
 -- `area::flow::pointer_at` meets its contract: the two halves, made one.
-use mathlib.Core.Path.{refl}
+use Rattle.word.proofs.Base.{refl, needs}
 use Rattle.area.specs.Flow.{pointerAt}
-use borrow.Author.Needs.{needs}
 use Rattle.area.proofs.flow.pointer_at.Statement.{statement}
 use Rattle.area.proofs.flow.pointer_at.Tie as tie
 
@@ -11,4 +10,5 @@ returns c = rw (c .pointer .ensures, c .before .read2 .ensures, c .before .befor
 
 pub pointer-at-spec : {M : Type 1} → statement M
 pointer-at-spec =
-    tie.close (tie.spec (λ c κs. search needs) (λ c. search needs) (λ c κs. search needs) (λ c κs. search needs) returns)
+    tie.close (tie.spec (λ c κs. search needs) (λ c. search needs) (λ c κs. search needs) (λ c κs. search needs)
+    returns)

@@ -1,7 +1,6 @@
 -- `area::flow::pointers` meets its contract, field by field.
-use mathlib.Core.Path.{refl}
+use Rattle.word.proofs.Base.{refl, needs}
 use Rattle.area.specs.Flow.{pointers}
-use borrow.Author.Needs.{needs}
 use Rattle.area.proofs.flow.pointers.Statement.{statement}
 use Rattle.area.proofs.flow.pointers.Tie as tie
 
@@ -17,10 +16,5 @@ returns c =
 
 pub pointers-spec : {M : Type 1} → statement M
 pointers-spec =
-    tie.close
-    (tie.spec
-    (λ c κs. search needs)
-    (λ c κs. search needs)
-    (λ c κs. search needs)
-    (λ c κs. search needs)
+    tie.close (tie.spec (λ c κs. search needs) (λ c κs. search needs) (λ c κs. search needs) (λ c κs. search needs)
     returns)

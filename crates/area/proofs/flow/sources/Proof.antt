@@ -1,7 +1,6 @@
 -- `area::flow::sources` meets its contract, field by field.
-use mathlib.Core.Path.{refl}
+use Rattle.word.proofs.Base.{refl, needs}
 use Rattle.area.specs.Flow.{sources}
-use borrow.Author.Needs.{needs}
 use Rattle.area.proofs.flow.sources.Statement.{statement}
 use Rattle.area.proofs.flow.sources.Tie as tie
 

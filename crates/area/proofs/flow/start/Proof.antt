@@ -1,7 +1,6 @@
 -- `area::flow::start` meets its contract: the flow from the file's pointers.
-use mathlib.Core.Path.{refl}
+use Rattle.word.proofs.Base.{refl, needs}
 use Rattle.area.specs.Flow.{start}
-use borrow.Author.Needs.{needs}
 use Rattle.area.proofs.flow.start.Statement.{statement}
 use Rattle.area.proofs.flow.start.Tie as tie
 

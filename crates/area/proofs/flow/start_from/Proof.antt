@@ -1,6 +1,5 @@
 -- `area::flow::start_from` meets its contract, field by field.
-use mathlib.Core.Path.{refl}
-use borrow.Author.Needs.{needs}
+use Rattle.word.proofs.Base.{refl, needs}
 use Rattle.area.proofs.flow.start_from.Statement.{statement}
 use Rattle.area.proofs.flow.start_from.Tie as tie
 

@@ -1,6 +1,5 @@
 -- `area::moves::move_d` meets its contract: D's pointer alone has moved.
-use mathlib.Core.Path.{refl}
-use borrow.Author.Needs.{needs}
+use Rattle.word.proofs.Base.{refl, needs}
 use Rattle.area.proofs.moves.move_d.Statement.{statement}
 use Rattle.area.proofs.moves.move_d.Tie as tie
 

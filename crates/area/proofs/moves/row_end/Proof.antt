@@ -1,7 +1,6 @@
 -- `area::moves::row_end` meets its contract, channel by channel.
-use mathlib.Core.Path.{refl}
+use Rattle.word.proofs.Base.{refl, needs}
 use Rattle.area.specs.Move.{rowEnd}
-use borrow.Author.Needs.{needs}
 use Rattle.area.proofs.moves.row_end.Statement.{statement}
 use Rattle.area.proofs.moves.row_end.Tie as tie
 
@@ -18,11 +17,5 @@ returns c =
 
 pub row-end-spec : {M : Type 1} → statement M
 row-end-spec =
-    tie.close
-    (tie.spec
-    (λ c κs. search needs)
-    (λ c κs. search needs)
-    (λ c κs. search needs)
-    (λ c κs. search needs)
-    (λ c κs. search needs)
-    returns)
+    tie.close (tie.spec (λ c κs. search needs) (λ c κs. search needs) (λ c κs. search needs) (λ c κs. search needs)
+    (λ c κs. search needs) returns)

@@ -1,7 +1,7 @@
 -- `area::moves::stepped` meets its contract, used or not.
 use Rattle.word.proofs.ChoiceLaws.{if-when-true, if-when-false}
 use Rattle.area.specs.Move.{stepped}
-use borrow.Author.Needs.{needs}
+use Rattle.word.proofs.Base.{needs}
 use Rattle.area.proofs.moves.stepped.Statement.{statement}
 use Rattle.area.proofs.moves.stepped.Tie as tie
 

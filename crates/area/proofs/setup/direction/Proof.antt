@@ -1,6 +1,6 @@
 -- `area::setup::direction` meets its contract: the test is the bit's.
 use Rattle.area.proofs.SetupLaws.{direction-when-down, direction-when-up}
-use borrow.Author.Needs.{needs}
+use Rattle.word.proofs.Base.{needs}
 use Rattle.area.proofs.setup.direction.Statement.{statement}
 use Rattle.area.proofs.setup.direction.Tie as tie
 

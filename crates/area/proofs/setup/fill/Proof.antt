@@ -1,6 +1,6 @@
 -- `area::setup::fill` meets its contract: the tests are the bits', in the definition's order.
 use Rattle.area.proofs.SetupLaws.{fill-when-exclusive, fill-when-inclusive, fill-when-off}
-use borrow.Author.Needs.{needs}
+use Rattle.word.proofs.Base.{needs}
 use Rattle.area.proofs.setup.fill.Statement.{statement}
 use Rattle.area.proofs.setup.fill.Tie as tie
 
@@ -14,6 +14,4 @@ returns-3 : tie.Need-returns-3
 returns-3 c = search fill-when-off
 
 pub fill-spec : {M : Type 1} → statement M
-fill-spec =
-    tie.close
-    (tie.spec (λ c κs. search needs) returns (λ c κs. search needs) returns-2 returns-3)
+fill-spec = tie.close (tie.spec (λ c κs. search needs) returns (λ c κs. search needs) returns-2 returns-3)

@@ -1,7 +1,6 @@
 -- `area::setup::masks` meets its contract, field by field.
-use mathlib.Core.Path.{refl}
+use Rattle.word.proofs.Base.{refl, needs}
 use Rattle.area.specs.Setup.{masks}
-use borrow.Author.Needs.{needs}
 use Rattle.area.proofs.setup.masks.Statement.{statement}
 use Rattle.area.proofs.setup.masks.Tie as tie
 

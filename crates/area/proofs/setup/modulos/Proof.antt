@@ -1,7 +1,6 @@
 -- `area::setup::modulos` meets its contract, field by field.
-use mathlib.Core.Path.{refl}
+use Rattle.word.proofs.Base.{refl, needs}
 use Rattle.area.specs.Setup.{modulos}
-use borrow.Author.Needs.{needs}
 use Rattle.area.proofs.setup.modulos.Statement.{statement}
 use Rattle.area.proofs.setup.modulos.Tie as tie
 
@@ -21,14 +20,5 @@ returns c =
 
 pub modulos-spec : {M : Type 1} → statement M
 modulos-spec =
-    tie.close
-    (tie.spec
-    (λ c κs. search needs)
-    (λ c κs. search needs)
-    (λ c κs. search needs)
-    (λ c κs. search needs)
-    (λ c κs. search needs)
-    (λ c κs. search needs)
-    (λ c κs. search needs)
-    (λ c κs. search needs)
-    returns)
+    tie.close (tie.spec (λ c κs. search needs) (λ c κs. search needs) (λ c κs. search needs) (λ c κs. search needs)
+    (λ c κs. search needs) (λ c κs. search needs) (λ c κs. search needs) (λ c κs. search needs) returns)

@@ -1,7 +1,6 @@
 -- `area::setup::setup` meets its contract, field by field.
-use mathlib.Core.Path.{refl}
+use Rattle.word.proofs.Base.{refl, needs}
 use Rattle.area.specs.Setup.{setup}
-use borrow.Author.Needs.{needs}
 use Rattle.area.proofs.setup.setup.Statement.{statement}
 use Rattle.area.proofs.setup.setup.Tie as tie
 
@@ -23,16 +22,6 @@ returns c =
 
 pub setup-spec : {M : Type 1} → statement M
 setup-spec =
-    tie.close
-    (tie.spec
-    (λ c κs. search needs)
-    (λ c κs. search needs)
-    (λ c κs. search needs)
-    (λ c κs. search needs)
-    (λ c κs. search needs)
-    (λ c κs. search needs)
-    (λ c κs. search needs)
-    (λ c κs. search needs)
-    (λ c κs. search needs)
-    (λ c κs. search needs)
-    returns)
+    tie.close (tie.spec (λ c κs. search needs) (λ c κs. search needs) (λ c κs. search needs) (λ c κs. search needs)
+    (λ c κs. search needs) (λ c κs. search needs) (λ c κs. search needs) (λ c κs. search needs) (λ c κs. search needs)
+    (λ c κs. search needs) returns)

@@ -1,7 +1,6 @@
 -- `area::setup::shifts` meets its contract, field by field.
-use mathlib.Core.Path.{refl}
+use Rattle.word.proofs.Base.{refl, needs}
 use Rattle.area.specs.Setup.{shifts}
-use borrow.Author.Needs.{needs}
 use Rattle.area.proofs.setup.shifts.Statement.{statement}
 use Rattle.area.proofs.setup.shifts.Tie as tie
 

@@ -1,7 +1,7 @@
 -- `area::store::counted` meets its contract, whether a word waits or not.
 use Rattle.word.proofs.ChoiceLaws.{if-when-true, if-when-false}
 use Rattle.area.specs.Store.{countWith}
-use borrow.Author.Needs.{needs}
+use Rattle.word.proofs.Base.{needs}
 use Rattle.area.proofs.store.counted.Statement.{statement}
 use Rattle.area.proofs.store.counted.Tie as tie
 

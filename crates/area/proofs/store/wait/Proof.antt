@@ -1,6 +1,6 @@
 -- `area::store::wait` meets its contract: another pending word, all else as it was.
 use Rattle.area.specs.Store.{wait}
-use borrow.Author.Needs.{needs}
+use Rattle.word.proofs.Base.{needs}
 use Rattle.area.proofs.store.wait.Statement.{statement}
 use Rattle.area.proofs.store.wait.Tie as tie
 

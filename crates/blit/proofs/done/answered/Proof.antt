@@ -1,6 +1,6 @@
 -- `blit::done::answered` meets its contract: a refused blit changes nothing, any other is done.
 use Rattle.blit.proofs.BlitLaws.{plan-of-verdict, answered-when-done, answered-when-refused}
-use borrow.Author.Needs.{needs}
+use Rattle.word.proofs.Base.{needs}
 use Rattle.blit.proofs.done.answered.Statement.{statement}
 use Rattle.blit.proofs.done.answered.Tie as tie
 

@@ -1,7 +1,7 @@
 -- `blit::done::finished` meets its contract: all rows by the plan. The facts are named, for `search` reads too few of them.
 use Rattle.blit.proofs.BlitLaws.{plan-shifts-a, plan-shifts-b, start-a, start-b, start-c, start-d, start-nothing, start-room, finished-of-parts}
 use Rattle.refusal.proofs.RefusalLaws.{plan-some-words, plan-few-words, plan-some-rows, plan-few-rows}
-use borrow.Author.Needs.{needs}
+use Rattle.word.proofs.Base.{needs}
 use Rattle.blit.proofs.done.finished.Statement.{statement}
 use Rattle.blit.proofs.done.finished.Tie as tie
 
@@ -32,11 +32,5 @@ returns c =
 
 pub finished-spec : {M : Type 1} → statement M
 finished-spec =
-    tie.close
-    (tie.spec
-    (λ c κs. search needs)
-    (λ c. search needs)
-    (λ c. search needs)
-    area-blit-requires
-    (λ c. search needs)
-    returns)
+    tie.close (tie.spec (λ c κs. search needs) (λ c. search needs) (λ c. search needs) area-blit-requires
+    (λ c. search needs) returns)

@@ -1,6 +1,6 @@
 -- `blit::registers::put_flag` meets its contract: 1 or 0.
 use Rattle.blit.proofs.BlitLaws.{putFlag-when-zero, putFlag-when-some}
-use borrow.Author.Needs.{needs}
+use Rattle.word.proofs.Base.{needs}
 use Rattle.blit.proofs.registers.put_flag.Statement.{statement}
 use Rattle.blit.proofs.registers.put_flag.Tie as tie
 
@@ -12,5 +12,5 @@ returns-2 c = search putFlag-when-some
 
 pub put-flag-spec : {M : Type 1} → statement M
 put-flag-spec =
-    tie.close
-    (tie.spec (λ c κs. search needs) (λ c κs. search needs) (λ c. search needs) returns (λ c. search needs) returns-2)
+    tie.close (tie.spec (λ c κs. search needs) (λ c κs. search needs) (λ c. search needs) returns (λ c. search needs)
+    returns-2)

@@ -2,7 +2,7 @@
 use Rattle.word.proofs.ChoiceLaws.{if-when-false}
 use Rattle.blit.specs.WriteBack.{putPointer}
 use Rattle.blit.proofs.BlitLaws.{putPointer-when-used}
-use borrow.Author.Needs.{needs}
+use Rattle.word.proofs.Base.{needs}
 use Rattle.blit.proofs.registers.put_pointer.Statement.{statement}
 use Rattle.blit.proofs.registers.put_pointer.Tie as tie
 
@@ -15,13 +15,5 @@ returns-2 c = search (needs, if-when-false)
 
 pub put-pointer-spec : {M : Type 1} → statement M
 put-pointer-spec =
-    tie.close
-    (tie.spec
-    (λ c κs. search needs)
-    (λ c κs. search needs)
-    (λ c. search needs)
-    (λ c κs. search needs)
-    (λ c κs. search needs)
-    (λ c. search needs)
-    returns
-    returns-2)
+    tie.close (tie.spec (λ c κs. search needs) (λ c κs. search needs) (λ c. search needs) (λ c κs. search needs)
+    (λ c κs. search needs) (λ c. search needs) returns returns-2)

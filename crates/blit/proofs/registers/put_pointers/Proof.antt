@@ -1,12 +1,9 @@
 -- `blit::registers::put_pointers` meets its contract: channel after channel.
-use Prim.Native.Nat.{ℕ}
-use mathlib.Core.Path.{_≡_, refl}
-use mathlib.Core.List.{List}
+use Rattle.word.proofs.Base.{_≡_, refl, ℕ, needs, List}
 use Rattle.file.specs.Places.{pointerA, pointerB, pointerC, pointerD}
 use Rattle.word.specs.declared.types.Uses.{Uses}
 use Rattle.area.specs.declared.types.Pointers.{Pointers}
 use Rattle.blit.specs.WriteBack.{putPointer, putPointers}
-use borrow.Author.Needs.{needs}
 use Rattle.blit.proofs.registers.put_pointers.Statement.{statement}
 use Rattle.blit.proofs.registers.put_pointers.Tie as tie
 
@@ -22,11 +19,5 @@ returns c = search one-by-one
 
 pub put-pointers-spec : {M : Type 1} → statement M
 put-pointers-spec =
-    tie.close
-    (tie.spec
-    (λ c κs. search needs)
-    (λ c κs. search needs)
-    (λ c κs. search needs)
-    (λ c κs. search needs)
-    (λ c. search needs)
-    returns)
+    tie.close (tie.spec (λ c κs. search needs) (λ c κs. search needs) (λ c κs. search needs) (λ c κs. search needs)
+    (λ c. search needs) returns)

@@ -1,7 +1,7 @@
 -- `blit::registers::put_source` meets its contract, used or not.
 use Rattle.word.proofs.ChoiceLaws.{if-when-true, if-when-false}
 use Rattle.blit.specs.WriteBack.{putSource}
-use borrow.Author.Needs.{needs}
+use Rattle.word.proofs.Base.{needs}
 use Rattle.blit.proofs.registers.put_source.Statement.{statement}
 use Rattle.blit.proofs.registers.put_source.Tie as tie
 

@@ -1,12 +1,9 @@
 -- `blit::registers::put_sources` meets its contract: source after source.
-use Prim.Native.Nat.{ℕ}
-use mathlib.Core.Path.{_≡_, refl}
-use mathlib.Core.List.{List}
+use Rattle.word.proofs.Base.{_≡_, refl, ℕ, needs, List}
 use Rattle.file.specs.Places.{sourceA, sourceB, sourceC}
 use Rattle.word.specs.declared.types.Uses.{Uses}
 use Rattle.area.specs.declared.types.Sources.{Sources}
 use Rattle.blit.specs.WriteBack.{putSource, putSources}
-use borrow.Author.Needs.{needs}
 use Rattle.blit.proofs.registers.put_sources.Statement.{statement}
 use Rattle.blit.proofs.registers.put_sources.Tie as tie
 
@@ -22,5 +19,5 @@ returns c = search one-by-one
 
 pub put-sources-spec : {M : Type 1} → statement M
 put-sources-spec =
-    tie.close
-    (tie.spec (λ c κs. search needs) (λ c κs. search needs) (λ c κs. search needs) (λ c. search needs) returns)
+    tie.close (tie.spec (λ c κs. search needs) (λ c κs. search needs) (λ c κs. search needs) (λ c. search needs)
+    returns)

@@ -1,6 +1,6 @@
 -- `blit::registers::write_back` meets its contract: pointers, sources, flag.
 use Rattle.blit.proofs.BlitLaws.{writeBack-of-parts}
-use borrow.Author.Needs.{needs}
+use Rattle.word.proofs.Base.{needs}
 use Rattle.blit.proofs.registers.write_back.Statement.{statement}
 use Rattle.blit.proofs.registers.write_back.Tie as tie
 
@@ -9,5 +9,5 @@ returns c = search writeBack-of-parts
 
 pub write-back-spec : {M : Type 1} → statement M
 write-back-spec =
-    tie.close
-    (tie.spec (λ c κs. search needs) (λ c κs. search needs) (λ c κs. search needs) (λ c. search needs) returns)
+    tie.close (tie.spec (λ c κs. search needs) (λ c κs. search needs) (λ c κs. search needs) (λ c. search needs)
+    returns)

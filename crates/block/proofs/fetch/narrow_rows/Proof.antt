@@ -1,7 +1,6 @@
 -- `block::fetch::narrow_rows` meets its contract: the width is one, two or three.
-use native.Mathlib.Omega.{arith}
+use Rattle.word.proofs.Base.{arith, needs}
 use Rattle.block.proofs.PlaceLaws.{even-when, room-when, fetch-rows-when}
-use borrow.Author.Needs.{needs}
 use Rattle.block.proofs.fetch.narrow_rows.Statement.{statement}
 use Rattle.block.proofs.fetch.narrow_rows.Tie as tie
 
@@ -25,12 +24,4 @@ returns-3 : tie.Need-returns-3
 returns-3 c = (search needs, fetch-rows-when _ _ (omega arith) _ _ _ _ _ _ (c .rows3 .ensures .1))
 
 pub narrow-rows-spec : {M : Type 1} → statement M
-narrow-rows-spec =
-    tie.close
-    (tie.spec
-    rows-requires
-    returns
-    rows-requires-2
-    returns-2
-    rows-requires-3
-    returns-3)
+narrow-rows-spec = tie.close (tie.spec rows-requires returns rows-requires-2 returns-2 rows-requires-3 returns-3)

@@ -1,6 +1,6 @@
 -- `block::fetch::row` meets its contract, by the direction.
 use Rattle.block.proofs.PlaceLaws.{row-ascends, row-descends-from, row-descends-by, fetch-when}
-use borrow.Author.Needs.{needs}
+use Rattle.word.proofs.Base.{needs}
 use Rattle.block.proofs.fetch.row.Statement.{statement}
 use Rattle.block.proofs.fetch.row.Tie as tie
 
@@ -18,11 +18,4 @@ returns-2 c = (search needs, search fetch-when)
 
 pub row-spec : {M : Type 1} → statement M
 row-spec =
-    tie.close
-    (tie.spec
-    (λ c. search needs)
-    row-up-requires
-    (λ c. search needs)
-    row-down-requires
-    returns
-    returns-2)
+    tie.close (tie.spec (λ c. search needs) row-up-requires (λ c. search needs) row-down-requires returns returns-2)

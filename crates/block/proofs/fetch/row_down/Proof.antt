@@ -1,14 +1,10 @@
 -- `block::fetch::row_down` meets its contract: each turn fetches one word more.
-use Prim.Native.Nat.{_-_, _≤_}
-use lib.ListN.{length}
-use mathlib.Core.Path.{_≡_}
-use native.Mathlib.Omega.{arith}
+use Rattle.word.proofs.Base.{_≡_, _-_, _≤_, arith, needs, length}
 use Rattle.word.specs.declared.types.Direction.the-variants.{Descending}
 use Rattle.block.specs.Inner.Each.{Laid}
 use Rattle.block.specs.Inner.Place.{fetchedIn}
 use Rattle.block.proofs.EachLaws.{laid-none, laid-fewer}
 use Rattle.block.proofs.PlaceLaws.{fetch-down-turn}
-use borrow.Author.Needs.{needs}
 use Rattle.block.proofs.fetch.row_down.Statement.{statement}
 use Rattle.block.proofs.fetch.row_down.Tie as tie
 
@@ -29,18 +25,6 @@ returns c = (search needs, laid-fewer _ _ _ _ _ _ (omega arith) (c .before .loop
 
 pub row-down-spec : {M : Type 1} → statement M
 row-down-spec =
-    tie.close
-    (tie.spec
-    Inv-loop
-    μ-loop
-    loop-holds
-    (λ c. search needs)
-    (λ c. search needs)
-    (λ c. search needs)
-    (λ c. search needs)
-    (λ c. search needs)
-    (λ c. search needs)
-    (λ c. search needs)
-    (λ c. search needs)
-    loop-again
+    tie.close (tie.spec Inv-loop μ-loop loop-holds (λ c. search needs) (λ c. search needs) (λ c. search needs)
+    (λ c. search needs) (λ c. search needs) (λ c. search needs) (λ c. search needs) (λ c. search needs) loop-again
     returns)

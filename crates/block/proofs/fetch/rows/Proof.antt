@@ -1,14 +1,10 @@
 -- `block::fetch::rows` meets its contract, row by row.
-use Prim.Native.Nat.{_-_, _≤_, _<_, _*_}
-use lib.ListN.{length}
-use mathlib.Core.Path.{_≡_, refl}
-use native.Mathlib.Omega.{arith}
+use Rattle.word.proofs.Base.{_≡_, refl, _-_, _*_, _<_, _≤_, arith, needs, length}
 use Rattle.word.specs.Pointer.{pointerEnd}
 use Rattle.block.specs.Inner.Each.{Each}
 use Rattle.block.specs.Inner.Place.{rowAt, fetchedAt}
 use Rattle.block.proofs.EachLaws.{each-none, s-room, s-next, each-fewer, s-done}
 use Rattle.block.proofs.PlaceLaws.{rowAt-first, even-row, rowAt-next, fetch-rows-turn}
-use borrow.Author.Needs.{needs}
 use Rattle.block.proofs.fetch.rows.Statement.{statement}
 use Rattle.block.proofs.fetch.rows.Tie as tie
 
@@ -35,15 +31,5 @@ returns c = (search needs, each-fewer _ _ _ _ (omega (arith, s-done _ _ _ _ (c .
 
 pub rows-spec : {M : Type 1} → statement M
 rows-spec =
-    tie.close
-    (tie.spec
-    Inv-loop
-    μ-loop
-    loop-holds
-    row-requires
-    (λ c. search needs)
-    add-s
-    (λ c. search needs)
-    (λ c. search needs)
-    loop-again
-    returns)
+    tie.close (tie.spec Inv-loop μ-loop loop-holds row-requires (λ c. search needs) add-s (λ c. search needs)
+    (λ c. search needs) loop-again returns)

@@ -1,13 +1,9 @@
 -- `block::fill::carry_row` meets its contract: what turns a word over is the carry that comes to it.
-use Prim.Native.Nat.{_-_, _≤_, _+_}
-use lib.ListN.{length}
-use mathlib.Core.Path.{_≡_}
-use native.Mathlib.Omega.{arith}
+use Rattle.word.proofs.Base.{_≡_, _+_, _-_, _≤_, arith, needs, length}
 use Rattle.block.specs.Inner.Carry.{RowFilled}
 use Rattle.block.specs.Inner.Each.{Kept}
 use Rattle.block.proofs.CarryLaws.{row-filled-none, row-filled-turn, row-filled-done}
 use Rattle.block.proofs.EachLaws.{kept-all, kept-next, kept-fewer}
-use borrow.Author.Needs.{needs}
 use Rattle.block.proofs.fill.carry_row.Statement.{statement}
 use Rattle.block.proofs.fill.carry_row.Tie as tie
 
@@ -28,21 +24,6 @@ returns c = (search needs, kept-fewer _ _ _ _ (omega arith) (c .before .loop .in
 
 pub carry-row-spec : {M : Type 1} → statement M
 carry-row-spec =
-    tie.close
-    (tie.spec
-    Inv-loop
-    μ-loop
-    (λ c. search needs)
-    loop-holds
-    (λ c. search needs)
-    (λ c. search needs)
-    (λ c. search needs)
-    (λ c κs. search needs)
-    (λ c. search needs)
-    (λ c. search needs)
-    (λ c. search needs)
-    (λ c κs. search needs)
-    (λ c. search needs)
-    (λ c. search needs)
-    loop-again
-    returns)
+    tie.close (tie.spec Inv-loop μ-loop (λ c. search needs) loop-holds (λ c. search needs) (λ c. search needs)
+    (λ c. search needs) (λ c κs. search needs) (λ c. search needs) (λ c. search needs) (λ c. search needs)
+    (λ c κs. search needs) (λ c. search needs) (λ c. search needs) loop-again returns)

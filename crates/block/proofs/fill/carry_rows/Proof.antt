@@ -1,13 +1,9 @@
 -- `block::fill::carry_rows` meets its contract, row by row.
-use Prim.Native.Nat.{_-_, _≤_, _*_}
-use lib.ListN.{length}
-use mathlib.Core.Path.{_≡_}
-use native.Mathlib.Omega.{arith}
+use Rattle.word.proofs.Base.{_≡_, _-_, _*_, _≤_, arith, needs, length}
 use Rattle.block.specs.Inner.Carry.{RowsFilled}
 use Rattle.block.specs.Inner.Each.{Kept}
 use Rattle.block.proofs.CarryLaws.{rows-filled-none, rows-filled-turn, rows-filled-done}
 use Rattle.block.proofs.EachLaws.{kept-all, s-room, s-next, kept-over, s-most, s-done}
-use borrow.Author.Needs.{needs}
 use Rattle.block.proofs.fill.carry_rows.Statement.{statement}
 use Rattle.block.proofs.fill.carry_rows.Tie as tie
 
@@ -41,14 +37,5 @@ returns c = (search needs, rows-filled-done _ _ _ _ _ _ _ (s-done _ _ _ _ (c .be
 
 pub carry-rows-spec : {M : Type 1} → statement M
 carry-rows-spec =
-    tie.close
-    (tie.spec
-    Inv-loop
-    μ-loop
-    loop-holds
-    carry-row-requires
-    add-s
-    (λ c. search needs)
-    (λ c. search needs)
-    loop-again
-    returns)
+    tie.close (tie.spec Inv-loop μ-loop loop-holds carry-row-requires add-s (λ c. search needs) (λ c. search needs)
+    loop-again returns)

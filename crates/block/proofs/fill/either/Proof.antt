@@ -1,14 +1,8 @@
 -- `block::fill::either` meets its contract: each turn joins one word more.
-use Prim.Native.Nat.{_-_, ℕ, _<_, _+_, _≤_}
-use lib.Bits.{bitOr}
-use lib.ListN.{length, set, getD}
-use mathlib.Core.List.{List}
-use mathlib.Core.Path.{ap, _≡_}
-use native.Mathlib.Omega.{arith}
+use Rattle.word.proofs.Base.{_≡_, ap, ℕ, _+_, _-_, _<_, _≤_, arith, needs, List, length, getD, set, bitOr}
 use Rattle.area.specs.Rows.{words}
 use Rattle.block.specs.Inner.Each.{Kept, Each, eitherAt, at}
 use Rattle.block.proofs.EachLaws.{each-turn, kept-here, kept-all, each-none, kept-turn, each-fewer}
-use borrow.Author.Needs.{needs}
 use Rattle.block.proofs.fill.either.Statement.{statement}
 use Rattle.block.proofs.fill.either.Tie as tie
 
@@ -35,18 +29,6 @@ returns c = (search needs, each-fewer _ _ _ _ (omega arith) (c .before .loop .in
 
 pub either-spec : {M : Type 1} → statement M
 either-spec =
-    tie.close
-    (tie.spec
-    Inv-loop
-    μ-loop
-    loop-holds
-    (λ c. search needs)
-    (λ c. search needs)
-    (λ c. search needs)
-    (λ c. search needs)
-    (λ c. search needs)
-    (λ c. search needs)
-    (λ c. search needs)
-    (λ c. search needs)
-    loop-again
+    tie.close (tie.spec Inv-loop μ-loop loop-holds (λ c. search needs) (λ c. search needs) (λ c. search needs)
+    (λ c. search needs) (λ c. search needs) (λ c. search needs) (λ c. search needs) (λ c. search needs) loop-again
     returns)

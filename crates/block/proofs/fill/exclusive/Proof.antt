@@ -1,8 +1,7 @@
 -- `block::fill::exclusive` meets its contract: prefixes, then carries.
-use native.Mathlib.Omega.{arith}
+use Rattle.word.proofs.Base.{arith, needs}
 use Rattle.block.proofs.EachLaws.{each-fewer}
 use Rattle.block.proofs.FillLaws.{exclusive-words, exclusive-carry}
-use borrow.Author.Needs.{needs}
 use Rattle.block.proofs.fill.exclusive.Statement.{statement}
 use Rattle.block.proofs.fill.exclusive.Tie as tie
 
@@ -18,12 +17,5 @@ returns c =
 
 pub exclusive-spec : {M : Type 1} → statement M
 exclusive-spec =
-    tie.close
-    (tie.spec
-    (λ c κs. search needs)
-    (λ c. search needs)
-    (λ c. search needs)
-    (λ c. search needs)
-    (λ c κs. search needs)
-    (λ c κs. search needs)
-    returns)
+    tie.close (tie.spec (λ c κs. search needs) (λ c. search needs) (λ c. search needs) (λ c. search needs)
+    (λ c κs. search needs) (λ c κs. search needs) returns)

@@ -1,6 +1,6 @@
 -- `block::fill::fill` meets its contract, by the kind of fill.
 use Rattle.block.proofs.FillLaws.{fill-of-off, carry-of-off, fill-of-inclusive, carry-of-inclusive, fill-of-exclusive, carry-of-exclusive}
-use borrow.Author.Needs.{needs}
+use Rattle.word.proofs.Base.{needs}
 use Rattle.block.proofs.fill.fill.Statement.{statement}
 use Rattle.block.proofs.fill.fill.Tie as tie
 
@@ -19,17 +19,6 @@ returns-3 c =
 
 pub fill-spec : {M : Type 1} → statement M
 fill-spec =
-    tie.close
-    (tie.spec
-    (λ c. search needs)
-    (λ c. search needs)
-    (λ c κs. search needs)
-    (λ c. search needs)
-    (λ c κs. search needs)
-    (λ c. search needs)
-    (λ c κs. search needs)
-    (λ c. search needs)
-    (λ c κs. search needs)
-    returns
-    returns-2
-    returns-3)
+    tie.close (tie.spec (λ c. search needs) (λ c. search needs) (λ c κs. search needs) (λ c. search needs)
+    (λ c κs. search needs) (λ c. search needs) (λ c κs. search needs) (λ c. search needs) (λ c κs. search needs) returns
+    returns-2 returns-3)

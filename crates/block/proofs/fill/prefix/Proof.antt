@@ -1,6 +1,6 @@
 -- `block::fill::prefix` meets its contract: an exclusive fill from nought.
 use Rattle.block.proofs.CarryLaws.{prefix-of-filled}
-use borrow.Author.Needs.{needs}
+use Rattle.word.proofs.Base.{needs}
 use Rattle.block.proofs.fill.prefix.Statement.{statement}
 use Rattle.block.proofs.fill.prefix.Tie as tie
 

@@ -1,13 +1,9 @@
 -- `block::fill::prefixes` meets its contract: each turn fills one word more.
-use Prim.Native.Nat.{_-_, ℕ, _<_, _+_, _≤_}
-use lib.ListN.{length, getD, set}
-use mathlib.Core.List.{List}
-use mathlib.Core.Path.{_≡_}
+use Rattle.word.proofs.Base.{_≡_, ℕ, _+_, _-_, _<_, _≤_, needs, List, length, getD, set}
 use Rattle.word.specs.Fill.{exclusive}
 use Rattle.area.specs.Rows.{words}
 use Rattle.block.specs.Inner.Each.{Each, prefixAt, at}
 use Rattle.block.proofs.EachLaws.{each-turn, each-none, each-fewer}
-use borrow.Author.Needs.{needs}
 use Rattle.block.proofs.fill.prefixes.Statement.{statement}
 use Rattle.block.proofs.fill.prefixes.Tie as tie
 
@@ -33,17 +29,5 @@ returns c = (search needs, search (needs, each-fewer))
 
 pub prefixes-spec : {M : Type 1} → statement M
 prefixes-spec =
-    tie.close
-    (tie.spec
-    Inv-loop
-    μ-loop
-    loop-holds
-    (λ c. search needs)
-    (λ c. search needs)
-    (λ c κs. search needs)
-    (λ c. search needs)
-    (λ c. search needs)
-    (λ c. search needs)
-    (λ c. search needs)
-    loop-again
-    returns)
+    tie.close (tie.spec Inv-loop μ-loop loop-holds (λ c. search needs) (λ c. search needs) (λ c κs. search needs)
+    (λ c. search needs) (λ c. search needs) (λ c. search needs) (λ c. search needs) loop-again returns)

@@ -1,10 +1,7 @@
 -- `block::level::any` meets its contract: the OR of words is nought where each is.
-use Prim.Native.Nat.{_-_, _≤_}
-use lib.Dec.{eqb}
-use mathlib.Core.Path.{_≡_}
+use Rattle.word.proofs.Base.{_≡_, _-_, _≤_, eqb, needs}
 use Rattle.block.specs.Inner.Each.{nought, at}
 use Rattle.block.proofs.EachLaws.{nought-none, nought-turn, nought-done}
-use borrow.Author.Needs.{needs}
 use Rattle.block.proofs.level.any.Statement.{statement}
 use Rattle.block.proofs.level.any.Tie as tie
 
@@ -25,14 +22,5 @@ returns c = search (needs, nought-done)
 
 pub any-spec : {M : Type 1} → statement M
 any-spec =
-    tie.close
-    (tie.spec
-    Inv-loop
-    μ-loop
-    loop-holds
-    (λ c. search needs)
-    (λ c. search needs)
-    (λ c. search needs)
-    (λ c. search needs)
-    loop-again
-    returns)
+    tie.close (tie.spec Inv-loop μ-loop loop-holds (λ c. search needs) (λ c. search needs) (λ c. search needs)
+    (λ c. search needs) loop-again returns)

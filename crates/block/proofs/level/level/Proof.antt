@@ -1,13 +1,9 @@
 -- `block::level::level` meets its contract: each turn lays the word once more.
-use Prim.Native.Nat.{_-_, ℕ, _<_, _+_, _≤_}
-use lib.ListN.{length, set}
-use mathlib.Core.List.{List}
-use mathlib.Core.Path.{refl, _≡_}
+use Rattle.word.proofs.Base.{_≡_, refl, ℕ, _+_, _-_, _<_, _≤_, needs, List, length, set}
 use Rattle.word.specs.Word.{word}
 use Rattle.area.specs.Rows.{words}
 use Rattle.block.specs.Inner.Each.{Each, levelAt}
 use Rattle.block.proofs.EachLaws.{each-turn, each-none, each-fewer}
-use borrow.Author.Needs.{needs}
 use Rattle.block.proofs.level.level.Statement.{statement}
 use Rattle.block.proofs.level.level.Tie as tie
 
@@ -32,14 +28,5 @@ returns c = (search needs, search (needs, each-fewer))
 
 pub level-spec : {M : Type 1} → statement M
 level-spec =
-    tie.close
-    (tie.spec
-    Inv-loop
-    μ-loop
-    loop-holds
-    (λ c. search needs)
-    (λ c. search needs)
-    (λ c. search needs)
-    (λ c. search needs)
-    loop-again
-    returns)
+    tie.close (tie.spec Inv-loop μ-loop loop-holds (λ c. search needs) (λ c. search needs) (λ c. search needs)
+    (λ c. search needs) loop-again returns)

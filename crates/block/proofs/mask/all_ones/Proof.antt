@@ -1,8 +1,6 @@
 -- `block::mask::all_ones` meets its contract.
-use mathlib.Core.Path.{sym}
+use Rattle.word.proofs.Base.{sym, eqb-true, needs}
 use Rattle.block.proofs.EachLaws.{never}
-use borrow.Author.Needs.{needs}
-use borrow.Author.Tests.{eqb-true}
 use Rattle.block.proofs.mask.all_ones.Statement.{statement}
 use Rattle.block.proofs.mask.all_ones.Tie as tie
 

@@ -1,6 +1,6 @@
 -- `block::mask::mask` meets its contract: masks of all ones leave every word.
 use Rattle.block.proofs.MaskLaws.{masked-all-ones}
-use borrow.Author.Needs.{needs}
+use Rattle.word.proofs.Base.{needs}
 use Rattle.block.proofs.mask.mask.Statement.{statement}
 use Rattle.block.proofs.mask.mask.Tie as tie
 
@@ -9,10 +9,5 @@ returns c = (search needs, masked-all-ones _ _ _ _ (c .before .before .before .b
 
 pub mask-spec : {M : Type 1} → statement M
 mask-spec =
-    tie.close
-    (tie.spec
-    (λ c κs. search needs)
-    (λ c κs. search needs)
-    returns
-    (λ c κs. search needs)
+    tie.close (tie.spec (λ c κs. search needs) (λ c κs. search needs) returns (λ c κs. search needs)
     (λ c. search needs))

@@ -1,7 +1,6 @@
 -- `block::mask::mask_row` meets its contract.
-use mathlib.Core.Path.{refl}
+use Rattle.word.proofs.Base.{refl, needs}
 use Rattle.block.specs.Inner.Each.{maskedIn}
-use borrow.Author.Needs.{needs}
 use Rattle.block.proofs.mask.mask_row.Statement.{statement}
 use Rattle.block.proofs.mask.mask_row.Tie as tie
 
@@ -11,16 +10,6 @@ returns c = (search needs, refl)
 
 pub mask-row-spec : {M : Type 1} → statement M
 mask-row-spec =
-    tie.close
-    (tie.spec
-    (λ c. search needs)
-    (λ c. search needs)
-    (λ c. search needs)
-    (λ c. search needs)
-    (λ c. search needs)
-    (λ c. search needs)
-    (λ c. search needs)
-    (λ c. search needs)
-    (λ c. search needs)
-    (λ c. search needs)
-    returns)
+    tie.close (tie.spec (λ c. search needs) (λ c. search needs) (λ c. search needs) (λ c. search needs)
+    (λ c. search needs) (λ c. search needs) (λ c. search needs) (λ c. search needs) (λ c. search needs)
+    (λ c. search needs) returns)

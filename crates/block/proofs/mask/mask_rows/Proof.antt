@@ -1,13 +1,9 @@
 -- `block::mask::mask_rows` meets its contract: two words of a row are masked, the others are the same.
-use Prim.Native.Nat.{_-_, _≤_, _*_}
-use lib.ListN.{length}
-use mathlib.Core.Path.{_≡_}
-use native.Mathlib.Omega.{arith}
+use Rattle.word.proofs.Base.{_≡_, _-_, _*_, _≤_, arith, needs, length}
 use Rattle.quiet.specs.Words.{maskedAt}
 use Rattle.block.specs.Inner.Each.{Kept, Each, at}
 use Rattle.block.proofs.EachLaws.{kept-all, each-none, s-room, s-next, each-fewer, s-done}
 use Rattle.block.proofs.MaskLaws.{mask-row-kept, mask-row-turn}
-use borrow.Author.Needs.{needs}
 use Rattle.block.proofs.mask.mask_rows.Statement.{statement}
 use Rattle.block.proofs.mask.mask_rows.Tie as tie
 
@@ -42,14 +38,5 @@ returns c = (search needs, each-fewer _ _ _ _ (omega (arith, s-done _ _ _ _ (c .
 
 pub mask-rows-spec : {M : Type 1} → statement M
 mask-rows-spec =
-    tie.close
-    (tie.spec
-    Inv-loop
-    μ-loop
-    loop-holds
-    mask-row-requires
-    add-s
-    (λ c. search needs)
-    (λ c. search needs)
-    loop-again
-    returns)
+    tie.close (tie.spec Inv-loop μ-loop loop-holds mask-row-requires add-s (λ c. search needs) (λ c. search needs)
+    loop-again returns)

@@ -1,5 +1,5 @@
 -- `block::mix::joined` meets its contract: it is the definition's sum.
-use mathlib.Core.Path.{refl}
+use Rattle.word.proofs.Base.{refl}
 use Rattle.block.specs.Inner.Terms.{joined}
 use Rattle.block.proofs.mix.joined.Statement.{statement}
 use Rattle.block.proofs.mix.joined.Tie as tie

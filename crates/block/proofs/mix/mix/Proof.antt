@@ -1,6 +1,6 @@
 -- `block::mix::mix` meets its contract: a source that is ignored may be any word.
 use Rattle.block.proofs.MixLaws.{mix-of-three, mix-of-a, mix-of-c, no-b, no-c}
-use borrow.Author.Needs.{needs}
+use Rattle.word.proofs.Base.{needs}
 use Rattle.block.proofs.mix.mix.Statement.{statement}
 use Rattle.block.proofs.mix.mix.Tie as tie
 
@@ -23,4 +23,6 @@ returns-3 c =
     )
 
 pub mix-spec : {M : Type 1} → statement M
-mix-spec = tie.close (tie.spec (λ c κs. search needs) (λ c κs. search needs) returns (λ c κs. search needs) returns-2 (λ c κs. search needs) returns-3)
+mix-spec =
+    tie.close (tie.spec (λ c κs. search needs) (λ c κs. search needs) returns (λ c κs. search needs) returns-2
+    (λ c κs. search needs) returns-3)

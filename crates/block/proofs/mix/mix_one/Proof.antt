@@ -1,13 +1,8 @@
 -- `block::mix::mix_one` meets its contract: each turn turns one word more.
-use Prim.Native.Nat.{_-_, ℕ, _<_, _+_, _≤_}
-use lib.Bits.{bitXor, bitAnd}
-use lib.ListN.{length, set, getD}
-use mathlib.Core.List.{List}
-use mathlib.Core.Path.{refl, _≡_}
+use Rattle.word.proofs.Base.{_≡_, refl, ℕ, _+_, _-_, _<_, _≤_, needs, List, length, getD, set, bitAnd, bitXor}
 use Rattle.area.specs.Rows.{words}
 use Rattle.block.specs.Inner.Each.{Each, turnedAt, at}
 use Rattle.block.proofs.EachLaws.{each-turn, each-none, each-fewer}
-use borrow.Author.Needs.{needs}
 use Rattle.block.proofs.mix.mix_one.Statement.{statement}
 use Rattle.block.proofs.mix.mix_one.Tie as tie
 
@@ -33,16 +28,5 @@ returns c = (search needs, search (needs, each-fewer))
 
 pub mix-one-spec : {M : Type 1} → statement M
 mix-one-spec =
-    tie.close
-    (tie.spec
-    Inv-loop
-    μ-loop
-    loop-holds
-    (λ c. search needs)
-    (λ c. search needs)
-    (λ c. search needs)
-    (λ c. search needs)
-    (λ c. search needs)
-    (λ c. search needs)
-    loop-again
-    returns)
+    tie.close (tie.spec Inv-loop μ-loop loop-holds (λ c. search needs) (λ c. search needs) (λ c. search needs)
+    (λ c. search needs) (λ c. search needs) (λ c. search needs) loop-again returns)

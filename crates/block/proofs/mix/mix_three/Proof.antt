@@ -1,14 +1,9 @@
 -- `block::mix::mix_three` meets its contract: each turn mixes one word more, in its place.
-use Prim.Native.Nat.{_-_, ℕ, _<_, _+_, _≤_}
-use lib.ListN.{length, getD, set}
-use mathlib.Core.List.{List}
-use mathlib.Core.Path.{_≡_, ap, _∙_}
-use native.Mathlib.Omega.{arith}
+use Rattle.word.proofs.Base.{_≡_, ap, _∙_, ℕ, _+_, _-_, _<_, _≤_, arith, needs, List, length, getD, set}
 use Rattle.block.specs.declared.types.Terms.{Terms}
 use Rattle.block.specs.Inner.Each.{Kept, Each, at}
 use Rattle.block.specs.Inner.Terms.{joined, joinedAt}
 use Rattle.block.proofs.EachLaws.{each-turn, kept-here, kept-all, each-none, kept-turn, each-fewer}
-use borrow.Author.Needs.{needs}
 use Rattle.block.proofs.mix.mix_three.Statement.{statement}
 use Rattle.block.proofs.mix.mix_three.Tie as tie
 
@@ -36,21 +31,6 @@ returns c = (search needs, each-fewer _ _ _ _ (omega arith) (c .before .loop .in
 
 pub mix-three-spec : {M : Type 1} → statement M
 mix-three-spec =
-    tie.close
-    (tie.spec
-    Inv-loop
-    μ-loop
-    loop-holds
-    (λ c. search needs)
-    (λ c. search needs)
-    (λ c. search needs)
-    (λ c. search needs)
-    (λ c. search needs)
-    (λ c. search needs)
-    (λ c κs. search needs)
-    (λ c. search needs)
-    (λ c. search needs)
-    (λ c. search needs)
-    (λ c. search needs)
-    loop-again
-    returns)
+    tie.close (tie.spec Inv-loop μ-loop loop-holds (λ c. search needs) (λ c. search needs) (λ c. search needs)
+    (λ c. search needs) (λ c. search needs) (λ c. search needs) (λ c κs. search needs) (λ c. search needs)
+    (λ c. search needs) (λ c. search needs) (λ c. search needs) loop-again returns)

@@ -1,7 +1,6 @@
 -- `block::mix::terms` meets its contract: its sums are the definition's.
-use mathlib.Core.Path.{refl}
+use Rattle.word.proofs.Base.{refl, needs}
 use Rattle.block.specs.Inner.Terms.{terms}
-use borrow.Author.Needs.{needs}
 use Rattle.block.proofs.mix.terms.Statement.{statement}
 use Rattle.block.proofs.mix.terms.Tie as tie
 
@@ -10,4 +9,6 @@ unfolding terms
 returns c = refl
 
 pub terms-spec : {M : Type 1} → statement M
-terms-spec = tie.close (tie.spec (λ c. search needs) (λ c. search needs) (λ c. search needs) (λ c. search needs) (λ c. search needs) (λ c. search needs) (λ c. search needs) (λ c. search needs) returns)
+terms-spec =
+    tie.close (tie.spec (λ c. search needs) (λ c. search needs) (λ c. search needs) (λ c. search needs)
+    (λ c. search needs) (λ c. search needs) (λ c. search needs) (λ c. search needs) returns)

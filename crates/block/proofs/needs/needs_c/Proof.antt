@@ -1,6 +1,5 @@
 -- `block::needs::needs_c` meets its contract: four pairs of bits are alike.
-use mathlib.Core.Path.{refl}
-use native.Mathlib.Omega.{arith}
+use Rattle.word.proofs.Base.{refl, arith}
 use Rattle.block.proofs.EachLaws.{never}
 use Rattle.block.proofs.IgnoresLaws.{alike, ignores-c}
 use Rattle.block.proofs.needs.needs_c.Statement.{statement}

@@ -1,12 +1,8 @@
 -- `block::shift::copied` meets its contract: each turn copies one word more.
-use Prim.Native.Nat.{_-_, ℕ, _<_, _+_, _≤_}
-use lib.ListN.{length, set, getD}
-use mathlib.Core.List.{List}
-use mathlib.Core.Path.{refl, _≡_}
+use Rattle.word.proofs.Base.{_≡_, refl, ℕ, _+_, _-_, _<_, _≤_, needs, List, length, getD, set}
 use Rattle.area.specs.Rows.{words}
 use Rattle.block.specs.Inner.Each.{Each, at}
 use Rattle.block.proofs.EachLaws.{each-turn, each-none, each-fewer}
-use borrow.Author.Needs.{needs}
 use Rattle.block.proofs.shift.copied.Statement.{statement}
 use Rattle.block.proofs.shift.copied.Tie as tie
 
@@ -31,16 +27,5 @@ returns c = (search needs, search (needs, each-fewer))
 
 pub copied-spec : {M : Type 1} → statement M
 copied-spec =
-    tie.close
-    (tie.spec
-    Inv-loop
-    μ-loop
-    loop-holds
-    (λ c. search needs)
-    (λ c. search needs)
-    (λ c. search needs)
-    (λ c. search needs)
-    (λ c. search needs)
-    (λ c. search needs)
-    loop-again
-    returns)
+    tie.close (tie.spec Inv-loop μ-loop loop-holds (λ c. search needs) (λ c. search needs) (λ c. search needs)
+    (λ c. search needs) (λ c. search needs) (λ c. search needs) loop-again returns)

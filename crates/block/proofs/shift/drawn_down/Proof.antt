@@ -1,7 +1,6 @@
 -- `block::shift::drawn_down` meets its contract: the pair's bits, each from its word.
-use native.Mathlib.Omega.{arith}
+use Rattle.word.proofs.Base.{arith, needs}
 use Rattle.block.proofs.ShiftLaws.{drawn-down-is}
-use borrow.Author.Needs.{needs}
 use Rattle.block.proofs.shift.drawn_down.Statement.{statement}
 use Rattle.block.proofs.shift.drawn_down.Tie as tie
 
@@ -13,12 +12,5 @@ returns c = drawn-down-is _ _ _ (c .pre) (search needs) (search needs)
 
 pub drawn-down-spec : {M : Type 1} → statement M
 drawn-down-spec =
-    tie.close
-    (tie.spec
-    (λ c. search needs)
-    (λ c. search needs)
-    (λ c. search needs)
-    (λ c. search needs)
-    (λ c. search needs)
-    add-result
-    returns)
+    tie.close (tie.spec (λ c. search needs) (λ c. search needs) (λ c. search needs) (λ c. search needs)
+    (λ c. search needs) add-result returns)

@@ -1,7 +1,6 @@
 -- `block::shift::drawn_up` meets its contract: the pair's bits, each from its word.
-use native.Mathlib.Omega.{arith}
+use Rattle.word.proofs.Base.{arith, needs}
 use Rattle.block.proofs.ShiftLaws.{drawn-up-is}
-use borrow.Author.Needs.{needs}
 use Rattle.block.proofs.shift.drawn_up.Statement.{statement}
 use Rattle.block.proofs.shift.drawn_up.Tie as tie
 
@@ -13,12 +12,5 @@ returns c = drawn-up-is _ _ _ (c .pre) (search needs) (search needs)
 
 pub drawn-up-spec : {M : Type 1} → statement M
 drawn-up-spec =
-    tie.close
-    (tie.spec
-    (λ c. search needs)
-    (λ c. search needs)
-    (λ c. search needs)
-    (λ c. search needs)
-    (λ c. search needs)
-    add-result
-    returns)
+    tie.close (tie.spec (λ c. search needs) (λ c. search needs) (λ c. search needs) (λ c. search needs)
+    (λ c. search needs) add-result returns)

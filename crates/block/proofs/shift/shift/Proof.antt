@@ -1,6 +1,6 @@
 -- `block::shift::shift` meets its contract: by nought the words themselves, else by the direction.
 use Rattle.block.proofs.ShiftLaws.{shift-of-nought, shift-when}
-use borrow.Author.Needs.{needs}
+use Rattle.word.proofs.Base.{needs}
 use Rattle.block.proofs.shift.shift.Statement.{statement}
 use Rattle.block.proofs.shift.shift.Tie as tie
 
@@ -15,14 +15,5 @@ returns-3 c = (search needs, search shift-when)
 
 pub shift-spec : {M : Type 1} → statement M
 shift-spec =
-    tie.close
-    (tie.spec
-    (λ c. search needs)
-    (λ c κs. search needs)
-    returns
-    (λ c. search needs)
-    (λ c κs. search needs)
-    (λ c. search needs)
-    (λ c κs. search needs)
-    returns-2
-    returns-3)
+    tie.close (tie.spec (λ c. search needs) (λ c κs. search needs) returns (λ c. search needs) (λ c κs. search needs)
+    (λ c. search needs) (λ c κs. search needs) returns-2 returns-3)

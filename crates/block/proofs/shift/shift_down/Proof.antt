@@ -1,14 +1,10 @@
 -- `block::shift::shift_down` meets its contract: the first word with the one before the block, each other with the one before it.
-use Prim.Native.Nat.{_-_, _≤_, _+_}
-use lib.ListN.{length}
-use mathlib.Core.Path.{_≡_}
-use native.Mathlib.Omega.{arith}
+use Rattle.word.proofs.Base.{_≡_, _+_, _-_, _≤_, arith, needs, length}
 use Rattle.word.specs.declared.types.Direction.the-variants.{Descending}
 use Rattle.quiet.specs.Words.{shiftedAt}
 use Rattle.block.specs.Inner.Each.{Each, at}
 use Rattle.block.proofs.EachLaws.{each-fewer}
 use Rattle.block.proofs.ShiftLaws.{shift-first, shift-turn}
-use borrow.Author.Needs.{needs}
 use Rattle.block.proofs.shift.shift_down.Statement.{statement}
 use Rattle.block.proofs.shift.shift_down.Tie as tie
 
@@ -29,24 +25,7 @@ returns c = (search needs, each-fewer _ _ _ _ (omega arith) (c .before .loop .in
 
 pub shift-down-spec : {M : Type 1} → statement M
 shift-down-spec =
-    tie.close
-    (tie.spec
-    Inv-loop
-    μ-loop
-    (λ c. search needs)
-    (λ c κs. search needs)
-    (λ c. search needs)
-    loop-holds
-    (λ c. search needs)
-    (λ c. search needs)
-    (λ c. search needs)
-    (λ c. search needs)
-    (λ c. search needs)
-    (λ c κs. search needs)
-    (λ c. search needs)
-    (λ c. search needs)
-    (λ c. search needs)
-    (λ c. search needs)
-    (λ c. search needs)
-    loop-again
-    returns)
+    tie.close (tie.spec Inv-loop μ-loop (λ c. search needs) (λ c κs. search needs) (λ c. search needs) loop-holds
+    (λ c. search needs) (λ c. search needs) (λ c. search needs) (λ c. search needs) (λ c. search needs)
+    (λ c κs. search needs) (λ c. search needs) (λ c. search needs) (λ c. search needs) (λ c. search needs)
+    (λ c. search needs) loop-again returns)

@@ -1,7 +1,6 @@
 -- `block::store::narrow_rows` meets its contract: the width is one, two or three.
-use native.Mathlib.Omega.{arith}
+use Rattle.word.proofs.Base.{arith, needs}
 use Rattle.block.proofs.PlaceLaws.{even-when, room-when, store-rows-when}
-use borrow.Author.Needs.{needs}
 use Rattle.block.proofs.store.narrow_rows.Statement.{statement}
 use Rattle.block.proofs.store.narrow_rows.Tie as tie
 
@@ -26,14 +25,5 @@ returns-3 c = store-rows-when _ _ (omega arith) _ _ _ _ _ _ _ (c .before .before
 
 pub narrow-rows-spec : {M : Type 1} → statement M
 narrow-rows-spec =
-    tie.close
-    (tie.spec
-    rows-requires
-    (λ c. search needs)
-    returns
-    rows-requires-2
-    (λ c. search needs)
-    returns-2
-    rows-requires-3
-    (λ c. search needs)
-    returns-3)
+    tie.close (tie.spec rows-requires (λ c. search needs) returns rows-requires-2 (λ c. search needs) returns-2
+    rows-requires-3 (λ c. search needs) returns-3)

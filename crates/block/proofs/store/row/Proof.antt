@@ -1,6 +1,6 @@
 -- `block::store::row` meets its contract, by the direction.
 use Rattle.block.proofs.PlaceLaws.{row-ascends, row-descends-from, row-descends-by, store-when}
-use borrow.Author.Needs.{needs}
+use Rattle.word.proofs.Base.{needs}
 use Rattle.block.proofs.store.row.Statement.{statement}
 use Rattle.block.proofs.store.row.Tie as tie
 
@@ -18,13 +18,5 @@ returns-2 c = search store-when
 
 pub row-spec : {M : Type 1} → statement M
 row-spec =
-    tie.close
-    (tie.spec
-    (λ c. search needs)
-    row-up-requires
-    (λ c. search needs)
-    row-down-requires
-    (λ c. search needs)
-    returns
-    (λ c. search needs)
-    returns-2)
+    tie.close (tie.spec (λ c. search needs) row-up-requires (λ c. search needs) row-down-requires (λ c. search needs)
+    returns (λ c. search needs) returns-2)

@@ -1,14 +1,10 @@
 -- `block::store::row_up` meets its contract: each turn stores one word more.
-use Prim.Native.Nat.{_-_, _≤_}
-use lib.ListN.{length}
-use mathlib.Core.Path.{_≡_}
-use native.Mathlib.Omega.{arith}
+use Rattle.word.proofs.Base.{_≡_, _-_, _≤_, arith, needs, length}
 use Rattle.word.specs.declared.types.Direction.the-variants.{Ascending}
 use Rattle.quiet.specs.Stream.{laidAt}
 use Rattle.block.specs.Inner.Each.{fromAt}
 use Rattle.block.specs.Inner.Place.{placeIn}
 use Rattle.block.proofs.PlaceLaws.{laidAt-none, store-up-turn, laidAt-done}
-use borrow.Author.Needs.{needs}
 use Rattle.block.proofs.store.row_up.Statement.{statement}
 use Rattle.block.proofs.store.row_up.Tie as tie
 
@@ -29,19 +25,6 @@ returns c = laidAt-done _ _ _ _ _ _ (omega arith) (omega arith) (c .before .loop
 
 pub row-up-spec : {M : Type 1} → statement M
 row-up-spec =
-    tie.close
-    (tie.spec
-    Inv-loop
-    μ-loop
-    loop-holds
-    (λ c. search needs)
-    (λ c. search needs)
-    (λ c. search needs)
-    (λ c. search needs)
-    (λ c. search needs)
-    (λ c. search needs)
-    (λ c. search needs)
-    (λ c. search needs)
-    loop-again
-    (λ c. search needs)
-    returns)
+    tie.close (tie.spec Inv-loop μ-loop loop-holds (λ c. search needs) (λ c. search needs) (λ c. search needs)
+    (λ c. search needs) (λ c. search needs) (λ c. search needs) (λ c. search needs) (λ c. search needs) loop-again
+    (λ c. search needs) returns)

@@ -1,15 +1,11 @@
 -- `block::store::rows` meets its contract, row by row.
-use Prim.Native.Nat.{_-_, _≤_, _<_, _*_}
-use lib.ListN.{length}
-use mathlib.Core.Path.{_≡_}
-use native.Mathlib.Omega.{arith}
+use Rattle.word.proofs.Base.{_≡_, _-_, _*_, _<_, _≤_, arith, needs, length}
 use Rattle.word.specs.Pointer.{pointerEnd}
 use Rattle.quiet.specs.Stream.{laidAt}
 use Rattle.block.specs.Inner.Each.{at}
 use Rattle.block.specs.Inner.Place.{rowAt, placeAt}
 use Rattle.block.proofs.EachLaws.{s-room, s-next, s-done}
 use Rattle.block.proofs.PlaceLaws.{rowAt-first, laidAt-none, even-row, rowAt-next, store-rows-turn, laidAt-done}
-use borrow.Author.Needs.{needs}
 use Rattle.block.proofs.store.rows.Statement.{statement}
 use Rattle.block.proofs.store.rows.Tie as tie
 
@@ -36,16 +32,5 @@ returns c = laidAt-done _ _ _ _ _ _ (omega (arith, s-done _ _ _ _ (c .before .lo
 
 pub rows-spec : {M : Type 1} → statement M
 rows-spec =
-    tie.close
-    (tie.spec
-    Inv-loop
-    μ-loop
-    loop-holds
-    row-requires
-    (λ c. search needs)
-    add-s
-    (λ c. search needs)
-    (λ c. search needs)
-    loop-again
-    (λ c. search needs)
-    returns)
+    tie.close (tie.spec Inv-loop μ-loop loop-holds row-requires (λ c. search needs) add-s (λ c. search needs)
+    (λ c. search needs) loop-again (λ c. search needs) returns)

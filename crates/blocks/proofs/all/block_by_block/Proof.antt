@@ -1,14 +1,9 @@
 -- `blocks::all::block_by_block` meets its contract, block by block. The facts are named, for `search` reads too few.
-use Prim.Native.Nat.{_-_}
-use lib.ListN.{length}
-use mathlib.Core.Path.{_≡_, refl}
-use native.Mathlib.Nat.{mul-le-mul-right}
-use native.Mathlib.Omega.{arith}
+use Rattle.word.proofs.Base.{_≡_, refl, _-_, mul-le-mul-right, arith, needs, length}
 use Rattle.blocks.specs.Inner.Rests.{AllRest}
 use Rattle.blocks.specs.Inner.Repeats.{Repeating}
 use Rattle.blocks.proofs.RepeatsLaws.{repeating-starts, repeating-on, ready-of}
 use Rattle.blocks.proofs.RunningLaws.{Running, running-starts, placed-on, apart-on, one-word, few-rows, room-here, leaves-quietly, running-on, running-done}
-use borrow.Author.Needs.{needs}
 use Rattle.blocks.proofs.all.block_by_block.Statement.{statement}
 use Rattle.blocks.proofs.all.block_by_block.Tie as tie
 
@@ -71,17 +66,5 @@ returns c = running-done _ _ _ _ _ _ _ _ _ (omega arith) (c .before .loop .inv .
 
 pub block-by-block-spec : {M : Type 1} → statement M
 block-by-block-spec =
-    tie.close
-    (tie.spec
-    Inv-loop
-    μ-loop
-    loop-holds
-    (λ c. search needs)
-    (λ c κs. search needs)
-    (λ c κs. search needs)
-    one-block-requires
-    add-row
-    (λ c. search needs)
-    loop-again
-    (λ c. search needs)
-    returns)
+    tie.close (tie.spec Inv-loop μ-loop loop-holds (λ c. search needs) (λ c κs. search needs) (λ c κs. search needs)
+    one-block-requires add-row (λ c. search needs) loop-again (λ c. search needs) returns)

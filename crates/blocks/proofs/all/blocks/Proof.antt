@@ -1,6 +1,5 @@
 -- `blocks::all::blocks` meets its contract: the arrays of the sources at rest are laid, then the blocks run.
-use mathlib.Core.Path.{refl}
-use borrow.Author.Needs.{needs}
+use Rattle.word.proofs.Base.{refl, needs}
 use Rattle.blocks.proofs.all.blocks.Statement.{statement}
 use Rattle.blocks.proofs.all.blocks.Tie as tie
 
@@ -27,10 +26,4 @@ block-by-block-requires c κs =
     )
 
 pub blocks-spec : {M : Type 1} → statement M
-blocks-spec =
-    tie.close
-    (tie.spec
-    all-rest-requires
-    block-by-block-requires
-    (λ c. search needs)
-    (λ c. search needs))
+blocks-spec = tie.close (tie.spec all-rest-requires block-by-block-requires (λ c. search needs) (λ c. search needs))

@@ -1,15 +1,10 @@
 -- `blocks::all::repeats` meets its contract: no source is used, nothing is filled, and two blocks are done.
-use mathlib.Core.Path.{_≡_, sym}
-use Prim.Native.Nat.{ℕ, _<_}
-use mathlib.Core.Bool.{true, false, _||_}
-use borrow.Author.Tests.{ltb-true}
-use lib.Dec.{ltb}
+use Rattle.word.proofs.Base.{_≡_, sym, ℕ, _<_, true, false, _||_, ltb, ltb-true, needs}
 use Rattle.word.specs.declared.types.Fill.the-variants.{Off}
 use Rattle.word.proofs.ChoiceLaws.{or-left, or-right}
 use Rattle.area.specs.declared.types.Setup.{Setup}
 use Rattle.block.proofs.EachLaws.{never}
 use Rattle.blocks.specs.Inner.Repeats.{Still}
-use borrow.Author.Needs.{needs}
 use Rattle.blocks.proofs.all.repeats.Statement.{statement}
 use Rattle.blocks.proofs.all.repeats.Tie as tie
 
@@ -37,4 +32,6 @@ returns-4 : tie.Need-returns-4
 returns-4 c = λ told. never (sym told)
 
 pub repeats-spec : {M : Type 1} → statement M
-repeats-spec = tie.close (tie.spec returns (λ c. search needs) (λ c. search needs) (λ c. search needs) returns-2 returns-3 returns-4)
+repeats-spec =
+    tie.close (tie.spec returns (λ c. search needs) (λ c. search needs) (λ c. search needs) returns-2 returns-3
+    returns-4)

@@ -1,6 +1,6 @@
 -- `blocks::all::rest` meets its contract: the word laid 64 times.
 use Rattle.blocks.proofs.SuppliedLaws.{rests-not, rests-level}
-use borrow.Author.Needs.{needs}
+use Rattle.word.proofs.Base.{needs}
 use Rattle.blocks.proofs.all.rest.Statement.{statement}
 use Rattle.blocks.proofs.all.rest.Tie as tie
 

@@ -1,6 +1,6 @@
 -- `blocks::all::rest_a` meets its contract: the word laid 64 times, then masked in as many rows as fit.
 use Rattle.blocks.proofs.SuppliedLaws.{rests-not, rests-in-columns, rows-fit, rests-masked}
-use borrow.Author.Needs.{needs}
+use Rattle.word.proofs.Base.{needs}
 use Rattle.blocks.proofs.all.rest_a.Statement.{statement}
 use Rattle.blocks.proofs.all.rest_a.Tie as tie
 
@@ -18,12 +18,5 @@ returns-3 c = (search needs, rests-masked _ _ _ _ _ _ (c .before .before .before
 
 pub rest-a-spec : {M : Type 1} → statement M
 rest-a-spec =
-    tie.close
-    (tie.spec
-    returns
-    (λ c κs. search needs)
-    returns-2
-    (λ c κs. search needs)
-    (λ c. search needs)
-    mask-requires
-    returns-3)
+    tie.close (tie.spec returns (λ c κs. search needs) returns-2 (λ c κs. search needs) (λ c. search needs)
+    mask-requires returns-3)

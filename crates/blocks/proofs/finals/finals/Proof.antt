@@ -1,8 +1,7 @@
 -- `blocks::finals::finals` meets its contract: the results, then the fill.
-use mathlib.Core.Path.{refl}
+use Rattle.word.proofs.Base.{refl, needs}
 use Rattle.area.specs.Setup.{masks}
 use Rattle.blocks.proofs.FinalsLaws.{finals-are, finals-carry}
-use borrow.Author.Needs.{needs}
 use Rattle.blocks.proofs.finals.finals.Statement.{statement}
 use Rattle.blocks.proofs.finals.finals.Tie as tie
 
@@ -20,15 +19,5 @@ returns c =
 
 pub finals-spec : {M : Type 1} → statement M
 finals-spec =
-    tie.close
-    (tie.spec
-    (λ c. search needs)
-    (λ c κs. search needs)
-    (λ c κs. search needs)
-    (λ c. search needs)
-    (λ c. search needs)
-    (λ c. search needs)
-    (λ c. search needs)
-    (λ c. search needs)
-    (λ c. search needs)
-    returns)
+    tie.close (tie.spec (λ c. search needs) (λ c κs. search needs) (λ c κs. search needs) (λ c. search needs)
+    (λ c. search needs) (λ c. search needs) (λ c. search needs) (λ c. search needs) (λ c. search needs) returns)

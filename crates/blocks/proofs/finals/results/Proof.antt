@@ -1,7 +1,6 @@
 -- `blocks::finals::results` meets its contract: shifted where the function needs it, then mixed.
-use native.Mathlib.Omega.{arith}
+use Rattle.word.proofs.Base.{arith, needs}
 use Rattle.blocks.proofs.FinalsLaws.{results-are}
-use borrow.Author.Needs.{needs}
 use Rattle.blocks.proofs.finals.results.Statement.{statement}
 use Rattle.blocks.proofs.finals.results.Tie as tie
 
@@ -14,12 +13,5 @@ returns c = (
 
 pub results-spec : {M : Type 1} → statement M
 results-spec =
-    tie.close
-    (tie.spec
-    (λ c. search needs)
-    (λ c. search needs)
-    (λ c κs. search needs)
-    (λ c κs. search needs)
-    (λ c κs. search needs)
-    (λ c κs. search needs)
-    returns)
+    tie.close (tie.spec (λ c. search needs) (λ c. search needs) (λ c κs. search needs) (λ c κs. search needs)
+    (λ c κs. search needs) (λ c κs. search needs) returns)

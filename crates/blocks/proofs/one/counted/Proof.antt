@@ -1,6 +1,6 @@
 -- `blocks::one::counted` meets its contract: each word is counted if D is used.
 use Rattle.blocks.proofs.SuppliedLaws.{counted-used, counted-not}
-use borrow.Author.Needs.{needs}
+use Rattle.word.proofs.Base.{needs}
 use Rattle.blocks.proofs.one.counted.Statement.{statement}
 use Rattle.blocks.proofs.one.counted.Tie as tie
 

@@ -1,5 +1,5 @@
 -- `blocks::one::made` meets its contract: the words stand ready, or they are made. The facts are named, for `search` reads too few.
-use native.Mathlib.Omega.{arith}
+use Rattle.word.proofs.Base.{arith}
 use Rattle.blocks.proofs.BlockLaws.{rests-on}
 use Rattle.blocks.proofs.RepeatsLaws.{some-rows, finished-ready}
 use Rattle.blocks.proofs.one.made.Statement.{statement}
@@ -45,4 +45,5 @@ returns-2 c =
     )
 
 pub made-spec : {M : Type 1} → statement M
-made-spec = tie.close (tie.spec returns sources-requires finals-requires mul-still-nought still-nought-requires returns-2)
+made-spec =
+    tie.close (tie.spec returns sources-requires finals-requires mul-still-nought still-nought-requires returns-2)

@@ -1,10 +1,8 @@
 -- `blocks::one::one_block` meets its contract: its words are those of a quiet blit of its rows. The facts are named, for `search` reads too few.
-use mathlib.Core.Path.{refl}
-use native.Mathlib.Omega.{arith}
+use Rattle.word.proofs.Base.{refl, arith, needs}
 use Rattle.apart.proofs.PlacedLaws.{stride-lt}
 use Rattle.blocks.proofs.BlockLaws.{block-is}
 use Rattle.blocks.proofs.RepeatsLaws.{finished-still}
-use borrow.Author.Needs.{needs}
 use Rattle.blocks.proofs.one.one_block.Statement.{statement}
 use Rattle.blocks.proofs.one.one_block.Tie as tie
 
@@ -53,13 +51,5 @@ returns c =
 
 pub one-block-spec : {M : Type 1} → statement M
 one-block-spec =
-    tie.close
-    (tie.spec
-    made-requires
-    (λ c. search needs)
-    store-words-requires
-    pointers-on-requires
-    mul-counted
-    counted-requires
-    (λ c. search needs)
-    returns)
+    tie.close (tie.spec made-requires (λ c. search needs) store-words-requires pointers-on-requires mul-counted
+    counted-requires (λ c. search needs) returns)

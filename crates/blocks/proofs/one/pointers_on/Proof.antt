@@ -1,6 +1,5 @@
 -- `blocks::one::pointers_on` meets its contract, channel by channel.
-use mathlib.Core.Path.{refl}
-use borrow.Author.Needs.{needs}
+use Rattle.word.proofs.Base.{refl, needs}
 use Rattle.blocks.proofs.one.pointers_on.Statement.{statement}
 use Rattle.blocks.proofs.one.pointers_on.Tie as tie
 
@@ -9,10 +8,5 @@ returns c = rw (c .rows-on4 .ensures, c .before .rows-on3 .ensures, c .before .b
 
 pub pointers-on-spec : {M : Type 1} → statement M
 pointers-on-spec =
-    tie.close
-    (tie.spec
-    (λ c κs. search needs)
-    (λ c κs. search needs)
-    (λ c κs. search needs)
-    (λ c κs. search needs)
+    tie.close (tie.spec (λ c κs. search needs) (λ c κs. search needs) (λ c κs. search needs) (λ c κs. search needs)
     returns)

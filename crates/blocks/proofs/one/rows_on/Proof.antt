@@ -1,8 +1,7 @@
 -- `blocks::one::rows_on` meets its contract: so many strides on.
-use native.Mathlib.Omega.{arith}
+use Rattle.word.proofs.Base.{arith, needs}
 use Rattle.word.proofs.ChoiceLaws.{if-when-false}
 use Rattle.blocks.proofs.SuppliedLaws.{rows-far, pointer-on}
-use borrow.Author.Needs.{needs}
 use Rattle.blocks.proofs.one.rows_on.Statement.{statement}
 use Rattle.blocks.proofs.one.rows_on.Tie as tie
 
@@ -19,12 +18,4 @@ returns-2 : tie.Need-returns-2
 returns-2 c = search (needs, if-when-false)
 
 pub rows-on-spec : {M : Type 1} → statement M
-rows-on-spec =
-    tie.close
-    (tie.spec
-    (λ c. search needs)
-    mul-t7
-    add-t8
-    (λ c. search needs)
-    returns
-    returns-2)
+rows-on-spec = tie.close (tie.spec (λ c. search needs) mul-t7 add-t8 (λ c. search needs) returns returns-2)

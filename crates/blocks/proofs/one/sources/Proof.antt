@@ -1,6 +1,6 @@
 -- `blocks::one::sources` meets its contract, source by source.
 use Rattle.apart.proofs.PlacedLaws.{stride-lt}
-use borrow.Author.Needs.{needs}
+use Rattle.word.proofs.Base.{needs}
 use Rattle.blocks.proofs.one.sources.Statement.{statement}
 use Rattle.blocks.proofs.one.sources.Tie as tie
 
@@ -34,12 +34,5 @@ returns c = (
 
 pub sources-spec : {M : Type 1} → statement M
 sources-spec =
-    tie.close
-    (tie.spec
-    (λ c. search needs)
-    supplied-a-requires
-    (λ c. search needs)
-    supplied-requires
-    (λ c. search needs)
-    supplied-requires-2
-    returns)
+    tie.close (tie.spec (λ c. search needs) supplied-a-requires (λ c. search needs) supplied-requires
+    (λ c. search needs) supplied-requires-2 returns)

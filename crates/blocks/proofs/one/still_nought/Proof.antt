@@ -1,6 +1,6 @@
 -- `blocks::one::still_nought` meets its contract: nought before, and nought here.
 use Rattle.blocks.proofs.SuppliedLaws.{nought-both, nought-not}
-use borrow.Author.Needs.{needs}
+use Rattle.word.proofs.Base.{needs}
 use Rattle.blocks.proofs.one.still_nought.Statement.{statement}
 use Rattle.blocks.proofs.one.still_nought.Tie as tie
 

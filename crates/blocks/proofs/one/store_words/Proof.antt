@@ -1,6 +1,6 @@
 -- `blocks::one::store_words` meets its contract: all words, or none.
 use Rattle.word.proofs.ChoiceLaws.{if-when-true, if-when-false}
-use borrow.Author.Needs.{needs}
+use Rattle.word.proofs.Base.{needs}
 use Rattle.blocks.proofs.one.store_words.Statement.{statement}
 use Rattle.blocks.proofs.one.store_words.Tie as tie
 
@@ -21,12 +21,5 @@ returns-3 c = search (needs, if-when-false)
 
 pub store-words-spec : {M : Type 1} → statement M
 store-words-spec =
-    tie.close
-    (tie.spec
-    narrow-rows-requires
-    (λ c. search needs)
-    returns
-    rows-requires
-    (λ c. search needs)
-    returns-2
+    tie.close (tie.spec narrow-rows-requires (λ c. search needs) returns rows-requires (λ c. search needs) returns-2
     returns-3)

@@ -1,6 +1,6 @@
 -- `blocks::one::supplied` meets its contract: fetched, or at rest.
 use Rattle.blocks.proofs.SuppliedLaws.{supplied-plain, supplied-last, rests-not, supplied-level, supplied-idle}
-use borrow.Author.Needs.{needs}
+use Rattle.word.proofs.Base.{needs}
 use Rattle.blocks.proofs.one.supplied.Statement.{statement}
 use Rattle.blocks.proofs.one.supplied.Tie as tie
 
@@ -36,18 +36,6 @@ returns-3 c = (
 
 pub supplied-spec : {M : Type 1} → statement M
 supplied-spec =
-    tie.close
-    (tie.spec
-    narrow-rows-requires
-    (λ c. search needs)
-    (λ c. search needs)
-    (λ c. search needs)
-    (λ c. search needs)
-    returns
-    rows-requires
-    (λ c. search needs)
-    (λ c. search needs)
-    (λ c. search needs)
-    (λ c. search needs)
-    returns-2
-    returns-3)
+    tie.close (tie.spec narrow-rows-requires (λ c. search needs) (λ c. search needs) (λ c. search needs)
+    (λ c. search needs) returns rows-requires (λ c. search needs) (λ c. search needs) (λ c. search needs)
+    (λ c. search needs) returns-2 returns-3)

@@ -1,6 +1,6 @@
 -- `blocks::one::supplied_a` meets its contract: fetched and masked, or at rest.
 use Rattle.blocks.proofs.SuppliedLaws.{supplied-masked, supplied-last, rests-not, supplied-rests, supplied-idle}
-use borrow.Author.Needs.{needs}
+use Rattle.word.proofs.Base.{needs}
 use Rattle.blocks.proofs.one.supplied_a.Statement.{statement}
 use Rattle.blocks.proofs.one.supplied_a.Tie as tie
 
@@ -36,20 +36,6 @@ returns-3 c = (
 
 pub supplied-a-spec : {M : Type 1} → statement M
 supplied-a-spec =
-    tie.close
-    (tie.spec
-    narrow-rows-requires
-    (λ c. search needs)
-    (λ c. search needs)
-    (λ c. search needs)
-    (λ c. search needs)
-    (λ c κs. search needs)
-    returns
-    rows-requires
-    (λ c. search needs)
-    (λ c. search needs)
-    (λ c. search needs)
-    (λ c. search needs)
-    (λ c κs. search needs)
-    returns-2
-    returns-3)
+    tie.close (tie.spec narrow-rows-requires (λ c. search needs) (λ c. search needs) (λ c. search needs)
+    (λ c. search needs) (λ c κs. search needs) returns rows-requires (λ c. search needs) (λ c. search needs)
+    (λ c. search needs) (λ c. search needs) (λ c κs. search needs) returns-2 returns-3)

@@ -1,11 +1,7 @@
 -- `card_reading::lines::bad_from` meets its contract: the first bad line from here on is the first of all.
-use mathlib.Core.Path.{_≡_}
-use Prim.Native.Nat.{_-_, _≤_}
-use lib.ListN.{length}
+use Rattle.word.proofs.Base.{_≡_, _-_, _≤_, not-true, not-false, needs, length}
 use Rattle.card_reading.specs.Reading.{badFrom}
 use Rattle.card_reading.proofs.ReadingLaws.{keyLine-fits, badFrom-turn, badFrom-when-bad, badFrom-when-ended, badFrom-when-more}
-use borrow.Author.Tests.{not-true, not-false}
-use borrow.Author.Needs.{needs}
 use Rattle.card_reading.proofs.lines.bad_from.Statement.{statement}
 use Rattle.card_reading.proofs.lines.bad_from.Tie as tie
 
@@ -18,17 +14,11 @@ Inv-loop text start at₀ key₀ at key =
 abbrev μ-loop : tie.MeasureT-loop
 μ-loop text start at₀ key₀ at key = 20 - key
 
-loop-holds : tie.Need-loop-holds Inv-loop μ-loop
-loop-holds c = search needs
-
 returns : tie.Need-returns Inv-loop μ-loop
 returns c = search (badFrom-when-bad, not-true)
 
 add-at : tie.Need-add-at Inv-loop μ-loop
 add-at c = search (needs, keyLine-fits, not-false)
-
-loop-less : tie.Need-loop-less Inv-loop μ-loop
-loop-less c = search needs
 
 loop-again : tie.Need-loop-again Inv-loop μ-loop
 loop-again c = (search (badFrom-turn, not-false), search needs, search (keyLine-fits, not-false))
@@ -41,17 +31,5 @@ returns-3 c = search badFrom-when-more
 
 pub bad-from-spec : {M : Type 1} → statement M
 bad-from-spec =
-    tie.close
-    (tie.spec
-    Inv-loop
-    μ-loop
-    loop-holds
-    (λ c κs. search needs)
-    (λ c. search needs)
-    returns
-    add-at
-    (λ c. search needs)
-    loop-less
-    loop-again
-    returns-2
-    returns-3)
+    tie.close (tie.spec Inv-loop μ-loop (λ c. search needs) (λ c κs. search needs) (λ c. search needs) returns add-at
+    (λ c. search needs) (λ c. search needs) loop-again returns-2 returns-3)

@@ -1,6 +1,6 @@
 -- `card_reading::lines::key_at` meets its contract: letter by letter.
 use Rattle.card_reading.proofs.ReadingLaws.{keyAt-of-parts}
-use borrow.Author.Needs.{needs}
+use Rattle.word.proofs.Base.{needs}
 use Rattle.card_reading.proofs.lines.key_at.Statement.{statement}
 use Rattle.card_reading.proofs.lines.key_at.Tie as tie
 
@@ -9,17 +9,6 @@ returns c = search keyAt-of-parts
 
 pub key-at-spec : {M : Type 1} → statement M
 key-at-spec =
-    tie.close
-    (tie.spec
-    (λ c. search needs)
-    (λ c κs. search needs)
-    (λ c. search needs)
-    (λ c. search needs)
-    (λ c κs. search needs)
-    (λ c. search needs)
-    (λ c. search needs)
-    (λ c κs. search needs)
-    (λ c. search needs)
-    (λ c. search needs)
-    (λ c κs. search needs)
-    returns)
+    tie.close (tie.spec (λ c. search needs) (λ c κs. search needs) (λ c. search needs) (λ c. search needs)
+    (λ c κs. search needs) (λ c. search needs) (λ c. search needs) (λ c κs. search needs) (λ c. search needs)
+    (λ c. search needs) (λ c κs. search needs) returns)

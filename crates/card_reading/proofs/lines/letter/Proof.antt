@@ -1,7 +1,6 @@
 -- `card_reading::lines::letter` meets its contract: the table is the list of letters.
-use mathlib.Core.Path.{refl}
+use Rattle.word.proofs.Base.{refl, needs}
 use Rattle.card_reading.specs.Keys.{letters}
-use borrow.Author.Needs.{needs}
 use Rattle.card_reading.proofs.lines.letter.Statement.{statement}
 use Rattle.card_reading.proofs.lines.letter.Tie as tie
 
@@ -10,4 +9,5 @@ unfolding letters
 returns c = refl
 
 pub letter-spec : {M : Type 1} → statement M
-letter-spec = tie.close (tie.spec (λ c. search needs) (λ c. search needs) (λ c. search needs) (λ c. search needs) returns)
+letter-spec =
+    tie.close (tie.spec (λ c. search needs) (λ c. search needs) (λ c. search needs) (λ c. search needs) returns)

@@ -1,6 +1,6 @@
 -- `card_reading::lines::ram_ended` meets its contract: a number from 1 on, and the newline.
 use Rattle.card_reading.proofs.RamLaws.{ramEnded-when-none, ramEnded-at-end, ramEnded-when-newline, ramEnded-when-other}
-use borrow.Author.Needs.{needs}
+use Rattle.word.proofs.Base.{needs}
 use Rattle.card_reading.proofs.lines.ram_ended.Statement.{statement}
 use Rattle.card_reading.proofs.lines.ram_ended.Tie as tie
 
@@ -17,5 +17,4 @@ returns-4 : tie.Need-returns-4
 returns-4 c = search ramEnded-when-other
 
 pub ram-ended-spec : {M : Type 1} → statement M
-ram-ended-spec =
-    tie.close (tie.spec returns returns-2 (λ c. search needs) (λ c. search needs) returns-3 returns-4)
+ram-ended-spec = tie.close (tie.spec returns returns-2 (λ c. search needs) (λ c. search needs) returns-3 returns-4)

@@ -1,12 +1,8 @@
 -- `card_reading::lines::ram_line` meets its contract: the digits from here on give what all give; a number that is too large stays so.
-use mathlib.Core.Path.{_≡_}
-use Prim.Native.Nat.{_+_, _-_, _≤_}
-use lib.ListN.{length, drop}
+use Rattle.word.proofs.Base.{_≡_, _+_, _-_, _≤_, not-true, not-false, needs, length, drop}
 use Rattle.card_reading.specs.RamLine.{digits, spelled, ramWords, ramEnd}
 use Rattle.card_reading.proofs.RamLaws.{digits-when-other, spelled-turn, digits-turn, digits-at-end, ramRead-when-keyless, ramRead-when-zero, ramRead-when-large, ramRead-when-ended}
 use Rattle.card_reading.proofs.TextLaws.{decimalDigit-holds}
-use borrow.Author.Tests.{not-true, not-false}
-use borrow.Author.Needs.{needs}
 use Rattle.card_reading.proofs.lines.ram_line.Statement.{statement}
 use Rattle.card_reading.proofs.lines.ram_line.Tie as tie
 
@@ -26,9 +22,6 @@ returns c = search (ramRead-when-keyless, not-true)
 returns-2 : tie.Need-returns-2 Inv-loop μ-loop
 returns-2 c = search (ramRead-when-zero, not-false)
 
-loop-holds : tie.Need-loop-holds Inv-loop μ-loop
-loop-holds c = search needs
-
 returns-3 : tie.Need-returns-3 Inv-loop μ-loop
 returns-3 c = search (ramRead-when-ended, digits-when-other, not-true, not-false)
 
@@ -38,9 +31,6 @@ with-digit-requires c κs = (search needs, search (decimalDigit-holds, not-false
 returns-4 : tie.Need-returns-4 Inv-loop μ-loop
 returns-4 c = search (ramRead-when-large, not-false)
 
-loop-less : tie.Need-loop-less Inv-loop μ-loop
-loop-less c = search needs
-
 loop-again : tie.Need-loop-again Inv-loop μ-loop
 loop-again c = (search (spelled-turn, not-false), search (digits-turn, not-false), search needs, search needs)
 
@@ -49,23 +39,6 @@ returns-5 c = search (ramRead-when-ended, digits-at-end, not-false)
 
 pub ram-line-spec : {M : Type 1} → statement M
 ram-line-spec =
-    tie.close
-    (tie.spec
-    Inv-loop
-    μ-loop
-    (λ c κs. search needs)
-    returns
-    (λ c κs. search needs)
-    returns-2
-    loop-holds
-    (λ c. search needs)
-    (λ c κs. search needs)
-    (λ c κs. search needs)
-    returns-3
-    with-digit-requires
-    returns-4
-    (λ c. search needs)
-    loop-less
-    loop-again
-    (λ c κs. search needs)
-    returns-5)
+    tie.close (tie.spec Inv-loop μ-loop (λ c κs. search needs) returns (λ c κs. search needs) returns-2
+    (λ c. search needs) (λ c. search needs) (λ c κs. search needs) (λ c κs. search needs) returns-3 with-digit-requires
+    returns-4 (λ c. search needs) (λ c. search needs) loop-again (λ c κs. search needs) returns-5)

@@ -1,5 +1,5 @@
 -- `card_reading::text::capital` meets its contract: the two ends.
-use mathlib.Core.Path.{refl}
+use Rattle.word.proofs.Base.{refl}
 use Rattle.card_reading.specs.Text.{capital}
 use Rattle.card_reading.proofs.text.capital.Statement.{statement}
 use Rattle.card_reading.proofs.text.capital.Tie as tie

@@ -1,5 +1,5 @@
 -- `card_reading::text::decimal_digit` meets its contract: the two ends.
-use mathlib.Core.Path.{refl}
+use Rattle.word.proofs.Base.{refl}
 use Rattle.card_reading.specs.Text.{decimalDigit}
 use Rattle.card_reading.proofs.text.decimal_digit.Statement.{statement}
 use Rattle.card_reading.proofs.text.decimal_digit.Tie as tie

@@ -1,6 +1,6 @@
 -- `card_reading::text::hex_digit` meets its contract: a digit or a capital.
 use Rattle.card_reading.proofs.TextLaws.{hexDigit-of-parts}
-use borrow.Author.Needs.{needs}
+use Rattle.word.proofs.Base.{needs}
 use Rattle.card_reading.proofs.text.hex_digit.Statement.{statement}
 use Rattle.card_reading.proofs.text.hex_digit.Tie as tie
 

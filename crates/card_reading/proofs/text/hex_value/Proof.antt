@@ -1,6 +1,6 @@
 -- `card_reading::text::hex_value` meets its contract, for a digit, a capital and any other byte.
 use Rattle.card_reading.proofs.TextLaws.{decimalDigit-ge, hexValue-when-decimal, decimal-lt, capital-ge, capital-le, hexValue-when-capital, capital-lt, hexValue-when-none}
-use borrow.Author.Needs.{needs}
+use Rattle.word.proofs.Base.{needs}
 use Rattle.card_reading.proofs.text.hex_value.Statement.{statement}
 use Rattle.card_reading.proofs.text.hex_value.Tie as tie
 
@@ -24,15 +24,5 @@ returns-3 c = (search hexValue-when-none, search needs)
 
 pub hex-value-spec : {M : Type 1} → statement M
 hex-value-spec =
-    tie.close
-    (tie.spec
-    (λ c κs. search needs)
-    sub-result
-    (λ c. search needs)
-    returns
-    (λ c κs. search needs)
-    sub-result-2
-    add-result
-    (λ c. search needs)
-    returns-2
-    returns-3)
+    tie.close (tie.spec (λ c κs. search needs) sub-result (λ c. search needs) returns (λ c κs. search needs)
+    sub-result-2 add-result (λ c. search needs) returns-2 returns-3)

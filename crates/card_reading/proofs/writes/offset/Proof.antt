@@ -1,7 +1,6 @@
 -- `card_reading::writes::offset` meets its contract: the table is the list of offsets.
-use mathlib.Core.Path.{refl}
+use Rattle.word.proofs.Base.{refl, needs}
 use Rattle.card_reading.specs.Job.{offsets}
-use borrow.Author.Needs.{needs}
 use Rattle.card_reading.proofs.writes.offset.Statement.{statement}
 use Rattle.card_reading.proofs.writes.offset.Tie as tie
 

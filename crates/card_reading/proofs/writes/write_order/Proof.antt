@@ -1,6 +1,6 @@
 -- `card_reading::writes::write_order` meets its contract: the keys before size, those after it, size.
 use Rattle.card_reading.proofs.JobLaws.{writeOrder-before-size, writeOrder-after-size, writeOrder-of-size}
-use borrow.Author.Needs.{needs}
+use Rattle.word.proofs.Base.{needs}
 use Rattle.card_reading.proofs.writes.write_order.Statement.{statement}
 use Rattle.card_reading.proofs.writes.write_order.Tie as tie
 

@@ -1,6 +1,6 @@
 -- `card_reading::writes::write_step` meets its contract: an offset, then a value.
 use Rattle.card_reading.proofs.JobLaws.{writes-of-step}
-use borrow.Author.Needs.{needs}
+use Rattle.word.proofs.Base.{needs}
 use Rattle.card_reading.proofs.writes.write_step.Statement.{statement}
 use Rattle.card_reading.proofs.writes.write_step.Tie as tie
 
@@ -9,15 +9,5 @@ returns c = search writes-of-step
 
 pub write-step-spec : {M : Type 1} → statement M
 write-step-spec =
-    tie.close
-    (tie.spec
-    (λ c κs. search needs)
-    (λ c. search needs)
-    (λ c κs. search needs)
-    (λ c κs. search needs)
-    (λ c. search needs)
-    (λ c. search needs)
-    (λ c κs. search needs)
-    (λ c κs. search needs)
-    (λ c. search needs)
-    returns)
+    tie.close (tie.spec (λ c κs. search needs) (λ c. search needs) (λ c κs. search needs) (λ c κs. search needs)
+    (λ c. search needs) (λ c. search needs) (λ c κs. search needs) (λ c κs. search needs) (λ c. search needs) returns)

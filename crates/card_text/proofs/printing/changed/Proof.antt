@@ -1,11 +1,8 @@
 -- `card_text::printing::changed` meets its contract: the lines from here on give what the whole gives.
-use mathlib.Core.Path.{_≡_}
-use Prim.Native.Nat.{_+_, _*_, _-_, _≤_}
-use lib.ListN.{length, drop}
+use Rattle.word.proofs.Base.{_≡_, _+_, _-_, _*_, _≤_, needs, length, drop}
 use Rattle.card_text.specs.Printing.{changed}
 use Rattle.card_text.specs.Card.{written, writing}
 use Rattle.card_text.proofs.PrintingLaws.{changed-turn, changed-done}
-use borrow.Author.Needs.{needs}
 use Rattle.card_text.proofs.printing.changed.Statement.{statement}
 use Rattle.card_text.proofs.printing.changed.Tie as tie
 
@@ -20,12 +17,6 @@ Inv-loop out₀ at ram place₀ to₀ out place to =
 abbrev μ-loop : tie.MeasureT-loop
 μ-loop out₀ at ram place₀ to₀ out place to = length ram - place
 
-loop-holds : tie.Need-loop-holds Inv-loop μ-loop
-loop-holds c = search needs
-
-loop-less : tie.Need-loop-less Inv-loop μ-loop
-loop-less c = search needs
-
 loop-again : tie.Need-loop-again Inv-loop μ-loop
 loop-again c = (search changed-turn, search needs, search needs, search needs, search needs)
 
@@ -34,17 +25,5 @@ returns c = search changed-done
 
 pub changed-spec : {M : Type 1} → statement M
 changed-spec =
-    tie.close
-    (tie.spec
-    Inv-loop
-    μ-loop
-    loop-holds
-    (λ c. search needs)
-    (λ c. search needs)
-    (λ c. search needs)
-    (λ c κs. search needs)
-    (λ c. search needs)
-    loop-less
-    loop-again
-    (λ c. search needs)
-    returns)
+    tie.close (tie.spec Inv-loop μ-loop (λ c. search needs) (λ c. search needs) (λ c. search needs) (λ c. search needs)
+    (λ c κs. search needs) (λ c. search needs) (λ c. search needs) loop-again (λ c. search needs) returns)

@@ -1,6 +1,6 @@
 -- `card_text::printing::changed_word` meets its contract: a word that is its own number has no line.
 use Rattle.card_text.proofs.PrintingLaws.{changedWord-when-same, changedWord-when-other}
-use borrow.Author.Needs.{needs}
+use Rattle.word.proofs.Base.{needs}
 use Rattle.card_text.proofs.printing.changed_word.Statement.{statement}
 use Rattle.card_text.proofs.printing.changed_word.Tie as tie
 

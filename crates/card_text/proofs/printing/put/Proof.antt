@@ -1,6 +1,6 @@
 -- `card_text::printing::put` meets its contract: the byte is set, and the place goes on by one.
 use Rattle.card_text.proofs.WritingLaws.{writing-of-write}
-use borrow.Author.Needs.{needs}
+use Rattle.word.proofs.Base.{needs}
 use Rattle.card_text.proofs.printing.put.Statement.{statement}
 use Rattle.card_text.proofs.printing.put.Tie as tie
 

@@ -1,10 +1,7 @@
 -- `card_text::printing::put_text` meets its contract: what is left from here gives what the whole gives.
-use mathlib.Core.Path.{_≡_}
-use Prim.Native.Nat.{_+_, _-_, _≤_}
-use lib.ListN.{length, drop}
+use Rattle.word.proofs.Base.{_≡_, _+_, _-_, _≤_, needs, length, drop}
 use Rattle.card_text.specs.Card.{written, writing}
 use Rattle.card_text.proofs.WritingLaws.{writing-turn, writing-done}
-use borrow.Author.Needs.{needs}
 use Rattle.card_text.proofs.printing.put_text.Statement.{statement}
 use Rattle.card_text.proofs.printing.put_text.Tie as tie
 
@@ -18,12 +15,6 @@ Inv-loop out₀ at text from₀ to₀ out from to =
 abbrev μ-loop : tie.MeasureT-loop
 μ-loop out₀ at text from₀ to₀ out from to = length text - from
 
-loop-holds : tie.Need-loop-holds Inv-loop μ-loop
-loop-holds c = search needs
-
-loop-less : tie.Need-loop-less Inv-loop μ-loop
-loop-less c = search needs
-
 loop-again : tie.Need-loop-again Inv-loop μ-loop
 loop-again c = (search writing-turn, search needs, search needs, search needs)
 
@@ -32,15 +23,5 @@ returns c = (search writing-done, search needs)
 
 pub put-text-spec : {M : Type 1} → statement M
 put-text-spec =
-    tie.close
-    (tie.spec
-    Inv-loop
-    μ-loop
-    loop-holds
-    (λ c. search needs)
-    (λ c κs. search needs)
-    (λ c. search needs)
-    loop-less
-    loop-again
-    (λ c. search needs)
-    returns)
+    tie.close (tie.spec Inv-loop μ-loop (λ c. search needs) (λ c. search needs) (λ c κs. search needs)
+    (λ c. search needs) (λ c. search needs) loop-again (λ c. search needs) returns)

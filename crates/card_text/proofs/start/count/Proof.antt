@@ -1,11 +1,8 @@
 -- `card_text::start::count` meets its contract: the words from here on give what all give.
-use mathlib.Core.Path.{_≡_}
-use Prim.Native.Nat.{_-_, _≤_}
-use lib.ListN.{length}
+use Rattle.word.proofs.Base.{_≡_, _-_, _≤_, needs, length}
 use Rattle.word.specs.Laid.{laid}
 use Rattle.card_text.specs.Run.{counted}
 use Rattle.card_text.proofs.RunLaws.{counted-start, counted-turn, counted-done}
-use borrow.Author.Needs.{needs}
 use Rattle.card_text.proofs.start.count.Statement.{statement}
 use Rattle.card_text.proofs.start.count.Tie as tie
 
@@ -23,9 +20,6 @@ abbrev μ-loop : tie.MeasureT-loop
 loop-holds : tie.Need-loop-holds Inv-loop μ-loop
 loop-holds c = (search counted-start, search needs, search needs, search needs, search needs)
 
-loop-less : tie.Need-loop-less Inv-loop μ-loop
-loop-less c = search needs
-
 loop-again : tie.Need-loop-again Inv-loop μ-loop
 loop-again c = (search counted-turn, search needs, search needs, search needs, search needs)
 
@@ -34,16 +28,5 @@ returns c = search counted-done
 
 pub count-spec : {M : Type 1} → statement M
 count-spec =
-    tie.close
-    (tie.spec
-    Inv-loop
-    μ-loop
-    loop-holds
-    (λ c. search needs)
-    (λ c. search needs)
-    (λ c κs. search needs)
-    (λ c. search needs)
-    loop-less
-    loop-again
-    (λ c. search needs)
-    returns)
+    tie.close (tie.spec Inv-loop μ-loop loop-holds (λ c. search needs) (λ c. search needs) (λ c κs. search needs)
+    (λ c. search needs) (λ c. search needs) loop-again (λ c. search needs) returns)

@@ -1,11 +1,8 @@
 -- `copper::onward::onward` meets its contract: what is left from here gives what the whole gives.
-use mathlib.Core.Path.{_≡_}
-use Prim.Native.Nat.{_-_, _≤_}
-use lib.ListN.{length}
+use Rattle.word.proofs.Base.{_≡_, _-_, _≤_, needs, length}
 use Rattle.instruction.specs.Effect.{moment}
 use Rattle.copper.specs.Frame.{onward}
 use Rattle.copper.proofs.FrameLaws.{onward-at-start, onward-at-end, onward-at-last, onward-turn, onward-of-refused}
-use borrow.Author.Needs.{needs}
 use Rattle.copper.proofs.onward.onward.Statement.{statement}
 use Rattle.copper.proofs.onward.onward.Tie as tie
 

@@ -1,6 +1,6 @@
 -- `depends::depends::depends` meets its contract: the entry tells the sources by their weights.
 use Rattle.depends.proofs.DependsLaws.{told-of-entry}
-use borrow.Author.Needs.{needs}
+use Rattle.word.proofs.Base.{needs}
 use Rattle.depends.proofs.depends.depends.Statement.{statement}
 use Rattle.depends.proofs.depends.depends.Tie as tie
 

@@ -1,11 +1,9 @@
 -- `folder::write::folded` meets its contract: what is left of the job from here gives what the whole gives.
 -- The facts of a step are named by their paths: the structs hold more records than a search looks into.
-use Prim.Native.Nat.{_-_}
-use lib.ListN.{length}
+use Rattle.word.proofs.Base.{_-_, needs, length}
 use Rattle.job.proofs.StepLaws.{read-falls}
 use Rattle.knowledge.specs.Knowledge.{listed}
 use Rattle.folder.proofs.FoldedLaws.{Stands, stands-start, stands-turn, turn-fits, room-to-put, step-inside, folded-at-end, folded-of-end, folded-of-fault}
-use borrow.Author.Needs.{needs}
 use Rattle.folder.proofs.write.folded.Statement.{statement}
 use Rattle.folder.proofs.write.folded.Tie as tie
 
@@ -48,25 +46,6 @@ returns-3 c = search folded-at-end
 
 pub folded-spec : {M : Type 1} → statement M
 folded-spec =
-    tie.close
-    (tie.spec
-    Inv-loop
-    μ-loop
-    (λ c κs. search needs)
-    loop-holds
-    (λ c κs. search needs)
-    (λ c. search needs)
-    put-step-requires
-    add-at
-    loop-less
-    loop-again
-    (λ c. search needs)
-    (λ c κs. search needs)
-    (λ c. search needs)
-    returns
-    (λ c. search needs)
-    (λ c. search needs)
-    returns-2
-    (λ c κs. search needs)
-    (λ c. search needs)
-    returns-3)
+    tie.close (tie.spec Inv-loop μ-loop (λ c κs. search needs) loop-holds (λ c κs. search needs) (λ c. search needs)
+    put-step-requires add-at loop-less loop-again (λ c. search needs) (λ c κs. search needs) (λ c. search needs) returns
+    (λ c. search needs) (λ c. search needs) returns-2 (λ c κs. search needs) (λ c. search needs) returns-3)

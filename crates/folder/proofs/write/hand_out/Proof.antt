@@ -1,13 +1,7 @@
 -- `folder::write::hand_out` meets its contract: the words passed are the run's, the others stand as they were.
-use mathlib.Core.Path.{_≡_}
-use Prim.Native.Nat.{ℕ, _+_, _-_, _<_, _≤_}
-use native.Mathlib.Nat.{zero-add}
-use native.Mathlib.Numerals.{add-one}
-use native.Mathlib.Omega.{arith}
-use mathlib.Core.List.{List, _++_}
-use lib.ListN.{length, getD, set, take, drop}
+use Rattle.word.proofs.Base.{_≡_, ℕ, _+_, _-_, _<_, _≤_, zero-add, add-one, arith, needs, List, _++_, length, getD, set}
+use Rattle.word.proofs.Base.{take, drop}
 use lib.Seq.{paste-suc}
-use borrow.Author.Needs.{needs}
 use Rattle.folder.proofs.write.hand_out.Statement.{statement}
 use Rattle.folder.proofs.write.hand_out.Tie as tie
 
@@ -34,17 +28,5 @@ returns c = search hand-out-done
 
 pub hand-out-spec : {M : Type 1} → statement M
 hand-out-spec =
-    tie.close
-    (tie.spec
-    Inv-loop
-    μ-loop
-    (λ c. search needs)
-    (λ c. search needs)
-    (λ c. search needs)
-    (λ c. search needs)
-    (λ c. search needs)
-    (λ c. search needs)
-    (λ c. search needs)
-    loop-again
-    (λ c. search needs)
-    returns)
+    tie.close (tie.spec Inv-loop μ-loop (λ c. search needs) (λ c. search needs) (λ c. search needs) (λ c. search needs)
+    (λ c. search needs) (λ c. search needs) (λ c. search needs) loop-again (λ c. search needs) returns)

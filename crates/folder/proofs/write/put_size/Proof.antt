@@ -1,6 +1,6 @@
 -- `folder::write::put_size` meets its contract, settled or kept.
 use Rattle.folder.proofs.PutLaws.{few-when-settled, put-when-settled, put-when-kept}
-use borrow.Author.Needs.{needs}
+use Rattle.word.proofs.Base.{needs}
 use Rattle.folder.proofs.write.put_size.Statement.{statement}
 use Rattle.folder.proofs.write.put_size.Tie as tie
 
@@ -15,14 +15,5 @@ returns-2 c = search put-when-kept
 
 pub put-size-spec : {M : Type 1} → statement M
 put-size-spec =
-    tie.close
-    (tie.spec
-    (λ c κs. search needs)
-    put-blit-requires
-    (λ c κs. search needs)
-    (λ c. search needs)
-    returns
-    (λ c κs. search needs)
-    (λ c κs. search needs)
-    (λ c. search needs)
-    returns-2)
+    tie.close (tie.spec (λ c κs. search needs) put-blit-requires (λ c κs. search needs) (λ c. search needs) returns
+    (λ c κs. search needs) (λ c κs. search needs) (λ c. search needs) returns-2)

@@ -1,6 +1,6 @@
 -- `folder::write::put_step` meets its contract, by the kind of the step.
 use Rattle.folder.proofs.PutLaws.{put-of-register, put-of-size, put-of-store, put-of-flag, inside-of-register, inside-of-size, inside-of-store, inside-of-flag}
-use borrow.Author.Needs.{needs}
+use Rattle.word.proofs.Base.{needs}
 use Rattle.folder.proofs.write.put_step.Statement.{statement}
 use Rattle.folder.proofs.write.put_step.Tie as tie
 
@@ -30,22 +30,7 @@ returns-4 c = search put-of-flag
 
 pub put-step-spec : {M : Type 1} → statement M
 put-step-spec =
-    tie.close
-    (tie.spec
-    (λ c. search needs)
-    put-copied-requires
-    (λ c κs. search needs)
-    (λ c. search needs)
-    put-size-requires
-    (λ c. search needs)
-    put-copied-requires-2
-    (λ c. search needs)
-    put-copied-requires-3
-    (λ c. search needs)
-    returns
-    (λ c. search needs)
-    returns-2
-    (λ c. search needs)
-    returns-3
-    (λ c. search needs)
+    tie.close (tie.spec (λ c. search needs) put-copied-requires (λ c κs. search needs) (λ c. search needs)
+    put-size-requires (λ c. search needs) put-copied-requires-2 (λ c. search needs) put-copied-requires-3
+    (λ c. search needs) returns (λ c. search needs) returns-2 (λ c. search needs) returns-3 (λ c. search needs)
     returns-4)

@@ -1,7 +1,7 @@
 -- `folder::write::settled_length` meets its contract: the numbers fit.
 use Rattle.word.proofs.SizeLaws.{words-fit}
 use Rattle.folder.proofs.PutLaws.{settled-length-fits, settled-length-fits-all, settled-length-of-parts}
-use borrow.Author.Needs.{needs}
+use Rattle.word.proofs.Base.{needs}
 use Rattle.folder.proofs.write.settled_length.Statement.{statement}
 use Rattle.folder.proofs.write.settled_length.Tie as tie
 

@@ -1,6 +1,6 @@
 -- `instruction::permitted::danger` meets its contract: it looks at bit 1 of COPCON.
 use Rattle.instruction.proofs.PermittedLaws.{danger-of-word}
-use borrow.Author.Needs.{needs}
+use Rattle.word.proofs.Base.{needs}
 use Rattle.instruction.proofs.permitted.danger.Statement.{statement}
 use Rattle.instruction.proofs.permitted.danger.Tie as tie
 

@@ -1,6 +1,6 @@
 -- `instruction::permitted::permitted` meets its contract: the tests are the definition's.
 use Rattle.instruction.proofs.PermittedLaws.{permitted-from-080, permitted-below-040, permitted-of-danger}
-use borrow.Author.Needs.{needs}
+use Rattle.word.proofs.Base.{needs}
 use Rattle.instruction.proofs.permitted.permitted.Statement.{statement}
 use Rattle.instruction.proofs.permitted.permitted.Tie as tie
 

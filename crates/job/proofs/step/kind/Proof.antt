@@ -1,6 +1,6 @@
 -- `job::step::kind` meets its contract: each test is a line of the definition, in its order; words below 8000 are passed at once.
 use Rattle.job.proofs.KindLaws.{kind-when-register, kind-when-size, kind-when-low, kind-when-store, kind-when-clear, kind-when-set, kind-when-high}
-use borrow.Author.Needs.{needs}
+use Rattle.word.proofs.Base.{needs}
 use Rattle.job.proofs.step.kind.Statement.{statement}
 use Rattle.job.proofs.step.kind.Tie as tie
 
@@ -27,5 +27,4 @@ returns-7 c = search kind-when-high
 
 pub kind-spec : {M : Type 1} → statement M
 kind-spec =
-    tie.close
-    (tie.spec (λ c κs. search needs) returns returns-2 returns-3 returns-4 returns-5 returns-6 returns-7)
+    tie.close (tie.spec (λ c κs. search needs) returns returns-2 returns-3 returns-4 returns-5 returns-6 returns-7)

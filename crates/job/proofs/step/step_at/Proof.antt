@@ -1,6 +1,6 @@
 -- `job::step::step_at` meets its contract: past the end there is no word, and elsewhere the first word's kind decides.
 use Rattle.job.proofs.StepLaws.{stepAt-at-end, stepAt-of-kind, stepAt-of-flag, stepAt-of-nothing}
-use borrow.Author.Needs.{needs}
+use Rattle.word.proofs.Base.{needs}
 use Rattle.job.proofs.step.step_at.Statement.{statement}
 use Rattle.job.proofs.step.step_at.Tie as tie
 
@@ -24,22 +24,6 @@ returns-6 c = search stepAt-of-nothing
 
 pub step-at-spec : {M : Type 1} → statement M
 step-at-spec =
-    tie.close
-    (tie.spec
-    returns
-    (λ c κs. search needs)
-    (λ c κs. search needs)
-    (λ c. search needs)
-    (λ c κs. search needs)
-    (λ c. search needs)
-    (λ c κs. search needs)
-    (λ c. search needs)
-    (λ c κs. search needs)
-    (λ c. search needs)
-    (λ c. search needs)
-    (λ c. search needs)
-    returns-2
-    returns-3
-    returns-4
-    returns-5
-    returns-6)
+    tie.close (tie.spec returns (λ c κs. search needs) (λ c κs. search needs) (λ c. search needs) (λ c κs. search needs)
+    (λ c. search needs) (λ c κs. search needs) (λ c. search needs) (λ c κs. search needs) (λ c. search needs)
+    (λ c. search needs) (λ c. search needs) returns-2 returns-3 returns-4 returns-5 returns-6)

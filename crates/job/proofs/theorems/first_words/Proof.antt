@@ -1,5 +1,5 @@
 -- The examples are computed.
-use mathlib.Core.Path.{refl}
+use Rattle.word.proofs.Base.{refl}
 use Rattle.word.specs.Choice.{given}
 use Rattle.word.specs.Pointer.{pointer}
 use Rattle.file.specs.File.{registers, placeIn, place, isRegister}

@@ -1,6 +1,6 @@
 -- `output::put::put_store` meets its contract, word by word.
 use Rattle.output.proofs.PutLaws.{put-store-of-parts}
-use borrow.Author.Needs.{needs}
+use Rattle.word.proofs.Base.{needs}
 use Rattle.output.proofs.put.put_store.Statement.{statement}
 use Rattle.output.proofs.put.put_store.Tie as tie
 
@@ -9,15 +9,6 @@ returns c = search put-store-of-parts
 
 pub put-store-spec : {M : Type 1} → statement M
 put-store-spec =
-    tie.close
-    (tie.spec
-    (λ c κs. search needs)
-    (λ c. search needs)
-    (λ c κs. search needs)
-    (λ c. search needs)
-    (λ c κs. search needs)
-    (λ c κs. search needs)
-    (λ c. search needs)
-    (λ c κs. search needs)
-    (λ c. search needs)
+    tie.close (tie.spec (λ c κs. search needs) (λ c. search needs) (λ c κs. search needs) (λ c. search needs)
+    (λ c κs. search needs) (λ c κs. search needs) (λ c. search needs) (λ c κs. search needs) (λ c. search needs)
     returns)

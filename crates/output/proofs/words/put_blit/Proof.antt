@@ -1,7 +1,7 @@
 -- `output::words::put_blit` meets its contract: the runs hold the blit's stores.
 -- The facts of the calls are named by their paths: the search looks into no more than so many records
 use Rattle.output.proofs.StoresLaws.{many-in-run, stores-of-runs}
-use borrow.Author.Needs.{needs}
+use Rattle.word.proofs.Base.{needs}
 use Rattle.output.proofs.words.put_blit.Statement.{statement}
 use Rattle.output.proofs.words.put_blit.Tie as tie
 
@@ -16,13 +16,5 @@ returns c =
 
 pub put-blit-spec : {M : Type 1} → statement M
 put-blit-spec =
-    tie.close
-    (tie.spec
-    (λ c. search needs)
-    (λ c. search needs)
-    (λ c κs. search needs)
-    (λ c. search needs)
-    (λ c. search needs)
-    put-stores-requires
-    (λ c. search needs)
-    returns)
+    tie.close (tie.spec (λ c. search needs) (λ c. search needs) (λ c κs. search needs) (λ c. search needs)
+    (λ c. search needs) put-stores-requires (λ c. search needs) returns)

@@ -1,7 +1,7 @@
 -- `output::words::put_settled` meets its contract: the stores, then what follows them.
 use Rattle.word.proofs.SizeLaws.{words-fit}
 use Rattle.output.proofs.StoresLaws.{settled-of-parts, many-of-size, many-few, thrice-fits, end-room, end-fits}
-use borrow.Author.Needs.{needs}
+use Rattle.word.proofs.Base.{needs}
 use Rattle.output.proofs.words.put_settled.Statement.{statement}
 use Rattle.output.proofs.words.put_settled.Tie as tie
 
@@ -25,15 +25,5 @@ returns c = (search (settled-of-parts, many-of-size), search needs)
 
 pub put-settled-spec : {M : Type 1} → statement M
 put-settled-spec =
-    tie.close
-    (tie.spec
-    (λ c κs. search needs)
-    (λ c κs. search needs)
-    mul-many
-    put-blit-requires
-    (λ c κs. search needs)
-    mul-put-end
-    add-put-end
-    put-end-requires
-    (λ c. search needs)
-    returns)
+    tie.close (tie.spec (λ c κs. search needs) (λ c κs. search needs) mul-many put-blit-requires (λ c κs. search needs)
+    mul-put-end add-put-end put-end-requires (λ c. search needs) returns)

@@ -1,11 +1,8 @@
 -- `output::words::put_stores` meets its contract: what remains from here gives what the whole gives.
-use mathlib.Core.Path.{_≡_}
-use Prim.Native.Nat.{_+_, _*_, _-_, _<_, _≤_}
-use lib.ListN.{length}
+use Rattle.word.proofs.Base.{_≡_, _+_, _-_, _*_, _<_, _≤_, needs, length}
 use Rattle.word.specs.Laid.{laid}
 use Rattle.output.specs.Inner.Paired.{pairedWords}
 use Rattle.output.proofs.StoresLaws.{paired-begin, room-begin, paired-turn, paired-done}
-use borrow.Author.Needs.{needs}
 use Rattle.output.proofs.words.put_stores.Statement.{statement}
 use Rattle.output.proofs.words.put_stores.Tie as tie
 
@@ -22,9 +19,6 @@ abbrev μ-loop : tie.MeasureT-loop
 loop-holds : tie.Need-loop-holds Inv-loop μ-loop
 loop-holds c = (search paired-begin, search room-begin, search needs, search needs)
 
-loop-less : tie.Need-loop-less Inv-loop μ-loop
-loop-less c = search needs
-
 loop-again : tie.Need-loop-again Inv-loop μ-loop
 loop-again c = (search paired-turn, search needs, search needs, search needs)
 
@@ -33,21 +27,6 @@ returns c = search paired-done
 
 pub put-stores-spec : {M : Type 1} → statement M
 put-stores-spec =
-    tie.close
-    (tie.spec
-    Inv-loop
-    μ-loop
-    loop-holds
-    (λ c. search needs)
-    (λ c. search needs)
-    (λ c. search needs)
-    (λ c. search needs)
-    (λ c. search needs)
-    (λ c. search needs)
-    (λ c κs. search needs)
-    (λ c. search needs)
-    (λ c. search needs)
-    loop-less
-    loop-again
-    (λ c. search needs)
-    returns)
+    tie.close (tie.spec Inv-loop μ-loop loop-holds (λ c. search needs) (λ c. search needs) (λ c. search needs)
+    (λ c. search needs) (λ c. search needs) (λ c. search needs) (λ c κs. search needs) (λ c. search needs)
+    (λ c. search needs) (λ c. search needs) loop-again (λ c. search needs) returns)

@@ -1,6 +1,6 @@
 -- `refusal::touch::channel_leaves` meets its contract: unused, or with rows that all lie inside, it stays inside.
 use Rattle.refusal.proofs.TouchLaws.{channelLeaves-when-used, channelLeaves-when-inside, channelLeaves-when-unused}
-use borrow.Author.Needs.{needs}
+use Rattle.word.proofs.Base.{needs}
 use Rattle.refusal.proofs.touch.channel_leaves.Statement.{statement}
 use Rattle.refusal.proofs.touch.channel_leaves.Tie as tie
 
@@ -15,11 +15,4 @@ returns-3 c = search channelLeaves-when-unused
 
 pub channel-leaves-spec : {M : Type 1} → statement M
 channel-leaves-spec =
-    tie.close
-    (tie.spec
-    (λ c κs. search needs)
-    returns
-    (λ c. search needs)
-    (λ c κs. search needs)
-    returns-2
-    returns-3)
+    tie.close (tie.spec (λ c κs. search needs) returns (λ c. search needs) (λ c κs. search needs) returns-2 returns-3)

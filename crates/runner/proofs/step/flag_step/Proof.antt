@@ -1,6 +1,6 @@
 -- `runner::step::flag_step` meets its contract: the flag is written to its place.
 use Rattle.runner.proofs.EffectLaws.{stepEffect-of-flag}
-use borrow.Author.Needs.{needs}
+use Rattle.word.proofs.Base.{needs}
 use Rattle.runner.proofs.step.flag_step.Statement.{statement}
 use Rattle.runner.proofs.step.flag_step.Tie as tie
 

@@ -1,6 +1,6 @@
 -- `runner::step::register_step` meets its contract: what the register keeps is written to its place.
 use Rattle.runner.proofs.EffectLaws.{stepEffect-of-register}
-use borrow.Author.Needs.{needs}
+use Rattle.word.proofs.Base.{needs}
 use Rattle.runner.proofs.step.register_step.Statement.{statement}
 use Rattle.runner.proofs.step.register_step.Tie as tie
 

@@ -1,6 +1,6 @@
 -- `runner::step::store_step` meets its contract: the one test is the definition's.
 use Rattle.runner.proofs.EffectLaws.{stepEffect-when-outside, stepEffect-when-inside}
-use borrow.Author.Needs.{needs}
+use Rattle.word.proofs.Base.{needs}
 use Rattle.runner.proofs.step.store_step.Statement.{statement}
 use Rattle.runner.proofs.step.store_step.Tie as tie
 

@@ -1,11 +1,8 @@
 -- `runner::steps::run_steps` meets its contract: what is left of the job from here gives what the whole gives.
-use mathlib.Core.Path.{_≡_}
-use Prim.Native.Nat.{_*_, _-_, _≤_}
-use lib.ListN.{length}
+use Rattle.word.proofs.Base.{_≡_, _-_, _*_, _≤_, needs, length}
 use Rattle.runner.specs.Run.{machine, runFrom}
 use Rattle.runner.proofs.RunLaws.{runAt, runAt-at-end, runAt-of-end, runAt-of-fault, runAt-turn, runAt-of-refused, stored-le, stored-fits}
 use Rattle.job.proofs.StepLaws.{read-falls, read-inside}
-use borrow.Author.Needs.{needs}
 use Rattle.runner.proofs.steps.run_steps.Statement.{statement}
 use Rattle.runner.proofs.steps.run_steps.Tie as tie
 
@@ -19,9 +16,6 @@ Inv-loop ram₀ file₀ job at₀ stored₀ ram file at stored =
 
 abbrev μ-loop : tie.MeasureT-loop
 μ-loop ram₀ file₀ job at₀ stored₀ ram file at stored = length job - at
-
-loop-holds : tie.Need-loop-holds Inv-loop μ-loop
-loop-holds c = search needs
 
 add-stored : tie.Need-add-stored Inv-loop μ-loop
 add-stored c = search stored-fits
@@ -46,30 +40,8 @@ returns-4 c = search runAt-at-end
 
 pub run-steps-spec : {M : Type 1} → statement M
 run-steps-spec =
-    tie.close
-    (tie.spec
-    Inv-loop
-    μ-loop
-    loop-holds
-    (λ c κs. search needs)
-    (λ c. search needs)
-    (λ c κs. search needs)
-    (λ c. search needs)
-    add-stored
-    loop-less
-    loop-again
-    (λ c. search needs)
-    (λ c. search needs)
-    (λ c. search needs)
-    returns
-    (λ c. search needs)
-    (λ c. search needs)
-    (λ c. search needs)
-    returns-2
-    (λ c. search needs)
-    (λ c. search needs)
-    (λ c. search needs)
-    returns-3
-    (λ c. search needs)
-    (λ c. search needs)
+    tie.close (tie.spec Inv-loop μ-loop (λ c. search needs) (λ c κs. search needs) (λ c. search needs)
+    (λ c κs. search needs) (λ c. search needs) add-stored loop-less loop-again (λ c. search needs) (λ c. search needs)
+    (λ c. search needs) returns (λ c. search needs) (λ c. search needs) (λ c. search needs) returns-2
+    (λ c. search needs) (λ c. search needs) (λ c. search needs) returns-3 (λ c. search needs) (λ c. search needs)
     returns-4)

@@ -1,6 +1,6 @@
 -- `settled::settle::lawful` meets its contract: no refusal has the number 0.
 use Rattle.settled.proofs.SettledLaws.{lawful-when-lawful, lawful-when-refused}
-use borrow.Author.Needs.{needs}
+use Rattle.word.proofs.Base.{needs}
 use Rattle.settled.proofs.settle.lawful.Statement.{statement}
 use Rattle.settled.proofs.settle.lawful.Tie as tie
 

@@ -1,6 +1,6 @@
 -- `settled::settle::only_d_used` meets its contract: the four use bits.
 use Rattle.settled.proofs.SettledLaws.{onlyDUsed-of-uses}
-use borrow.Author.Needs.{needs}
+use Rattle.word.proofs.Base.{needs}
 use Rattle.settled.proofs.settle.only_d_used.Statement.{statement}
 use Rattle.settled.proofs.settle.only_d_used.Tie as tie
 

@@ -1,7 +1,6 @@
 -- `settled::settle::settled` meets its contract: a condition that fails settles it; where all but the last hold, the last tells.
 use Rattle.settled.proofs.SettledLaws.{settled-when-large, settled-when-unknown, settled-when-fetching, settled-when-sourceless, settled-when-lawful}
-use borrow.Author.Tests.{not-true, not-false}
-use borrow.Author.Needs.{needs}
+use Rattle.word.proofs.Base.{not-true, not-false, needs}
 use Rattle.settled.proofs.settle.settled.Statement.{statement}
 use Rattle.settled.proofs.settle.settled.Tie as tie
 
@@ -22,20 +21,6 @@ returns-5 c = search (settled-when-lawful, not-false)
 
 pub settled-spec : {M : Type 1} → statement M
 settled-spec =
-    tie.close
-    (tie.spec
-    (λ c κs. search needs)
-    returns
-    (λ c κs. search needs)
-    returns-2
-    (λ c κs. search needs)
-    (λ c. search needs)
-    (λ c. search needs)
-    (λ c. search needs)
-    (λ c κs. search needs)
-    returns-3
-    (λ c κs. search needs)
-    returns-4
-    (λ c. search needs)
-    (λ c κs. search needs)
-    returns-5)
+    tie.close (tie.spec (λ c κs. search needs) returns (λ c κs. search needs) returns-2 (λ c κs. search needs)
+    (λ c. search needs) (λ c. search needs) (λ c. search needs) (λ c κs. search needs) returns-3 (λ c κs. search needs)
+    returns-4 (λ c. search needs) (λ c κs. search needs) returns-5)

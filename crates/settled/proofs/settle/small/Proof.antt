@@ -1,7 +1,7 @@
 -- `settled::settle::small` meets its contract: the product of height and width, which fits.
 use Rattle.word.proofs.SizeLaws.{words-fit}
 use Rattle.settled.proofs.SettledLaws.{small-of-parts}
-use borrow.Author.Needs.{needs}
+use Rattle.word.proofs.Base.{needs}
 use Rattle.settled.proofs.settle.small.Statement.{statement}
 use Rattle.settled.proofs.settle.small.Tie as tie
 

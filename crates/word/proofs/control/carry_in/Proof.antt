@@ -1,5 +1,5 @@
 -- `word::control::carry_in` meets its contract: bit 2.
-use mathlib.Core.Path.{refl}
+use Rattle.word.proofs.Base.{refl}
 use Rattle.word.proofs.control.carry_in.Statement.{statement}
 use Rattle.word.proofs.control.carry_in.Tie as tie
 

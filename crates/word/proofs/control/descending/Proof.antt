@@ -1,5 +1,5 @@
 -- `word::control::descending` meets its contract: bit 1.
-use mathlib.Core.Path.{refl}
+use Rattle.word.proofs.Base.{refl}
 use Rattle.word.proofs.control.descending.Statement.{statement}
 use Rattle.word.proofs.control.descending.Tie as tie
 

@@ -1,5 +1,5 @@
 -- `word::control::exclusive_fill` meets its contract: bit 4.
-use mathlib.Core.Path.{refl}
+use Rattle.word.proofs.Base.{refl}
 use Rattle.word.proofs.control.exclusive_fill.Statement.{statement}
 use Rattle.word.proofs.control.exclusive_fill.Tie as tie
 

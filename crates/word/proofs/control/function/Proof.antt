@@ -1,5 +1,5 @@
 -- `word::control::function` meets its contract: bits 7-0.
-use mathlib.Core.Path.{refl}
+use Rattle.word.proofs.Base.{refl}
 use Rattle.word.proofs.control.function.Statement.{statement}
 use Rattle.word.proofs.control.function.Tie as tie
 

@@ -1,5 +1,5 @@
 -- `word::control::inclusive_fill` meets its contract: bit 3.
-use mathlib.Core.Path.{refl}
+use Rattle.word.proofs.Base.{refl}
 use Rattle.word.proofs.control.inclusive_fill.Statement.{statement}
 use Rattle.word.proofs.control.inclusive_fill.Tie as tie
 

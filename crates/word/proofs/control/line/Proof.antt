@@ -1,5 +1,5 @@
 -- `word::control::line` meets its contract: bit 0.
-use mathlib.Core.Path.{refl}
+use Rattle.word.proofs.Base.{refl}
 use Rattle.word.proofs.control.line.Statement.{statement}
 use Rattle.word.proofs.control.line.Tie as tie
 

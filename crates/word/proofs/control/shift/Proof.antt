@@ -1,6 +1,5 @@
 -- `word::control::shift` meets its contract: bits 15-12.
-use mathlib.Core.Path.{refl}
-use borrow.Author.Needs.{needs}
+use Rattle.word.proofs.Base.{refl, needs}
 use Rattle.word.proofs.control.shift.Statement.{statement}
 use Rattle.word.proofs.control.shift.Tie as tie
 

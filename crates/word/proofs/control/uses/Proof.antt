@@ -1,5 +1,5 @@
 -- `word::control::uses` meets its contract: field by field.
-use mathlib.Core.Path.{refl}
+use Rattle.word.proofs.Base.{refl}
 use Rattle.word.specs.Control.{uses}
 use Rattle.word.proofs.control.uses.Statement.{statement}
 use Rattle.word.proofs.control.uses.Tie as tie

@@ -1,6 +1,6 @@
 -- `word::even::distance` meets its contract: 1,023 strides of at most 131,072 words.
 use Rattle.word.proofs.StrideLaws.{distance-le, distance-fits}
-use borrow.Author.Needs.{needs}
+use Rattle.word.proofs.Base.{needs}
 use Rattle.word.proofs.even.distance.Statement.{statement}
 use Rattle.word.proofs.even.distance.Tie as tie
 

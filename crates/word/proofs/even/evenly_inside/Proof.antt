@@ -1,6 +1,6 @@
 -- `word::even::evenly_inside` meets its contract: a column in whole memory, or rows whose first and last start in one span.
 use Rattle.word.proofs.EvenLaws.{RowsInside-of-columns, RowsInside-upward, RowsInside-downward, nothing-promised}
-use borrow.Author.Needs.{needs}
+use Rattle.word.proofs.Base.{needs}
 use Rattle.word.proofs.even.evenly_inside.Statement.{statement}
 use Rattle.word.proofs.even.evenly_inside.Tie as tie
 
@@ -28,20 +28,6 @@ returns-6 c = search (needs, RowsInside-downward, c .span-inside2 .ensures)
 
 pub evenly-inside-spec : {M : Type 1} → statement M
 evenly-inside-spec =
-    tie.close
-    (tie.spec
-    (λ c. search needs)
-    returns
-    returns-2
-    returns-3
-    (λ c κs. search needs)
-    (λ c κs. search needs)
-    (λ c κs. search needs)
-    (λ c. search needs)
-    (λ c κs. search needs)
-    returns-4
-    (λ c. search needs)
-    (λ c κs. search needs)
-    returns-5
-    (λ c κs. search needs)
-    returns-6)
+    tie.close (tie.spec (λ c. search needs) returns returns-2 returns-3 (λ c κs. search needs) (λ c κs. search needs)
+    (λ c κs. search needs) (λ c. search needs) (λ c κs. search needs) returns-4 (λ c. search needs)
+    (λ c κs. search needs) returns-5 (λ c κs. search needs) returns-6)

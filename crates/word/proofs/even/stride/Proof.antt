@@ -1,7 +1,6 @@
 -- `word::even::stride` meets its contract: the next row of one that starts at the start of memory.
-use mathlib.Core.Path.{ap}
+use Rattle.word.proofs.Base.{ap, needs}
 use Rattle.word.specs.declared.types.Pointer.{Pointer}
-use borrow.Author.Needs.{needs}
 use Rattle.word.proofs.even.stride.Statement.{statement}
 use Rattle.word.proofs.even.stride.Tie as tie
 

@@ -1,7 +1,6 @@
 -- `word::fill::exclusive` meets its contract: its four doublings are the prefix of `FillLaws`.
-use native.Mathlib.Omega.{arith}
+use Rattle.word.proofs.Base.{arith, needs}
 use Rattle.word.proofs.FillLaws.{prefix, exclusive-is-prefix}
-use borrow.Author.Needs.{needs}
 use Rattle.word.proofs.fill.exclusive.Statement.{statement}
 use Rattle.word.proofs.fill.exclusive.Tie as tie
 

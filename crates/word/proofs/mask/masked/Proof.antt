@@ -1,6 +1,6 @@
 -- `word::mask::masked` meets its contract: the first word's mask, then the last word's.
 use Rattle.word.proofs.MaskLaws.{masked-of-both}
-use borrow.Author.Needs.{needs}
+use Rattle.word.proofs.Base.{needs}
 use Rattle.word.proofs.mask.masked.Statement.{statement}
 use Rattle.word.proofs.mask.masked.Tie as tie
 

@@ -1,6 +1,6 @@
 -- `word::memory::memory_size` meets its contract: the far end tested the other way round.
 use Rattle.word.proofs.MemoryLaws.{memorySize-is-beyond}
-use borrow.Author.Needs.{needs}
+use Rattle.word.proofs.Base.{needs}
 use Rattle.word.proofs.memory.memory_size.Statement.{statement}
 use Rattle.word.proofs.memory.memory_size.Tie as tie
 

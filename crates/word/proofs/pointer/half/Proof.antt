@@ -1,6 +1,6 @@
 -- `word::pointer::half` meets its contract: the same sum.
 use Rattle.word.specs.Pointer.{half}
-use borrow.Author.Needs.{needs}
+use Rattle.word.proofs.Base.{needs}
 use Rattle.word.proofs.pointer.half.Statement.{statement}
 use Rattle.word.proofs.pointer.half.Tie as tie
 

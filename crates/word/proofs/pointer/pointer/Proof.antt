@@ -1,6 +1,6 @@
 -- `word::pointer::pointer` meets its contract: the same number.
 use Rattle.word.specs.Pointer.{pointer}
-use borrow.Author.Needs.{needs}
+use Rattle.word.proofs.Base.{needs}
 use Rattle.word.proofs.pointer.pointer.Statement.{statement}
 use Rattle.word.proofs.pointer.pointer.Tie as tie
 

@@ -1,6 +1,6 @@
 -- `word::shift::shifted` meets its contract, direction by direction.
 use Rattle.word.proofs.ShiftLaws.{shifted-when-ascending, shifted-when-descending}
-use borrow.Author.Needs.{needs}
+use Rattle.word.proofs.Base.{needs}
 use Rattle.word.proofs.shift.shifted.Statement.{statement}
 use Rattle.word.proofs.shift.shifted.Tie as tie
 
@@ -12,5 +12,5 @@ returns-2 c = search shifted-when-descending
 
 pub shifted-spec : {M : Type 1} → statement M
 shifted-spec =
-    tie.close
-    (tie.spec (λ c. search needs) (λ c κs. search needs) (λ c. search needs) (λ c κs. search needs) returns returns-2)
+    tie.close (tie.spec (λ c. search needs) (λ c κs. search needs) (λ c. search needs) (λ c κs. search needs) returns
+    returns-2)

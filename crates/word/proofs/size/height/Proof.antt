@@ -1,6 +1,6 @@
 -- `word::size::height` meets its contract: zero means 1,024, any other field itself.
 use Rattle.word.proofs.SizeLaws.{height-of-zero, height-of-field}
-use borrow.Author.Needs.{needs}
+use Rattle.word.proofs.Base.{needs}
 use Rattle.word.proofs.size.height.Statement.{statement}
 use Rattle.word.proofs.size.height.Tie as tie
 

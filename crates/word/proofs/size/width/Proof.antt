@@ -1,6 +1,6 @@
 -- `word::size::width` meets its contract: zero means 64, any other field itself.
 use Rattle.word.proofs.SizeLaws.{width-of-zero, width-of-field}
-use borrow.Author.Needs.{needs}
+use Rattle.word.proofs.Base.{needs}
 use Rattle.word.proofs.size.width.Statement.{statement}
 use Rattle.word.proofs.size.width.Tie as tie
 

@@ -1,6 +1,6 @@
 -- `Pointer::minus` meets its contract: a bounded word number moves as any other.
 use Rattle.word.proofs.PointerLaws.{sum-of-remainder}
-use borrow.Author.Needs.{needs}
+use Rattle.word.proofs.Base.{needs}
 use Rattle.word.proofs.types.Pointer.minus.Statement.{statement}
 use Rattle.word.proofs.types.Pointer.minus.Tie as tie
 

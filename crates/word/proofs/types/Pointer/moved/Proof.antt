@@ -1,6 +1,6 @@
 -- `Pointer::moved` meets its contract, direction by direction.
 use Rattle.word.proofs.PointerLaws.{moved-when-ascending, moved-when-descending}
-use borrow.Author.Needs.{needs}
+use Rattle.word.proofs.Base.{needs}
 use Rattle.word.proofs.types.Pointer.moved.Statement.{statement}
 use Rattle.word.proofs.types.Pointer.moved.Tie as tie
 
@@ -11,4 +11,6 @@ returns-2 : tie.Need-returns-2
 returns-2 c = search moved-when-descending
 
 pub moved-spec : {M : Type 1} → statement M
-moved-spec = tie.close (tie.spec (λ c. search needs) (λ c κs. search needs) (λ c. search needs) (λ c κs. search needs) returns returns-2)
+moved-spec =
+    tie.close (tie.spec (λ c. search needs) (λ c κs. search needs) (λ c. search needs) (λ c κs. search needs) returns
+    returns-2)

@@ -1,6 +1,6 @@
 -- `Pointer::next_row` meets its contract: the row's moves are one move.
 use Rattle.word.proofs.PointerLaws.{nextRow-of-moves}
-use borrow.Author.Needs.{needs}
+use Rattle.word.proofs.Base.{needs}
 use Rattle.word.proofs.types.Pointer.next_row.Statement.{statement}
 use Rattle.word.proofs.types.Pointer.next_row.Tie as tie
 

@@ -1,6 +1,6 @@
 -- `Pointer::passed` meets its contract, direction by direction.
 use Rattle.word.proofs.PointerLaws.{passed-when-ascending, passed-when-descending}
-use borrow.Author.Needs.{needs}
+use Rattle.word.proofs.Base.{needs}
 use Rattle.word.proofs.types.Pointer.passed.Statement.{statement}
 use Rattle.word.proofs.types.Pointer.passed.Tie as tie
 
@@ -12,4 +12,5 @@ returns-2 c = search passed-when-descending
 
 pub passed-spec : {M : Type 1} → statement M
 passed-spec =
-    tie.close (tie.spec (λ c. search needs) (λ c κs. search needs) (λ c. search needs) (λ c κs. search needs) returns returns-2)
+    tie.close (tie.spec (λ c. search needs) (λ c κs. search needs) (λ c. search needs) (λ c κs. search needs) returns
+    returns-2)

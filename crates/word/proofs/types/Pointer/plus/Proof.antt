@@ -1,6 +1,6 @@
 -- `Pointer::plus` meets its contract: a bounded word number moves as any other.
 use Rattle.word.proofs.PointerLaws.{sum-of-remainder}
-use borrow.Author.Needs.{needs}
+use Rattle.word.proofs.Base.{needs}
 use Rattle.word.proofs.types.Pointer.plus.Statement.{statement}
 use Rattle.word.proofs.types.Pointer.plus.Tie as tie
 

@@ -1,6 +1,6 @@
 -- `Pointer::up` meets its contract: a bounded word number moves as any other.
 use Rattle.word.proofs.PointerLaws.{sum-of-remainder}
-use borrow.Author.Needs.{needs}
+use Rattle.word.proofs.Base.{needs}
 use Rattle.word.proofs.types.Pointer.up.Statement.{statement}
 use Rattle.word.proofs.types.Pointer.up.Tie as tie
 

@@ -1,5 +1,17 @@
 // The types that a block's loops speak of.
 
+// How many words a row has, and how many rows there are.
+pub struct Size {
+    pub width: usize,
+    pub height: usize,
+}
+
+// Where a channel's rows lie: the first word of the first, and how far above a row's start the next one's is.
+pub struct Course {
+    pub from: usize,
+    pub far: usize,
+}
+
 // Whether a function depends on each source.
 pub struct Needs {
     pub a: bool,

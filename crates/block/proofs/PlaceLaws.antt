@@ -8,8 +8,9 @@ use Rattle.word.specs.Inner.Even.{RowInside}
 use Rattle.word.proofs.PointerLaws.{sum-of-remainder}
 use Rattle.quiet.specs.Stream.{laidAt}
 use Rattle.quiet.proofs.StreamLaws.{row-of, word-of}
+use Rattle.block.specs.declared.types.Size.{Size}
 use Rattle.block.specs.Inner.Each.{at, fromAt, Each, Laid}
-use Rattle.block.specs.Inner.Place.{rowAt, placeIn, placeAt, EvenRows, fetchedIn, fetchedAt}
+use Rattle.block.specs.Inner.Place.{rowAt, placeIn, Reaches, placeAt, EvenRows, Lies, fetchedIn, fetchedAt}
 use Rattle.block.proofs.EachLaws.{laid-turn, each-of-laid}
 
 -- rows start evenly
@@ -43,26 +44,18 @@ pub even-row : (n length : ℕ) (direction : Direction) (width far from rows row
 unfolding EvenRows
 even-row n length direction width far from rows row start kept inside below is = rw (kept, is) (inside row below)
 
-pub row-ascends : (n width start : ℕ) (direction : Direction) → direction ≡ Ascending → RowInside n direction width (record { word = start }) → start + width ≤ n
+-- a word of a row
+pub place-reaches : (n width start word : ℕ) (direction : Direction) → RowInside n direction width (record { word = start }) → word < width → n < 18446744073709551616
+    → Reaches direction start word
 unfolding RowInside
-row-ascends n width start direction way inside = rw way at inside
+place-reaches n width start word Ascending inside short most = omega arith
+place-reaches n width start word Descending inside short most = omega (arith, inside)
 
-pub row-descends-from : (n width start : ℕ) (direction : Direction) → direction ≡ Descending → RowInside n direction width (record { word = start }) → start < n
-unfolding RowInside
-row-descends-from n width start direction way inside = (rw way at inside) .0
-
-pub row-descends-by : (n width start : ℕ) (direction : Direction) → direction ≡ Descending → RowInside n direction width (record { word = start })
-    → width ≤ start + 1
-unfolding RowInside
-row-descends-by n width start direction way inside = (rw way at inside) .1
-
-pub fetch-when : (direction way : Direction) (s width start : ℕ) (words before memory : List ℕ) → direction ≡ way
-    → Laid s width words before (fetchedIn way memory start) → Laid s width words before (fetchedIn direction memory start)
-fetch-when direction way s width start words before memory is all = rw is all
-
-pub store-when : (direction way : Direction) (start width : ℕ) (word : ℕ → ℕ) (after before : List ℕ) → direction ≡ way
-    → after ≡ laidAt (placeIn way start) word width before → after ≡ laidAt (placeIn direction start) word width before
-store-when direction way start width word after before is all = rw is all
+pub place-inside : (n width start word place : ℕ) (direction : Direction) → RowInside n direction width (record { word = start }) → word < width → place ≡ placeIn direction start word
+    → place < n
+unfolding RowInside placeIn
+place-inside n width start word place Ascending inside short is = omega arith
+place-inside n width start word place Descending inside short is = omega (arith, inside)
 
 -- words laid one after the other: some and then some more, the same words at the same places
 laidAt-more : (place word : ℕ → ℕ) (m n : ℕ) (memory : List ℕ)
@@ -87,27 +80,18 @@ pub laidAt-done : (place word : ℕ → ℕ) (i n : ℕ) (memory before : List �
 laidAt-done place word i n memory before most least is = let end : i ≡ n = omega arith in is ∙ ap (λ (n : ℕ). laidAt place word n before) end
 
 -- turns of the loops along a row
-module _ (memory words before : List ℕ) (start s i : ℕ) (inside : s + i < length words) where
-  pub fetch-up-turn : Laid s i words before (fetchedIn Ascending memory start)
-      → Laid s (i + 1) (set words (s + i) (getD memory (start + i) 0)) before (fetchedIn Ascending memory start)
-  unfolding fetchedIn placeIn
-  fetch-up-turn all = laid-turn s i _ words before _ inside refl all
+pub fetch-turn : (memory words before : List ℕ) (direction : Direction) (start s i place : ℕ) → s + i < length words → place ≡ placeIn direction start i
+    → Laid s i words before (fetchedIn direction memory start)
+    → Laid s (i + 1) (set words (s + i) (getD memory place 0)) before (fetchedIn direction memory start)
+unfolding fetchedIn
+fetch-turn memory words before direction start s i place inside is all =
+    laid-turn s i _ words before _ inside (ap (λ (place : ℕ). getD memory place 0) is) all
 
-  pub fetch-down-turn : Laid s i words before (fetchedIn Descending memory start)
-      → Laid s (i + 1) (set words (s + i) (getD memory (start - i) 0)) before (fetchedIn Descending memory start)
-  unfolding fetchedIn placeIn
-  fetch-down-turn all = laid-turn s i _ words before _ inside refl all
-
-module _ (memory before words : List ℕ) (start s i : ℕ) where
-  pub store-up-turn : memory ≡ laidAt (placeIn Ascending start) (fromAt s words) i before
-      → set memory (start + i) (getD words (s + i) 0) ≡ laidAt (placeIn Ascending start) (fromAt s words) (i + 1) before
-  unfolding laidAt placeIn fromAt
-  store-up-turn is = rw (add-one, is)
-
-  pub store-down-turn : memory ≡ laidAt (placeIn Descending start) (fromAt s words) i before
-      → set memory (start - i) (getD words (s + i) 0) ≡ laidAt (placeIn Descending start) (fromAt s words) (i + 1) before
-  unfolding laidAt placeIn fromAt
-  store-down-turn is = rw (add-one, is)
+pub store-turn : (memory before words : List ℕ) (direction : Direction) (start s i place : ℕ) → place ≡ placeIn direction start i
+    → memory ≡ laidAt (placeIn direction start) (fromAt s words) i before
+    → set memory place (getD words (s + i) 0) ≡ laidAt (placeIn direction start) (fromAt s words) (i + 1) before
+unfolding laidAt fromAt
+store-turn memory before words direction start s i place at is = rw (add-one, is, at)
 
 -- and row by row
 module _ (direction : Direction) (width far from row start : ℕ) (is : start ≡ rowAt far from row) where
@@ -136,17 +120,15 @@ module _ (direction : Direction) (width far from row start : ℕ) (is : start �
       ∙ sym (laidAt-more (placeAt direction width far from) (at words) s width before)
 
 -- a width that is known
-module _ (width known : ℕ) (is : width ≡ known) where
-  pub even-when : (n : ℕ) (direction : Direction) (far from rows : ℕ) → EvenRows n direction width far from rows → EvenRows n direction known far from rows
-  even-when n direction far from rows inside = rw is at inside
+module _ (size : Size) (known : ℕ) (is : size .width ≡ known) (direction : Direction) (far from : ℕ) where
+  pub lies-when : (n : ℕ) → Lies n direction far from size → Lies n direction far from (record { width = known; height = size .height })
+  lies-when n lies =
+      record { inside = rw is at (lies .inside); room = rw is at (lies .room); some = rw is at (lies .some); starts = lies .starts; strides = lies .strides }
 
-  pub room-when : (rows : ℕ) → rows * width ≤ 64 → rows * known ≤ 64
-  room-when rows room = rw is at room
+  pub fetch-rows-when : (words memory : List ℕ) → Each (size .height * known) words (fetchedAt direction known far from memory)
+      → Each (size .height * size .width) words (fetchedAt direction (size .width) far from memory)
+  fetch-rows-when words memory all = rw is all
 
-  pub fetch-rows-when : (direction : Direction) (far from rows : ℕ) (words memory : List ℕ)
-      → Each (rows * known) words (fetchedAt direction known far from memory) → Each (rows * width) words (fetchedAt direction width far from memory)
-  fetch-rows-when direction far from rows words memory all = rw is all
-
-  pub store-rows-when : (direction : Direction) (far from rows : ℕ) (word : ℕ → ℕ) (after before : List ℕ)
-      → after ≡ laidAt (placeAt direction known far from) word (rows * known) before → after ≡ laidAt (placeAt direction width far from) word (rows * width) before
-  store-rows-when direction far from rows word after before all = rw is all
+  pub store-rows-when : (word : ℕ → ℕ) (after before : List ℕ) → after ≡ laidAt (placeAt direction known far from) word (size .height * known) before
+      → after ≡ laidAt (placeAt direction (size .width) far from) word (size .height * size .width) before
+  store-rows-when word after before all = rw is all

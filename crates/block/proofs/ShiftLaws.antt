@@ -1,6 +1,6 @@
 -- Laws of the shift of an array's words.
 use Rattle.word.proofs.Base.{_≡_, refl, sym, ap, _∙_, ℕ, zero, suc, _+_, _-_, _*_, _/_, _%_, _^_, _<_, add-one, arith}
-use Rattle.word.proofs.Base.{List, length, getD, set}
+use Rattle.word.proofs.Base.{subst, decLt, List, length, getD, set}
 use Rattle.word.specs.declared.types.Direction.{Direction}
 use Rattle.word.specs.declared.types.Direction.the-variants.{Ascending, Descending}
 use Rattle.word.specs.Shift.{shifted}
@@ -25,10 +25,6 @@ module _ (direction : Direction) (by earlier here : ℕ) (words shifts : List �
       before-next : (i : ℕ) → wordBefore earlier (at words) (i + 1) ≡ getD words i 0
       before-next i = rw add-one
 
-pub shift-when : (direction way : Direction) (by earlier n : ℕ) (words shifts : List ℕ) → direction ≡ way
-    → Each n shifts (shiftedAt way by earlier (at words)) → Each n shifts (shiftedAt direction by earlier (at words))
-shift-when direction way by earlier n words shifts is all = rw is all
-
 -- a shift by nought
 pub shift-of-nought : (direction : Direction) (by earlier n : ℕ) (words shifts : List ℕ) → by ≡ 0 → earlier < 65536 → ((j : ℕ) → getD words j 0 < 65536)
     → Each n shifts (at words) → Each n shifts (shiftedAt direction by earlier (at words))
@@ -41,36 +37,29 @@ shift-of-nought direction by earlier n words shifts none before small all =
     first zero = before
     first (suc j) = small j
 
--- what holds for each of sixteen numbers
-sixteen : (Holds : ℕ → Type 0) → Holds 0 → Holds 1 → Holds 2 → Holds 3 → Holds 4 → Holds 5 → Holds 6 → Holds 7 → Holds 8 → Holds 9 → Holds 10 → Holds 11 → Holds 12 → Holds 13 → Holds 14 → Holds 15 → (n : ℕ) → n < 16 → Holds n
-sixteen Holds p0 p1 p2 p3 p4 p5 p6 p7 p8 p9 p10 p11 p12 p13 p14 p15 zero small = p0
-sixteen Holds p0 p1 p2 p3 p4 p5 p6 p7 p8 p9 p10 p11 p12 p13 p14 p15 (suc zero) small = p1
-sixteen Holds p0 p1 p2 p3 p4 p5 p6 p7 p8 p9 p10 p11 p12 p13 p14 p15 (suc (suc zero)) small = p2
-sixteen Holds p0 p1 p2 p3 p4 p5 p6 p7 p8 p9 p10 p11 p12 p13 p14 p15 (suc (suc (suc zero))) small = p3
-sixteen Holds p0 p1 p2 p3 p4 p5 p6 p7 p8 p9 p10 p11 p12 p13 p14 p15 (suc (suc (suc (suc zero)))) small = p4
-sixteen Holds p0 p1 p2 p3 p4 p5 p6 p7 p8 p9 p10 p11 p12 p13 p14 p15 (suc (suc (suc (suc (suc zero))))) small = p5
-sixteen Holds p0 p1 p2 p3 p4 p5 p6 p7 p8 p9 p10 p11 p12 p13 p14 p15 (suc (suc (suc (suc (suc (suc zero)))))) small = p6
-sixteen Holds p0 p1 p2 p3 p4 p5 p6 p7 p8 p9 p10 p11 p12 p13 p14 p15 (suc (suc (suc (suc (suc (suc (suc zero))))))) small = p7
-sixteen Holds p0 p1 p2 p3 p4 p5 p6 p7 p8 p9 p10 p11 p12 p13 p14 p15 (suc (suc (suc (suc (suc (suc (suc (suc zero)))))))) small = p8
-sixteen Holds p0 p1 p2 p3 p4 p5 p6 p7 p8 p9 p10 p11 p12 p13 p14 p15 (suc (suc (suc (suc (suc (suc (suc (suc (suc zero))))))))) small = p9
-sixteen Holds p0 p1 p2 p3 p4 p5 p6 p7 p8 p9 p10 p11 p12 p13 p14 p15 (suc (suc (suc (suc (suc (suc (suc (suc (suc (suc zero)))))))))) small = p10
-sixteen Holds p0 p1 p2 p3 p4 p5 p6 p7 p8 p9 p10 p11 p12 p13 p14 p15 (suc (suc (suc (suc (suc (suc (suc (suc (suc (suc (suc zero))))))))))) small = p11
-sixteen Holds p0 p1 p2 p3 p4 p5 p6 p7 p8 p9 p10 p11 p12 p13 p14 p15 (suc (suc (suc (suc (suc (suc (suc (suc (suc (suc (suc (suc zero)))))))))))) small = p12
-sixteen Holds p0 p1 p2 p3 p4 p5 p6 p7 p8 p9 p10 p11 p12 p13 p14 p15 (suc (suc (suc (suc (suc (suc (suc (suc (suc (suc (suc (suc (suc zero))))))))))))) small = p13
-sixteen Holds p0 p1 p2 p3 p4 p5 p6 p7 p8 p9 p10 p11 p12 p13 p14 p15 (suc (suc (suc (suc (suc (suc (suc (suc (suc (suc (suc (suc (suc (suc zero)))))))))))))) small = p14
-sixteen Holds p0 p1 p2 p3 p4 p5 p6 p7 p8 p9 p10 p11 p12 p13 p14 p15 (suc (suc (suc (suc (suc (suc (suc (suc (suc (suc (suc (suc (suc (suc (suc zero))))))))))))))) small = p15
-sixteen Holds p0 p1 p2 p3 p4 p5 p6 p7 p8 p9 p10 p11 p12 p13 p14 p15 (suc (suc (suc (suc (suc (suc (suc (suc (suc (suc (suc (suc (suc (suc (suc (suc n)))))))))))))))) small = absurd (omega arith)
+-- what holds for each number below another
+abbrev Below : (ℕ → Type 0) → ℕ → Type 0
+Below Holds zero = Unit
+Below Holds (suc n) = Below Holds n × Holds n
+
+below : (Holds : ℕ → Type 0) (most n : ℕ) → n < most → Below Holds most → Holds n
+below Holds zero n small all = absurd (omega arith)
+below Holds (suc most) n small all = by (decLt n most) (λ earlier. below Holds most n earlier (all .0))
+  where
+    by : Dec (n < most) → (n < most → Holds n) → Holds n
+    by (yes earlier) found = found earlier
+    by (no last) found = subst Holds (omega arith) (all .1)
 
 -- the earlier word's low bits, where they belong
 low-bits : (n earlier : ℕ) → n < 16 → earlier < 65536 → earlier * 2 ^ 1 % 2 ^ 16 * 2 ^ (15 - n) % 2 ^ 16 ≡ earlier % 2 ^ n * 2 ^ (16 - n)
 low-bits n earlier few before =
-    sixteen (λ (n : ℕ). earlier * 2 ^ 1 % 2 ^ 16 * 2 ^ (15 - n) % 2 ^ 16 ≡ earlier % 2 ^ n * 2 ^ (16 - n))
-    (omega arith) (omega arith) (omega arith) (omega arith) (omega arith) (omega arith) (omega arith) (omega arith) (omega arith) (omega arith) (omega arith) (omega arith) (omega arith) (omega arith) (omega arith) (omega arith) n few
+    below (λ (n : ℕ). earlier * 2 ^ 1 % 2 ^ 16 * 2 ^ (15 - n) % 2 ^ 16 ≡ earlier % 2 ^ n * 2 ^ (16 - n))
+    16 n few ((((((((((((((((tt, omega arith), omega arith), omega arith), omega arith), omega arith), omega arith), omega arith), omega arith), omega arith), omega arith), omega arith), omega arith), omega arith), omega arith), omega arith), omega arith)
 
 pair-bits : (n earlier this : ℕ) → n < 16 → earlier < 65536 → this < 65536 → this / 2 ^ n + earlier % 2 ^ n * 2 ^ (16 - n) ≡ shifted Ascending n earlier this
 pair-bits n earlier this few before now =
-    sixteen (λ (n : ℕ). this / 2 ^ n + earlier % 2 ^ n * 2 ^ (16 - n) ≡ shifted Ascending n earlier this)
-    (omega arith) (omega arith) (omega arith) (omega arith) (omega arith) (omega arith) (omega arith) (omega arith) (omega arith) (omega arith) (omega arith) (omega arith) (omega arith) (omega arith) (omega arith) (omega arith) n few
+    below (λ (n : ℕ). this / 2 ^ n + earlier % 2 ^ n * 2 ^ (16 - n) ≡ shifted Ascending n earlier this)
+    16 n few ((((((((((((((((tt, omega arith), omega arith), omega arith), omega arith), omega arith), omega arith), omega arith), omega arith), omega arith), omega arith), omega arith), omega arith), omega arith), omega arith), omega arith), omega arith)
 
 pub drawn-up-is : (n earlier this : ℕ) → n < 16 → earlier < 65536 → this < 65536
     → this / 2 ^ n + earlier * 2 ^ 1 % 2 ^ 16 * 2 ^ (15 - n) % 2 ^ 16 ≡ shifted Ascending n earlier this
@@ -80,5 +69,13 @@ drawn-up-is n earlier this few before now =
 pub drawn-down-is : (n earlier this : ℕ) → n < 16 → earlier < 65536 → this < 65536
     → this * 2 ^ n % 2 ^ 16 + earlier / 2 ^ 1 / 2 ^ (15 - n) ≡ shifted Descending n earlier this
 drawn-down-is n earlier this few before now =
-    sixteen (λ (n : ℕ). this * 2 ^ n % 2 ^ 16 + earlier / 2 ^ 1 / 2 ^ (15 - n) ≡ shifted Descending n earlier this)
-    (omega arith) (omega arith) (omega arith) (omega arith) (omega arith) (omega arith) (omega arith) (omega arith) (omega arith) (omega arith) (omega arith) (omega arith) (omega arith) (omega arith) (omega arith) (omega arith) n few
+    below (λ (n : ℕ). this * 2 ^ n % 2 ^ 16 + earlier / 2 ^ 1 / 2 ^ (15 - n) ≡ shifted Descending n earlier this)
+    16 n few ((((((((((((((((tt, omega arith), omega arith), omega arith), omega arith), omega arith), omega arith), omega arith), omega arith), omega arith), omega arith), omega arith), omega arith), omega arith), omega arith), omega arith), omega arith)
+
+-- by the direction
+module _ (direction : Direction) (n earlier this : ℕ) (few : n < 16) (before : earlier < 65536) (now : this < 65536) where
+  pub drawn-up : direction ≡ Ascending → this / 2 ^ n + earlier * 2 ^ 1 % 2 ^ 16 * 2 ^ (15 - n) % 2 ^ 16 ≡ shifted direction n earlier this
+  drawn-up way = rw way (drawn-up-is n earlier this few before now)
+
+  pub drawn-down : direction ≡ Descending → this * 2 ^ n % 2 ^ 16 + earlier / 2 ^ 1 / 2 ^ (15 - n) ≡ shifted direction n earlier this
+  drawn-down way = rw way (drawn-down-is n earlier this few before now)

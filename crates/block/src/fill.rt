@@ -8,6 +8,7 @@ ghost use Rattle.word.specs.Fill.{exclusive};
 ghost use Rattle.quiet.specs.Words.{filledAt};
 ghost use Rattle.block.specs.Inner.Each.{at, Each, Kept, prefixAt, eitherAt, filledWordAt};
 ghost use Rattle.block.specs.Inner.Carry.{RowFilled, RowsFilled};
+use crate::types::Words;
 use word::types::Fill;
 
 // Its promise tells the loop that what it read is a word.
@@ -18,7 +19,7 @@ fn prefix(this: u16) -> u16
     made.word
 }
 
-fn prefixes(n: usize, o: &[u16; 80], q: &mut [u16; 80])
+fn prefixes(n: usize, o: &Words, q: &mut Words)
     requires { ⌜ (n ≤ 80) × (length (now q) ≡ 80) ⌝ }
     ensures { λ _. ⌜ (length (now (q .exit)) ≡ 80) × Each n (now (q .exit)) (prefixAt (at (now (o .entry)))) ⌝ }
 {
@@ -43,7 +44,7 @@ fn spread(word: u16) -> u16
     word / 32768 * 65535
 }
 
-fn carry_row(start: u16, width: usize, s: usize, q: &mut [u16; 80]) -> u16
+fn carry_row(start: u16, width: usize, s: usize, q: &mut Words) -> u16
     requires { ⌜ (s + width ≤ 80) × (length (now q) ≡ 80) ⌝ }
     ensures { λ over. ⌜ (length (now (q .exit)) ≡ 80) × Kept (s + width) (now (q .exit)) (now (q .entry))
         × RowFilled start width s width over (now (q .exit)) (now (q .entry)) ⌝ }
@@ -60,7 +61,7 @@ fn carry_row(start: u16, width: usize, s: usize, q: &mut [u16; 80]) -> u16
 }
 
 // Each row's carry starts at carry-in.
-fn carry_rows(start: u16, width: usize, rows: usize, q: &mut [u16; 80]) -> u16
+fn carry_rows(start: u16, width: usize, rows: usize, q: &mut Words) -> u16
     requires { ⌜ (1 ≤ width) × (rows * width ≤ 64) × (length (now q) ≡ 80) ⌝ }
     ensures { λ over. ⌜ (length (now (q .exit)) ≡ 80)
         × RowsFilled start width (rows * width) (rows * width) over (now (q .exit)) (now (q .entry)) ⌝ }
@@ -77,7 +78,7 @@ fn carry_rows(start: u16, width: usize, rows: usize, q: &mut [u16; 80]) -> u16
 }
 
 // The words filled exclusively stand in q; the answer is the last carry.
-fn exclusive(start: u16, width: usize, rows: usize, o: &[u16; 80], q: &mut [u16; 80]) -> u16
+fn exclusive(start: u16, width: usize, rows: usize, o: &Words, q: &mut Words) -> u16
     requires { ⌜ (1 ≤ width) × (1 ≤ rows * width) × (rows * width ≤ 64) × (length (now o) ≡ 80) × (length (now q) ≡ 80) ⌝ }
     ensures { λ carry. ⌜ (length (now (q .exit)) ≡ 80)
         × Each (rows * width) (now (q .exit)) (filledWordAt Exclusive start width (at (now (o .entry))))
@@ -91,7 +92,7 @@ fn exclusive(start: u16, width: usize, rows: usize, o: &[u16; 80], q: &mut [u16;
 }
 
 // The bits of both.
-fn either(n: usize, q: &[u16; 80], o: &mut [u16; 80])
+fn either(n: usize, q: &Words, o: &mut Words)
     requires { ⌜ (n ≤ 80) × (length (now o) ≡ 80) ⌝ }
     ensures { λ _. ⌜ (length (now (o .exit)) ≡ 80)
         × Each n (now (o .exit)) (eitherAt (at (now (q .entry))) (at (now (o .entry)))) ⌝ }
@@ -104,14 +105,7 @@ fn either(n: usize, q: &[u16; 80], o: &mut [u16; 80])
 }
 
 // Without fill the words stay as they are. The answer is the last word's carry.
-pub fn fill(
-    kind: Fill,
-    start: u16,
-    width: usize,
-    rows: usize,
-    o: &mut [u16; 80],
-    q: &mut [u16; 80],
-) -> u16
+pub fn fill(kind: Fill, start: u16, width: usize, rows: usize, o: &mut Words, q: &mut Words) -> u16
     requires { ⌜ (1 ≤ width) × (1 ≤ rows * width) × (rows * width ≤ 64) × (length (now o) ≡ 80) × (length (now q) ≡ 80) ⌝ }
     ensures { λ carry. ⌜ (length (now (o .exit)) ≡ 80) × (length (now (q .exit)) ≡ 80)
         × Each (rows * width) (now (o .exit)) (filledWordAt kind start width (at (now (o .entry))))

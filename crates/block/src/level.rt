@@ -4,8 +4,9 @@ ghost use Prim.Native.Nat.{_≤_};
 ghost use lib.Dec.{eqb};
 ghost use lib.ListN.{length};
 ghost use Rattle.block.specs.Inner.Each.{at, Each, levelAt, nought};
+use crate::types::Words;
 
-pub fn level(word: u16, n: usize, x: &mut [u16; 80])
+pub fn level(word: u16, n: usize, x: &mut Words)
     requires { ⌜ (n ≤ 80) × (length (now x) ≡ 80) ⌝ }
     ensures { λ _. ⌜ (length (now (x .exit)) ≡ 80) × Each n (now (x .exit)) (levelAt word) ⌝ }
 {
@@ -17,7 +18,7 @@ pub fn level(word: u16, n: usize, x: &mut [u16; 80])
 }
 
 // Nought where all the words are.
-pub fn any(n: usize, o: &[u16; 80]) -> u16
+pub fn any(n: usize, o: &Words) -> u16
     requires { ⌜ n ≤ 80 ⌝ }
     ensures { λ all. ⌜ eqb all 0 ≡ nought n (at (now (o .entry))) ⌝ }
 {

@@ -5,6 +5,7 @@ ghost use Prim.Native.Nat.{ℕ, _+_, _-_, _*_, _<_, _≤_};
 ghost use lib.ListN.{length, getD};
 ghost use Rattle.quiet.specs.Words.{maskedAt};
 ghost use Rattle.block.specs.Inner.Each.{at, Each, maskedIn};
+use crate::types::Words;
 use area::types::Masks;
 
 fn all_ones(masks: Masks) -> bool
@@ -25,7 +26,7 @@ pub fn first_word(x: &[u16]) -> u16
 }
 
 // The first word of a row and its last, which may be the same.
-fn mask_row(masks: Masks, s: usize, width: usize, x: &mut [u16; 80])
+fn mask_row(masks: Masks, s: usize, width: usize, x: &mut Words)
     requires { ⌜ (1 ≤ width) × (s + width ≤ 80) × (length (now x) ≡ 80) ⌝ }
     ensures { λ _. ⌜ (length (now (x .exit)) ≡ 80)
         × (now (x .exit) ≡ maskedIn (s + width - 1) (masks .last) (maskedIn s (masks .first) (now (x .entry)))) ⌝ }
@@ -35,7 +36,7 @@ fn mask_row(masks: Masks, s: usize, width: usize, x: &mut [u16; 80])
     x[last] = x[last] & masks.last;
 }
 
-fn mask_rows(masks: Masks, width: usize, rows: usize, x: &mut [u16; 80])
+fn mask_rows(masks: Masks, width: usize, rows: usize, x: &mut Words)
     requires { ⌜ (1 ≤ width) × (rows * width ≤ 64) × (length (now x) ≡ 80) ⌝ }
     ensures { λ _. ⌜ (length (now (x .exit)) ≡ 80)
         × Each (rows * width) (now (x .exit)) (maskedAt masks width (at (now (x .entry)))) ⌝ }
@@ -50,7 +51,7 @@ fn mask_rows(masks: Masks, width: usize, rows: usize, x: &mut [u16; 80])
 }
 
 // Masks of all ones leave A as it is.
-pub fn mask(masks: Masks, width: usize, rows: usize, x: &mut [u16; 80])
+pub fn mask(masks: Masks, width: usize, rows: usize, x: &mut Words)
     requires { ⌜ (1 ≤ width) × (rows * width ≤ 64) × (length (now x) ≡ 80) ⌝ }
     ensures { λ _. ⌜ (length (now (x .exit)) ≡ 80)
         × Each (rows * width) (now (x .exit)) (maskedAt masks width (at (now (x .entry)))) ⌝ }

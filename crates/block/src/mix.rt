@@ -8,6 +8,7 @@ ghost use Rattle.block.specs.Inner.Terms.{terms, joined, joinedAt};
 ghost use Rattle.block.specs.Inner.Ignores.{Ignores};
 use crate::types::Needs;
 use crate::types::Terms;
+use crate::types::Words;
 
 // Bit i of the function, spread over a word, is what the sources' setting i gives.
 fn terms(function: u16) -> Terms
@@ -41,7 +42,7 @@ fn joined(by: Terms, a: u16, b: u16, c: u16) -> u16
 }
 
 // B's words stand where the mix goes.
-fn mix_three(by: Terms, n: usize, a: &[u16; 80], c: &[u16; 80], o: &mut [u16; 80])
+fn mix_three(by: Terms, n: usize, a: &Words, c: &Words, o: &mut Words)
     requires { ⌜ (n ≤ 80) × (length (now o) ≡ 80) ⌝ }
     ensures { λ _. ⌜ (length (now (o .exit)) ≡ 80)
         × Each n (now (o .exit)) (joinedAt by (at (now (a .entry))) (at (now (o .entry))) (at (now (c .entry)))) ⌝ }
@@ -54,7 +55,7 @@ fn mix_three(by: Terms, n: usize, a: &[u16; 80], c: &[u16; 80], o: &mut [u16; 80
 }
 
 // Of one source: the word that nought makes, turned over where the source's bits are 1.
-fn mix_one(none: u16, turns: u16, n: usize, x: &[u16; 80], o: &mut [u16; 80])
+fn mix_one(none: u16, turns: u16, n: usize, x: &Words, o: &mut Words)
     requires { ⌜ (n ≤ 80) × (length (now o) ≡ 80) ⌝ }
     ensures { λ _. ⌜ (length (now (o .exit)) ≡ 80)
         × Each n (now (o .exit)) (turnedAt none turns (at (now (x .entry)))) ⌝ }
@@ -67,7 +68,7 @@ fn mix_one(none: u16, turns: u16, n: usize, x: &[u16; 80], o: &mut [u16; 80])
 }
 
 // A source that the function ignores isn't read. B's words stand where the mix goes.
-pub fn mix(function: u16, need: Needs, n: usize, a: &[u16; 80], c: &[u16; 80], o: &mut [u16; 80])
+pub fn mix(function: u16, need: Needs, n: usize, a: &Words, c: &Words, o: &mut Words)
     requires { ⌜ Ignores function need × (n ≤ 80) × (length (now o) ≡ 80) ⌝ }
     ensures { λ _. ⌜ (length (now (o .exit)) ≡ 80)
         × Each n (now (o .exit)) (mixedAt function (at (now (a .entry))) (at (now (o .entry))) (at (now (c .entry)))) ⌝ }

@@ -2,102 +2,82 @@
 ghost use mathlib.Core.Path.{_≡_};
 ghost use Prim.Native.Nat.{_+_, _*_, _<_, _≤_};
 ghost use lib.ListN.{length};
-ghost use Rattle.word.specs.declared.types.Direction.the-variants.{Ascending, Descending};
-ghost use Rattle.word.specs.Pointer.{pointerEnd};
 ghost use Rattle.word.specs.Inner.Even.{RowInside};
 ghost use Rattle.quiet.specs.Stream.{laidAt};
 ghost use Rattle.block.specs.Inner.Each.{at, fromAt};
-ghost use Rattle.block.specs.Inner.Place.{placeIn, placeAt, EvenRows};
+ghost use Rattle.block.specs.Inner.Place.{placeIn, placeAt, Lies};
+use crate::types::Course;
+use crate::types::Size;
+use crate::types::Words;
 use word::pointer::INDEX_END;
 use word::types::Direction;
 
-fn row_up(ram: &mut [u16], start: usize, width: usize, s: usize, x: &[u16; 80])
-    requires { ⌜ (start + width ≤ length (now ram)) × (s + width ≤ 80) ⌝ }
-    ensures { λ _. ⌜
-        now (ram .exit)
-        ≡ laidAt (placeIn Ascending start) (fromAt s (now (x .entry))) width (now (ram .entry)) ⌝ }
-{
-    let mut i: usize = 0;
-    while i < width {
-        ram[start + i] = x[s + i];
-        i = i + 1;
-    }
-}
-
-fn row_down(ram: &mut [u16], start: usize, width: usize, s: usize, x: &[u16; 80])
-    requires { ⌜ (start < length (now ram)) × (width ≤ start + 1) × (s + width ≤ 80) ⌝ }
-    ensures { λ _. ⌜
-        now (ram .exit)
-        ≡ laidAt (placeIn Descending start) (fromAt s (now (x .entry))) width (now (ram .entry)) ⌝ }
-{
-    let mut i: usize = 0;
-    while i < width {
-        ram[start - i] = x[s + i];
-        i = i + 1;
-    }
-}
-
-fn row(direction: Direction, ram: &mut [u16], start: usize, width: usize, s: usize, x: &[u16; 80])
+fn row(direction: Direction, ram: &mut [u16], start: usize, width: usize, s: usize, x: &Words)
     requires { ⌜ RowInside (length (now ram)) direction width (record { word = start }) × (s + width ≤ 80) ⌝ }
     ensures { λ _. ⌜
         now (ram .exit)
         ≡ laidAt (placeIn direction start) (fromAt s (now (x .entry))) width (now (ram .entry)) ⌝ }
 {
-    match direction {
-        Direction::Ascending => row_up(ram, start, width, s, x),
-        Direction::Descending => row_down(ram, start, width, s, x),
+    let mut i: usize = 0;
+    while i < width {
+        ram[crate::place::place(direction, start, i)] = x[s + i];
+        i = i + 1;
     }
 }
 
-pub fn rows(
-    direction: Direction,
-    ram: &mut [u16],
-    from: usize,
-    far: usize,
-    width: usize,
-    rows: usize,
-    x: &[u16; 80],
-)
-    requires { ⌜ EvenRows (length (now ram)) direction width far from rows × (rows * width ≤ 64) × (1 ≤ width)
-        × (from < pointerEnd) × (far < pointerEnd) ⌝ }
+pub fn rows(direction: Direction, ram: &mut [u16], from: usize, far: usize, size: Size, x: &Words)
+    requires { ⌜ Lies (length (now ram)) direction far from size ⌝ }
     ensures { λ _. ⌜
         now (ram .exit)
-        ≡ laidAt (placeAt direction width far from) (at (now (x .entry))) (rows * width) (now (ram .entry)) ⌝ }
+        ≡ laidAt (placeAt direction (size .width) far from) (at (now (x .entry))) (size .height * size .width) (now (ram .entry)) ⌝ }
 {
     let mut start = from;
     let mut s: usize = 0;
     let mut number: usize = 0;
-    while number < rows {
-        row(direction, ram, start, width, s, x);
+    while number < size.height {
+        row(direction, ram, start, size.width, s, x);
         start = (start + far) % INDEX_END;
-        s = s + width;
+        s = s + size.width;
         number = number + 1;
     }
 }
 
 // Rows of one, two or three words: a width that the compiler knows makes a row one move.
-pub fn narrow_rows(
-    direction: Direction,
-    ram: &mut [u16],
-    from: usize,
-    far: usize,
-    width: usize,
-    rows: usize,
-    x: &[u16; 80],
-)
-    requires { ⌜ EvenRows (length (now ram)) direction width far from rows × (rows * width ≤ 64) × (1 ≤ width) × (width < 4)
-        × (from < pointerEnd) × (far < pointerEnd) ⌝ }
+pub fn narrow_rows(direction: Direction, ram: &mut [u16], course: Course, size: Size, x: &Words)
+    requires { ⌜ Lies (length (now ram)) direction (course .far) (course .from) size × (size .width < 4) ⌝ }
     ensures { λ _. ⌜
         now (ram .exit)
-        ≡ laidAt (placeAt direction width far from) (at (now (x .entry))) (rows * width) (now (ram .entry)) ⌝ }
+        ≡ laidAt (placeAt direction (size .width) (course .far) (course .from)) (at (now (x .entry))) (size .height * size .width) (now (ram .entry)) ⌝ }
 {
-    if width == 1 {
-        crate::store::rows(direction, ram, from, far, 1, rows, x);
+    let height = size.height;
+    if size.width == 1 {
+        rows(
+            direction,
+            ram,
+            course.from,
+            course.far,
+            Size { width: 1, height },
+            x,
+        );
         return;
     }
-    if width == 2 {
-        crate::store::rows(direction, ram, from, far, 2, rows, x);
+    if size.width == 2 {
+        rows(
+            direction,
+            ram,
+            course.from,
+            course.far,
+            Size { width: 2, height },
+            x,
+        );
         return;
     }
-    crate::store::rows(direction, ram, from, far, 3, rows, x);
+    rows(
+        direction,
+        ram,
+        course.from,
+        course.far,
+        Size { width: 3, height },
+        x,
+    );
 }

@@ -1,5 +1,8 @@
 // The types that a block's loops speak of.
 
+// A block's words. There are 16 more than a block has, so that a loop may go on to a multiple of 8.
+pub type Words = [u16; 80];
+
 // How many words a row has, and how many rows there are.
 pub struct Size {
     pub width: usize,

@@ -1,11 +1,12 @@
 -- The places of a channel's words by sums, where no row goes round.
-use Prim.Native.Nat.{ℕ, _+_, _-_, _*_, _/_, _%_, _<_}
+use Prim.Native.Nat.{ℕ, _+_, _-_, _*_, _/_, _%_, _<_, _≤_}
 use mathlib.Core.List.{List}
 use lib.ListN.{getD}
 use Rattle.word.specs.declared.types.Direction.{Direction}
 use Rattle.word.specs.declared.types.Direction.the-variants.{Ascending, Descending}
 use Rattle.word.specs.Pointer.{pointerEnd}
 use Rattle.word.specs.Inner.Even.{RowInside}
+use Rattle.block.specs.declared.types.Size.{Size}
 
 -- where a row starts, each as far above the one before it
 unfoldable pub rowAt : (far from row : ℕ) → ℕ
@@ -16,6 +17,11 @@ unfoldable pub placeIn : Direction → (start word : ℕ) → ℕ
 placeIn Ascending start word = start + word
 placeIn Descending start word = start - word
 
+-- that place can be reckoned
+abbrev pub Reaches : Direction → (start word : ℕ) → Type 0
+Reaches Ascending start word = start + word < 18446744073709551616
+Reaches Descending start word = word ≤ start
+
 -- word k of rows of so many words
 unfoldable pub placeAt : Direction → (width far from k : ℕ) → ℕ
 placeAt direction width far from k = placeIn direction (rowAt far from (k / width)) (k % width)
@@ -24,6 +30,14 @@ placeAt direction width far from k = placeIn direction (rowAt far from (k / widt
 unfoldable pub EvenRows : (n : ℕ) → Direction → (width far from rows : ℕ) → Type 0
 EvenRows n direction width far from rows =
     (row : ℕ) → row < rows → RowInside n direction width (record { word = rowAt far from row })
+
+-- they are a block's
+pub record Lies (n : ℕ) (direction : Direction) (far from : ℕ) (size : Size) : Type 0 where
+  pub inside : EvenRows n direction (size .width) far from (size .height)
+  pub room : size .height * size .width ≤ 64
+  pub some : 1 ≤ size .width
+  pub starts : from < pointerEnd
+  pub strides : far < pointerEnd
 
 -- what a channel fetches: word i of a row, and word k of all
 unfoldable pub fetchedIn : Direction → (memory : List ℕ) → (start i : ℕ) → ℕ

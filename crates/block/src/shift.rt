@@ -1,7 +1,7 @@
 // The shift of a block's words: the first with the word before the block, each other with the one before it.
 ghost use mathlib.Core.Path.{_≡_};
 ghost use mathlib.Core.Bool.{true};
-ghost use Prim.Native.Nat.{_+_, _<_, _≤_};
+ghost use Prim.Native.Nat.{ℕ, _+_, _<_, _≤_};
 ghost use lib.ListN.{length};
 ghost use Rattle.word.specs.Shift.{shifted};
 ghost use Rattle.quiet.specs.Words.{shiftedAt};
@@ -32,8 +32,15 @@ pub fn copied(n: usize, x: &Words, y: &mut Words)
     }
 }
 
-// A source that the function ignores stays unshifted. A shift by nought leaves every word as it is, whatever stands
-// before it.
+// A shift by nought leaves every word as it is, whatever stands before it.
+pub fn unmoved(direction: Direction, by: u32, earlier: u16, x: &Words)
+    requires { ⌜ (by ≡ 0) × (length (now x) ≡ 80) ⌝ }
+    ensures { λ _. ⌜ ((n : ℕ) → Each n (now (x .entry)) (shiftedAt direction by earlier (at (now (x .entry))))) ⌝ }
+{
+    crate::mask::first_word(x);
+}
+
+// A source that the function ignores stays unshifted.
 pub fn shift(
     need: bool,
     direction: Direction,
@@ -43,7 +50,7 @@ pub fn shift(
     x: &Words,
     y: &mut Words,
 )
-    requires { ⌜ (by < 16) × (n ≤ 64) × (length (now y) ≡ 80) ⌝ }
+    requires { ⌜ (by < 16) × (n ≤ 64) × (length (now x) ≡ 80) × (length (now y) ≡ 80) ⌝ }
     ensures { λ _. ⌜ (length (now (y .exit)) ≡ 80)
         × (need ≡ true → Each (n + 1) (now (y .exit)) (shiftedAt direction by earlier (at (now (x .entry))))) ⌝ }
 {
@@ -51,7 +58,7 @@ pub fn shift(
         return;
     }
     if by == 0 {
-        crate::mask::first_word(x);
+        unmoved(direction, by, earlier, x);
         copied(n + 1, x, y);
         return;
     }

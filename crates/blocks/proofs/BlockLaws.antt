@@ -18,25 +18,36 @@ use Rattle.quiet.specs.Stream.{standingAt, atA, atB, atC, atD, wordA, wordB, wo
 use Rattle.quiet.specs.Quiet.{Unmet, Quiet, memoryAfter, flowAfter}
 use Rattle.quiet.proofs.QuietLaws.{quiet-blit}
 use Rattle.block.specs.Inner.Each.{at, Each, finalWordAt, nought}
-use Rattle.block.specs.Inner.Place.{rowAt, placeAt, fetchedAt}
+use Rattle.block.specs.Inner.Place.{rowAt, placeAt, Lies, fetchedAt}
 use Rattle.block.proofs.PlaceLaws.{laidAt-same}
 use Rattle.apart.specs.declared.types.Strides.{Strides}
 use Rattle.apart.specs.Inner.Placed.{Channel, Placed}
 use Rattle.apart.specs.Inner.Apart.{Apart, AllApart}
-use Rattle.apart.proofs.PlacedLaws.{channel-place, channel-rows}
+use Rattle.apart.proofs.PlacedLaws.{stride-lt, channel-place, channel-rows}
 use Rattle.blocks.specs.declared.types.Made.{Made}
-use Rattle.blocks.specs.Inner.Rests.{suppliedAt, Rests, AllRest, suppliedA, suppliedB, suppliedC, Supplied}
+use Rattle.blocks.specs.declared.types.Source.{Source}
+use Rattle.blocks.specs.Inner.Rests.{suppliedAt, sourceOf, sourceA, sourceB, sourceC, Rests, AllRest, suppliedA, suppliedB, suppliedC, Supplied}
 use Rattle.blocks.specs.Inner.MadeOf.{MadeOf}
+use Rattle.blocks.proofs.SuppliedLaws.{supplied-idle}
 use Rattle.blocks.proofs.FinalsLaws.{shiftedAt-same, filledAt-same}
 
--- what a source gives is what the blit fetches
-supplied-fetched : (n : ℕ) (direction : Direction) (width rows modulo : ℕ) (used : Bool) (pointer : Pointer) (far : ℕ) → Channel n direction width rows modulo used pointer far
-    → n ≤ pointerEnd → 1 ≤ width → width ≤ 64 → (memory : List ℕ) (source k : ℕ) → k < rows * width
-    → suppliedAt used direction width far (pointer .word) memory source k ≡ fetched used memory (standingAt direction used width modulo pointer k) source
-unfolding suppliedAt fetched fetchedAt
-supplied-fetched n direction width rows modulo true pointer far channel most some narrow memory source k below =
-    ap (λ (place : ℕ). getD memory place 0) (sym (channel-place n direction width rows modulo true pointer far channel most some narrow refl k below))
-supplied-fetched n direction width rows modulo false pointer far channel most some narrow memory source k below = refl
+module _ (n : ℕ) (direction : Direction) (width rows modulo : ℕ) (used : Bool) (pointer : Pointer) (far : ℕ) (channel : Channel n direction width rows modulo used pointer far)
+    (most : n ≤ pointerEnd) (some : 1 ≤ width) (narrow : width ≤ 64) where
+  -- a channel's rows are a block's
+  pub lies-of : rows * width ≤ 64 → used ≡ true → Lies n direction far (pointer .word) (record { width = width; height = rows })
+  lies-of room uses =
+      record { inside = channel .inside uses; room = room; some = some; starts = channel .small; strides = stride-lt n direction width rows modulo used pointer far channel most some narrow }
+
+  -- what a source gives is what the blit fetches
+  supplied-fetched : (memory : List ℕ) (source k : ℕ) → k < rows * width
+      → suppliedAt direction width (sourceOf used pointer far source) memory k ≡ fetched used memory (standingAt direction used width modulo pointer k) source
+  unfolding suppliedAt fetched fetchedAt
+  supplied-fetched memory source k below = by used refl
+    where
+      by : (is : Bool) → used ≡ is
+          → (if is then getD memory (placeAt direction width far (pointer .word) k) 0 else source) ≡ (if is then getD memory (standingAt direction used width modulo pointer k .word) 0 else source)
+      by true uses = ap (λ (place : ℕ). getD memory place 0) (sym (channel-place n direction width rows modulo used pointer far channel most some narrow uses k below))
+      by false idle = refl
 
 -- no fetch meets a store of the same block
 unmet-apart : (stores used : Bool) (place fetches : ℕ → Pointer) (words : ℕ) → Apart stores used place fetches words words → Unmet stores used place fetches words
@@ -179,17 +190,16 @@ module _ (n : ℕ) (setup : Setup) (width rows : ℕ) (far : Strides) (flow : Fl
         (sym (quiet-blit setup width rows memory flow (placed .some) (placed .none) (apart-quiet setup width (rows * width) flow apart)))
 
 -- a source at rest stays what it is
-source-rests : (used : Bool) (direction : Direction) (width far from : ℕ) (memory : List ℕ) (source last k : ℕ) → used ≡ false
-    → last ≡ suppliedAt used direction width far from memory source k → source ≡ last
-unfolding suppliedAt
-source-rests used direction width far from memory source last k idle is = sym (is ∙ rw idle)
+source-rests : (direction : Direction) (width : ℕ) (source : Source) (memory : List ℕ) (last k : ℕ) → source .used ≡ false
+    → last ≡ suppliedAt direction width source memory k → source .word ≡ last
+source-rests direction width source memory last k idle is = supplied-idle direction source width memory k idle ∙ sym is
 
 pub rests-on : (setup : Setup) (width rows : ℕ) (far : Strides) (flow : Flow) (memory xa xb xc : List ℕ) (last : Sources)
     → Supplied setup width rows far flow memory xa xb xc last → AllRest setup width (flow .sources) xa xb xc → AllRest setup width last xa xb xc
 unfolding Rests
 rests-on setup width rows far flow memory xa xb xc last supplied rests =
     record {
-      a = λ idle. rw (← source-rests (setup .uses .a) _ _ _ _ _ _ _ _ idle (supplied .last-a)) (rests .a idle);
-      b = λ idle. rw (← source-rests (setup .uses .b) _ _ _ _ _ _ _ _ idle (supplied .last-b)) (rests .b idle);
-      c = λ idle. rw (← source-rests (setup .uses .c) _ _ _ _ _ _ _ _ idle (supplied .last-c)) (rests .c idle);
+      a = λ idle. rw (← source-rests _ _ (sourceA setup far flow) _ _ _ idle (supplied .last-a)) (rests .a idle);
+      b = λ idle. rw (← source-rests _ _ (sourceB setup far flow) _ _ _ idle (supplied .last-b)) (rests .b idle);
+      c = λ idle. rw (← source-rests _ _ (sourceC setup far flow) _ _ _ idle (supplied .last-c)) (rests .c idle);
     }

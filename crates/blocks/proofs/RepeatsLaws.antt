@@ -21,7 +21,7 @@ use Rattle.block.proofs.EachLaws.{each-fewer}
 use Rattle.block.proofs.FillLaws.{carry-of-off}
 use Rattle.apart.specs.declared.types.Strides.{Strides}
 use Rattle.blocks.specs.declared.types.Made.{Made}
-use Rattle.blocks.specs.Inner.Rests.{Rests, AllRest, Supplied}
+use Rattle.blocks.specs.Inner.Rests.{sourceA, sourceB, sourceC, Rests, AllRest, Supplied}
 use Rattle.blocks.specs.Inner.MadeOf.{MadeOf}
 use Rattle.blocks.specs.Inner.Repeats.{Still, stillAt, lastWords, Prepared, Repeating}
 use Rattle.blocks.proofs.FinalsLaws.{shiftedAt-same, filledAt-same}
@@ -63,12 +63,12 @@ module _ (setup : Setup) (width rows : ℕ) (far : Strides) (flow : Flow) (memor
   supplied-ready : Supplied setup width rows far flow memory xa xb xc (flow .sources)
   supplied-ready =
       record {
-        a = supplied-rests (setup .uses .a) _ _ _ _ _ _ _ _ _ (ready .still .a) room (rests .a);
-        b = supplied-level (setup .uses .b) _ _ _ _ _ _ _ _ (ready .still .b) room (rests .b);
-        c = supplied-level (setup .uses .c) _ _ _ _ _ _ _ _ (ready .still .c) room (rests .c);
-        last-a = supplied-idle (setup .uses .a) _ _ _ _ _ _ _ (ready .still .a);
-        last-b = supplied-idle (setup .uses .b) _ _ _ _ _ _ _ (ready .still .b);
-        last-c = supplied-idle (setup .uses .c) _ _ _ _ _ _ _ (ready .still .c);
+        a = supplied-rests _ (sourceA setup far flow) _ _ _ _ _ (ready .still .a) room (rests .a);
+        b = supplied-level _ (sourceB setup far flow) _ _ _ _ (ready .still .b) room (rests .b);
+        c = supplied-level _ (sourceC setup far flow) _ _ _ _ (ready .still .c) room (rests .c);
+        last-a = supplied-idle _ (sourceA setup far flow) _ _ _ (ready .still .a);
+        last-b = supplied-idle _ (sourceB setup far flow) _ _ _ (ready .still .b);
+        last-c = supplied-idle _ (sourceC setup far flow) _ _ _ (ready .still .c);
       }
 
   last-here : rows * width - 1 < rows * width
@@ -109,11 +109,11 @@ pub finished-still : (setup : Setup) (width rows : ℕ) (far : Strides) (flow : 
     → Still setup → Each (rows * width) o (stillAt setup width (flow .earlier) (flow .sources))
 unfolding Each stillAt finalWordAt at maskedAt levelAt
 finished-still setup width rows far flow memory xa xb xc o end finished still j below =
-    finished .words (levelAt (flow .sources .a)) (λ i inside. finished .supplied .a i inside ∙ rw (← supplied-idle (setup .uses .a) (setup .direction) width (far .a) (flow .pointers .a .word) (flow .sources .a) i memory (still .a))) .0 j below
+    finished .words (levelAt (flow .sources .a)) (λ i inside. finished .supplied .a i inside ∙ rw (← supplied-idle (setup .direction) (sourceA setup far flow) width memory i (still .a))) .0 j below
     ∙ ap (λ (made : Filled). made .word)
     (finals-alike setup width (rows * width) (flow .earlier) (levelAt (flow .sources .a)) (at xb) (at xc) (levelAt (flow .sources .a)) _ _ (λ i inside. refl)
-    (λ i inside. finished .supplied .b i inside ∙ sym (supplied-idle (setup .uses .b) _ _ _ _ _ _ _ (still .b)))
-    (λ i inside. finished .supplied .c i inside ∙ sym (supplied-idle (setup .uses .c) _ _ _ _ _ _ _ (still .c))) j below)
+    (λ i inside. finished .supplied .b i inside ∙ sym (supplied-idle _ (sourceB setup far flow) _ _ _ (still .b)))
+    (λ i inside. finished .supplied .c i inside ∙ sym (supplied-idle _ (sourceC setup far flow) _ _ _ (still .c))) j below)
 
 -- all nought, by the words of a sequence
 nought-is : (n : ℕ) (words : List ℕ) (word : ℕ → ℕ) → Each n words word → nought n (at words) ≡ every (λ k. eqb (word k) 0) n

@@ -11,43 +11,42 @@ use Rattle.area.specs.declared.types.Masks.{Masks}
 use Rattle.quiet.specs.Words.{maskedAt}
 use Rattle.block.specs.Inner.Each.{at, Each, levelAt, nought}
 use Rattle.block.specs.Inner.Place.{rowAt, fetchedAt}
+use Rattle.word.proofs.ChoiceLaws.{if-when-true, if-when-false}
 use Rattle.block.proofs.EachLaws.{never}
+use Rattle.blocks.specs.declared.types.Source.{Source}
 use Rattle.blocks.specs.Inner.Rests.{suppliedAt, Rests}
 
--- fetched
-module _ (used : Bool) (direction : Direction) (width far from source rows : ℕ) (memory words : List ℕ) (uses : used ≡ true)
-    (fetches : Each (rows * width) words (fetchedAt direction width far from memory)) where
-  pub supplied-plain : Each (rows * width) words (suppliedAt used direction width far from memory source)
-  unfolding Each suppliedAt
-  supplied-plain j below = fetches j below ∙ rw uses
-
-module _ (used : Bool) (direction : Direction) (width far from source rows : ℕ) (memory words : List ℕ) (uses : used ≡ true) (some : 1 ≤ rows * width)
-    (fetches : Each (rows * width) words (fetchedAt direction width far from memory)) where
-  pub supplied-last : getD words (rows * width - 1) 0 ≡ suppliedAt used direction width far from memory source (rows * width - 1)
-  unfolding Each suppliedAt
-  supplied-last = fetches (rows * width - 1) (omega arith) ∙ rw uses
-
-pub supplied-masked : (used : Bool) (direction : Direction) (masks : Masks) (width far from source rows : ℕ) (memory words after : List ℕ) → used ≡ true
-    → Each (rows * width) words (fetchedAt direction width far from memory) → Each (rows * width) after (maskedAt masks width (at words))
-    → Each (rows * width) after (maskedAt masks width (suppliedAt used direction width far from memory source))
-unfolding Each maskedAt at suppliedAt
-supplied-masked used direction masks width far from source rows memory words after uses fetches masking j below = masking j below ∙ rw (fetches j below, uses)
-
--- at rest
-pub supplied-rests : (used : Bool) (direction : Direction) (masks : Masks) (width far from source rows : ℕ) (memory words : List ℕ) → used ≡ false → rows * width ≤ 64
-    → Rests used width (maskedAt masks width (levelAt source)) words → Each (rows * width) words (maskedAt masks width (suppliedAt used direction width far from memory source))
-unfolding Rests Each maskedAt suppliedAt levelAt
-supplied-rests used direction masks width far from source rows memory words idle room rests j below = rests idle rows room j below ∙ rw idle
-
-pub supplied-level : (used : Bool) (direction : Direction) (width far from source rows : ℕ) (memory words : List ℕ) → used ≡ false → rows * width ≤ 64
-    → Rests used width (levelAt source) words → Each (rows * width) words (suppliedAt used direction width far from memory source)
-unfolding Rests Each suppliedAt levelAt
-supplied-level used direction width far from source rows memory words idle room rests j below = rests idle rows room j below ∙ rw idle
-
-pub supplied-idle : (used : Bool) (direction : Direction) (width far from source k : ℕ) (memory : List ℕ) → used ≡ false
-    → source ≡ suppliedAt used direction width far from memory source k
+pub supplied-idle : (direction : Direction) (source : Source) (width : ℕ) (memory : List ℕ) (k : ℕ) → source .used ≡ false → source .word ≡ suppliedAt direction width source memory k
 unfolding suppliedAt
-supplied-idle used direction width far from source k memory idle = rw idle
+supplied-idle direction source width memory k idle = if-when-false _ _ _ _ idle refl
+
+module _ (direction : Direction) (source : Source) (width rows : ℕ) (memory words : List ℕ) where
+  -- fetched
+  pub supplied-plain : source .used ≡ true → Each (rows * width) words (fetchedAt direction width (source .course .far) (source .course .from) memory)
+      → Each (rows * width) words (suppliedAt direction width source memory)
+  unfolding Each suppliedAt
+  supplied-plain uses fetches j below = if-when-true _ _ _ _ uses (fetches j below)
+
+  pub supplied-last : source .used ≡ true → 1 ≤ rows * width → Each (rows * width) words (fetchedAt direction width (source .course .far) (source .course .from) memory)
+      → getD words (rows * width - 1) 0 ≡ suppliedAt direction width source memory (rows * width - 1)
+  unfolding Each
+  supplied-last uses some fetches = supplied-plain uses fetches (rows * width - 1) (omega arith)
+
+  pub supplied-masked : (masks : Masks) (after : List ℕ) → source .used ≡ true → Each (rows * width) words (fetchedAt direction width (source .course .far) (source .course .from) memory)
+      → Each (rows * width) after (maskedAt masks width (at words)) → Each (rows * width) after (maskedAt masks width (suppliedAt direction width source memory))
+  unfolding Each maskedAt at
+  supplied-masked masks after uses fetches masking j below = masking j below ∙ rw (supplied-plain uses fetches j below)
+
+  -- at rest
+  pub supplied-level : source .used ≡ false → rows * width ≤ 64 → Rests (source .used) width (levelAt (source .word)) words
+      → Each (rows * width) words (suppliedAt direction width source memory)
+  unfolding Rests Each levelAt
+  supplied-level idle room rests j below = rests idle rows room j below ∙ supplied-idle direction source width memory j idle
+
+  pub supplied-rests : (masks : Masks) → source .used ≡ false → rows * width ≤ 64 → Rests (source .used) width (maskedAt masks width (levelAt (source .word))) words
+      → Each (rows * width) words (maskedAt masks width (suppliedAt direction width source memory))
+  unfolding Rests Each maskedAt levelAt
+  supplied-rests masks idle room rests j below = rests idle rows room j below ∙ rw (← supplied-idle direction source width memory j idle)
 
 pub rests-not : (used : Bool) (width : ℕ) (word : ℕ → ℕ) (words : List ℕ) → used ≡ true → Rests used width word words
 unfolding Rests

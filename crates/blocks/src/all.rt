@@ -15,9 +15,9 @@ use apart::types::Strides;
 use area::types::Flow;
 use area::types::Masks;
 use area::types::Setup;
-use area::types::Sources;
+use block::types::Size;
+use block::types::Words;
 use word::types::Fill;
-use word::types::Uses;
 
 fn fewer(most: usize, remaining: usize) -> usize
     requires { ⌜ (1 ≤ most) × (1 ≤ remaining) ⌝ }
@@ -50,38 +50,41 @@ fn block_by_block(
     ram: &mut [u16],
     setup: Setup,
     far: Strides,
-    width: usize,
-    height: usize,
+    size: Size,
     most: usize,
     flow: Flow,
-    xa: &mut [u16; 80],
-    xb: &mut [u16; 80],
-    xc: &mut [u16; 80],
-    ya: &mut [u16; 80],
-    o: &mut [u16; 80],
+    xa: &mut Words,
+    xb: &mut Words,
+    xc: &mut Words,
+    ya: &mut Words,
+    o: &mut Words,
 ) -> Flow
-    requires { ⌜ Placed (length (now ram)) setup width height flow far × AllApart setup width (most * width) (height * width) flow
-        × (1 ≤ most) × (most * width ≤ 64) × (2 ≤ most * width) × (height ≤ 1024) × (flow .stored + height * 64 < 4294967232)
+    requires { ⌜ Placed (length (now ram)) setup (size .width) (size .height) flow far × AllApart setup (size .width) (most * size .width) (size .height * size .width) flow
+        × (1 ≤ most) × (most * size .width ≤ 64) × (2 ≤ most * size .width) × (size .height ≤ 1024) × (flow .stored + size .height * 64 < 4294967232)
         × (length (now xa) ≡ 80) × (length (now xb) ≡ 80) × (length (now xc) ≡ 80)
         × (length (now ya) ≡ 80) × (length (now o) ≡ 80)
-        × AllRest setup width (flow .sources) (now xa) (now xb) (now xc) ⌝ }
+        × AllRest setup (size .width) (flow .sources) (now xa) (now xb) (now xc) ⌝ }
     ensures { λ end. ⌜
         state (now (ram .exit)) end
-        ≡ areaBlit setup width height (state (now (ram .entry)) flow) ⌝ }
+        ≡ areaBlit setup (size .width) (size .height) (state (now (ram .entry)) flow) ⌝ }
 {
     let mut here = flow;
     let mut row: usize = 0;
-    while row < height {
-        let rows = fewer(most, height - row);
+    while row < size.height {
+        let height = fewer(most, size.height - row);
         let ready = repeats(setup, most, row);
-        here = crate::one::one_block(ram, setup, far, width, rows, ready, here, xa, xb, xc, ya, o);
-        row = row + rows;
+        let rows = Size {
+            width: size.width,
+            height,
+        };
+        here = crate::one::one_block(ram, setup, far, rows, ready, here, xa, xb, xc, ya, o);
+        row = row + height;
     }
     here
 }
 
 // The array of A at rest, masked. In rows of one word every word gets both masks.
-fn rest_a(used: bool, masks: Masks, width: usize, word: u16, x: &mut [u16; 80])
+fn rest_a(used: bool, masks: Masks, width: usize, word: u16, x: &mut Words)
     requires { ⌜ (1 ≤ width) × (width ≤ 64) × (length (now x) ≡ 80) ⌝ }
     ensures { λ _. ⌜ (length (now (x .exit)) ≡ 80)
         × Rests used width (maskedAt masks width (levelAt word)) (now (x .exit)) ⌝ }
@@ -98,7 +101,7 @@ fn rest_a(used: bool, masks: Masks, width: usize, word: u16, x: &mut [u16; 80])
 }
 
 // The array of B or C at rest.
-fn rest(used: bool, width: usize, word: u16, x: &mut [u16; 80])
+fn rest(used: bool, width: usize, word: u16, x: &mut Words)
     requires { ⌜ length (now x) ≡ 80 ⌝ }
     ensures { λ _. ⌜ (length (now (x .exit)) ≡ 80) × Rests used width (levelAt word) (now (x .exit)) ⌝ }
 {
@@ -108,57 +111,37 @@ fn rest(used: bool, width: usize, word: u16, x: &mut [u16; 80])
     block::level::level(word, 64, x);
 }
 
-fn all_rest(
-    uses: Uses,
-    masks: Masks,
-    width: usize,
-    sources: Sources,
-    xa: &mut [u16; 80],
-    xb: &mut [u16; 80],
-    xc: &mut [u16; 80],
-)
-    requires { ⌜ (1 ≤ width) × (width ≤ 64) × (length (now xa) ≡ 80) × (length (now xb) ≡ 80) × (length (now xc) ≡ 80) ⌝ }
-    ensures { λ _. ⌜ (length (now (xa .exit)) ≡ 80) × (length (now (xb .exit)) ≡ 80) × (length (now (xc .exit)) ≡ 80)
-        × Rests (uses .a) width (maskedAt masks width (levelAt (sources .a))) (now (xa .exit))
-        × Rests (uses .b) width (levelAt (sources .b)) (now (xb .exit))
-        × Rests (uses .c) width (levelAt (sources .c)) (now (xc .exit)) ⌝ }
-{
-    rest_a(uses.a, masks, width, sources.a, xa);
-    rest(uses.b, width, sources.b, xb);
-    rest(uses.c, width, sources.c, xc);
-}
-
 // A whole blit, so many rows at a time.
 pub fn blocks(
     ram: &mut [u16],
     setup: Setup,
     far: Strides,
-    width: usize,
-    height: usize,
+    size: Size,
     most: usize,
     flow: Flow,
 ) -> Flow
-    requires { ⌜ Placed (length (now ram)) setup width height flow far × AllApart setup width (most * width) (height * width) flow
-        × (1 ≤ most) × (most * width ≤ 64) × (2 ≤ most * width) × (height ≤ 1024) × (flow .stored + height * 64 < 4294967232) ⌝ }
+    requires { ⌜ Placed (length (now ram)) setup (size .width) (size .height) flow far × AllApart setup (size .width) (most * size .width) (size .height * size .width) flow
+        × (1 ≤ most) × (most * size .width ≤ 64) × (2 ≤ most * size .width) × (size .height ≤ 1024) × (flow .stored + size .height * 64 < 4294967232) ⌝ }
     ensures { λ end. ⌜
         state (now (ram .exit)) end
-        ≡ areaBlit setup width height (state (now (ram .entry)) flow) ⌝ }
+        ≡ areaBlit setup (size .width) (size .height) (state (now (ram .entry)) flow) ⌝ }
 {
-    let mut xa: [u16; 80] = [0; 80];
-    let mut xb: [u16; 80] = [0; 80];
-    let mut xc: [u16; 80] = [0; 80];
-    let mut ya: [u16; 80] = [0; 80];
-    let mut o: [u16; 80] = [0; 80];
+    let mut xa: Words = [0; 80];
+    let mut xb: Words = [0; 80];
+    let mut xc: Words = [0; 80];
+    let mut ya: Words = [0; 80];
+    let mut o: Words = [0; 80];
     let uses = setup.uses;
     let masks = setup.masks;
-    let sources = flow.sources;
-    all_rest(uses, masks, width, sources, &mut xa, &mut xb, &mut xc);
+    let rests = flow.sources;
+    rest_a(uses.a, masks, size.width, rests.a, &mut xa);
+    rest(uses.b, size.width, rests.b, &mut xb);
+    rest(uses.c, size.width, rests.c, &mut xc);
     block_by_block(
         ram,
         setup,
         far,
-        width,
-        height,
+        size,
         most,
         flow,
         &mut xa,

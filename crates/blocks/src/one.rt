@@ -2,7 +2,7 @@
 ghost use mathlib.Core.Path.{_≡_};
 ghost use mathlib.Core.Bool.{true, _&&_};
 ghost use Prim.Native.Nat.{_+_, _*_, _-_, _<_, _≤_};
-ghost use lib.ListN.{length};
+ghost use lib.ListN.{length, getD};
 ghost use Rattle.word.specs.Choice.{if_then_else_};
 ghost use Rattle.word.specs.Pointer.{pointerEnd};
 ghost use Rattle.area.specs.Flow.{state, nothing};
@@ -10,89 +10,82 @@ ghost use Rattle.area.specs.Rows.{areaBlit};
 ghost use Rattle.quiet.specs.Words.{maskedAt};
 ghost use Rattle.quiet.specs.Stream.{laidAt};
 ghost use Rattle.block.specs.Inner.Each.{at, Each, levelAt, nought};
-ghost use Rattle.block.specs.Inner.Place.{rowAt, placeAt, EvenRows};
+ghost use Rattle.block.specs.Inner.Place.{rowAt, placeAt, Lies};
 ghost use Rattle.apart.specs.Inner.Placed.{Placed};
 ghost use Rattle.apart.specs.Inner.Apart.{AllApart};
-ghost use Rattle.blocks.specs.Inner.Rests.{suppliedAt, Rests, AllRest, Supplied};
+ghost use Rattle.blocks.specs.Inner.Rests.{suppliedAt, Supplies, sourceOf, Rests, AllRest, Supplied};
 ghost use Rattle.blocks.specs.Inner.MadeOf.{MadeOf};
 ghost use Rattle.blocks.specs.Inner.Repeats.{Still, stillAt, Prepared};
 use crate::types::Made;
+use crate::types::Source;
 use apart::types::Strides;
+use area::types::Earlier;
 use area::types::Flow;
-use area::types::Masks;
 use area::types::Pending;
 use area::types::Pointers;
 use area::types::Setup;
 use area::types::Sources;
+use block::types::Course;
+use block::types::Size;
+use block::types::Words;
 use word::pointer::INDEX_END;
 use word::types::Direction;
 use word::types::Pointer;
 
-// A's words, masked. The answer is the last of them, unmasked.
-fn supplied_a(
-    used: bool,
-    direction: Direction,
-    masks: Masks,
-    ram: &[u16],
-    from: usize,
-    far: usize,
-    width: usize,
-    rows: usize,
-    source: u16,
-    x: &mut [u16; 80],
-) -> u16
-    requires { ⌜ (used ≡ true → EvenRows (length (now ram)) direction width far from rows)
-        × (rows * width ≤ 64) × (1 ≤ rows * width) × (1 ≤ width) × (from < pointerEnd) × (far < pointerEnd)
-        × (length (now x) ≡ 80) × Rests used width (maskedAt masks width (levelAt source)) (now x) ⌝ }
-    ensures { λ last. ⌜ (length (now (x .exit)) ≡ 80)
-        × Each (rows * width) (now (x .exit)) (maskedAt masks width (suppliedAt used direction width far from (now (ram .entry)) source))
-        × (last ≡ suppliedAt used direction width far from (now (ram .entry)) source (rows * width - 1))
-        × Rests used width (maskedAt masks width (levelAt source)) (now (x .exit)) ⌝ }
+fn source(used: bool, pointer: Pointer, far: usize, word: u16) -> Source
+    ensures { λ source. ⌜ source ≡ sourceOf used pointer far word ⌝ }
 {
-    if used {
-        if width < 4 {
-            block::fetch::narrow_rows(direction, ram, from, far, width, rows, x);
-            let last = x[rows * width - 1];
-            block::mask::mask(masks, width, rows, x);
+    let from = pointer.word as usize;
+    let course = Course { from, far };
+    Source { used, course, word }
+}
+
+// A's words, masked. The answer is the last of them, unmasked.
+fn supplied_a(source: Source, setup: Setup, ram: &[u16], size: Size, x: &mut Words) -> u16
+    requires { ⌜ Supplies (length (now ram)) (setup .direction) source size × (1 ≤ size .height * size .width) × (length (now x) ≡ 80)
+        × Rests (source .used) (size .width) (maskedAt (setup .masks) (size .width) (levelAt (source .word))) (now x) ⌝ }
+    ensures { λ last. ⌜ (length (now (x .exit)) ≡ 80)
+        × Each (size .height * size .width) (now (x .exit)) (maskedAt (setup .masks) (size .width) (suppliedAt (setup .direction) (size .width) source (now (ram .entry))))
+        × (last ≡ suppliedAt (setup .direction) (size .width) source (now (ram .entry)) (size .height * size .width - 1))
+        × Rests (source .used) (size .width) (maskedAt (setup .masks) (size .width) (levelAt (source .word))) (now (x .exit)) ⌝ }
+{
+    let direction = setup.direction;
+    let masks = setup.masks;
+    let course = source.course;
+    if source.used {
+        if size.width < 4 {
+            block::fetch::narrow_rows(direction, ram, course, size, x);
+            let last = x[size.height * size.width - 1];
+            block::mask::mask(masks, size.width, size.height, x);
             return last;
         }
-        block::fetch::rows(direction, ram, from, far, width, rows, x);
-        let last = x[rows * width - 1];
-        block::mask::mask(masks, width, rows, x);
+        block::fetch::rows(direction, ram, course.from, course.far, size, x);
+        let last = x[size.height * size.width - 1];
+        block::mask::mask(masks, size.width, size.height, x);
         return last;
     }
-    source
+    source.word
 }
 
 // The words of B, or of C.
-fn supplied(
-    used: bool,
-    direction: Direction,
-    ram: &[u16],
-    from: usize,
-    far: usize,
-    width: usize,
-    rows: usize,
-    source: u16,
-    x: &mut [u16; 80],
-) -> u16
-    requires { ⌜ (used ≡ true → EvenRows (length (now ram)) direction width far from rows)
-        × (rows * width ≤ 64) × (1 ≤ rows * width) × (1 ≤ width) × (from < pointerEnd) × (far < pointerEnd)
-        × (length (now x) ≡ 80) × Rests used width (levelAt source) (now x) ⌝ }
+fn supplied(source: Source, direction: Direction, ram: &[u16], size: Size, x: &mut Words) -> u16
+    requires { ⌜ Supplies (length (now ram)) direction source size × (1 ≤ size .height * size .width) × (length (now x) ≡ 80)
+        × Rests (source .used) (size .width) (levelAt (source .word)) (now x) ⌝ }
     ensures { λ last. ⌜ (length (now (x .exit)) ≡ 80)
-        × Each (rows * width) (now (x .exit)) (suppliedAt used direction width far from (now (ram .entry)) source)
-        × (last ≡ suppliedAt used direction width far from (now (ram .entry)) source (rows * width - 1))
-        × Rests used width (levelAt source) (now (x .exit)) ⌝ }
+        × Each (size .height * size .width) (now (x .exit)) (suppliedAt direction (size .width) source (now (ram .entry)))
+        × (last ≡ suppliedAt direction (size .width) source (now (ram .entry)) (size .height * size .width - 1))
+        × Rests (source .used) (size .width) (levelAt (source .word)) (now (x .exit)) ⌝ }
 {
-    if used {
-        if width < 4 {
-            block::fetch::narrow_rows(direction, ram, from, far, width, rows, x);
-            return x[rows * width - 1];
+    let course = source.course;
+    if source.used {
+        if size.width < 4 {
+            block::fetch::narrow_rows(direction, ram, course, size, x);
+            return x[size.height * size.width - 1];
         }
-        block::fetch::rows(direction, ram, from, far, width, rows, x);
-        return x[rows * width - 1];
+        block::fetch::rows(direction, ram, course.from, course.far, size, x);
+        return x[size.height * size.width - 1];
     }
-    source
+    source.word
 }
 
 // What the three sources give, and the last word of each.
@@ -100,89 +93,62 @@ fn sources(
     ram: &[u16],
     setup: Setup,
     far: Strides,
-    width: usize,
-    rows: usize,
+    size: Size,
     flow: Flow,
-    xa: &mut [u16; 80],
-    xb: &mut [u16; 80],
-    xc: &mut [u16; 80],
+    xa: &mut Words,
+    xb: &mut Words,
+    xc: &mut Words,
 ) -> Sources
-    requires { ⌜ Placed (length (now ram)) setup width rows flow far × (rows * width ≤ 64) × (1 ≤ rows * width)
+    requires { ⌜ Placed (length (now ram)) setup (size .width) (size .height) flow far × (size .height * size .width ≤ 64) × (1 ≤ size .height * size .width)
         × (length (now xa) ≡ 80) × (length (now xb) ≡ 80) × (length (now xc) ≡ 80)
-        × AllRest setup width (flow .sources) (now xa) (now xb) (now xc) ⌝ }
+        × AllRest setup (size .width) (flow .sources) (now xa) (now xb) (now xc) ⌝ }
     ensures { λ last. ⌜ (length (now (xa .exit)) ≡ 80) × (length (now (xb .exit)) ≡ 80) × (length (now (xc .exit)) ≡ 80)
-        × Supplied setup width rows far flow (now (ram .entry)) (now (xa .exit)) (now (xb .exit)) (now (xc .exit)) last
-        × AllRest setup width (flow .sources) (now (xa .exit)) (now (xb .exit)) (now (xc .exit)) ⌝ }
+        × Supplied setup (size .width) (size .height) far flow (now (ram .entry)) (now (xa .exit)) (now (xb .exit)) (now (xc .exit)) last
+        × AllRest setup (size .width) (flow .sources) (now (xa .exit)) (now (xb .exit)) (now (xc .exit)) ⌝ }
 {
     let uses = setup.uses;
     let direction = setup.direction;
-    let masks = setup.masks;
-    let a = supplied_a(
-        uses.a,
-        direction,
-        masks,
-        ram,
-        flow.pointers.a.word as usize,
-        far.a,
-        width,
-        rows,
-        flow.sources.a,
-        xa,
-    );
+    let at = flow.pointers;
+    let rest = flow.sources;
+    let a = supplied_a(source(uses.a, at.a, far.a, rest.a), setup, ram, size, xa);
     let b = supplied(
-        uses.b,
+        source(uses.b, at.b, far.b, rest.b),
         direction,
         ram,
-        flow.pointers.b.word as usize,
-        far.b,
-        width,
-        rows,
-        flow.sources.b,
+        size,
         xb,
     );
     let c = supplied(
-        uses.c,
+        source(uses.c, at.c, far.c, rest.c),
         direction,
         ram,
-        flow.pointers.c.word as usize,
-        far.c,
-        width,
-        rows,
-        flow.sources.c,
+        size,
         xc,
     );
     Sources { a, b, c }
 }
 
 // Where D is used its words are stored.
-fn store_words(
-    ram: &mut [u16],
-    used: bool,
-    direction: Direction,
-    from: usize,
-    far: usize,
-    width: usize,
-    rows: usize,
-    o: &[u16; 80],
-)
-    requires { ⌜ (used ≡ true → EvenRows (length (now ram)) direction width far from rows)
-        × (rows * width ≤ 64) × (1 ≤ width) × (from < pointerEnd) × (far < pointerEnd) ⌝ }
+fn store_words(ram: &mut [u16], setup: Setup, course: Course, size: Size, o: &Words)
+    requires { ⌜ (setup .uses .d ≡ true → Lies (length (now ram)) (setup .direction) (course .far) (course .from) size) ⌝ }
     ensures { λ _. ⌜
         now (ram .exit)
-        ≡ (if used then laidAt (placeAt direction width far from) (at (now (o .entry))) (rows * width) (now (ram .entry))
+        ≡ (if setup .uses .d then laidAt (placeAt (setup .direction) (size .width) (course .far) (course .from)) (at (now (o .entry))) (size .height * size .width) (now (ram .entry))
         else now (ram .entry)) ⌝ }
 {
-    if used {
-        if width < 4 {
-            block::store::narrow_rows(direction, ram, from, far, width, rows, o);
+    let uses = setup.uses;
+    let direction = setup.direction;
+    if uses.d {
+        if size.width < 4 {
+            block::store::narrow_rows(direction, ram, course, size, o);
             return;
         }
-        block::store::rows(direction, ram, from, far, width, rows, o);
+        block::store::rows(direction, ram, course.from, course.far, size, o);
     }
 }
 
 // The words are looked at only as long as all were nought.
-fn still_nought(allzero: bool, n: usize, o: &[u16; 80]) -> bool
+fn still_nought(allzero: bool, n: usize, o: &Words) -> bool
     requires { ⌜ n ≤ 64 ⌝ }
     ensures { λ still. ⌜ still ≡ (allzero && nought n (at (now (o .entry)))) ⌝ }
 {
@@ -238,50 +204,59 @@ fn counted(used: bool, stored: u32, words: usize) -> u32
     stored
 }
 
+// A block's last words of A, as masked, and of B.
+fn last_words(n: usize, xa: &Words, xb: &Words) -> Earlier
+    requires { ⌜ (1 ≤ n) × (n ≤ 64) ⌝ }
+    ensures { λ last. ⌜ last ≡ record { a = getD (now (xa .entry)) (n - 1) 0; b = getD (now (xb .entry)) (n - 1) 0 } ⌝ }
+{
+    let a = xa[n - 1];
+    let b = xb[n - 1];
+    Earlier { a, b }
+}
+
 // The block's final words in o. Where they stand there already nothing is made, and nothing else changes.
 fn made(
     ram: &[u16],
     setup: Setup,
     far: Strides,
-    width: usize,
-    rows: usize,
+    size: Size,
     ready: bool,
     flow: Flow,
-    xa: &mut [u16; 80],
-    xb: &mut [u16; 80],
-    xc: &mut [u16; 80],
-    ya: &mut [u16; 80],
-    o: &mut [u16; 80],
+    xa: &mut Words,
+    xb: &mut Words,
+    xc: &mut Words,
+    ya: &mut Words,
+    o: &mut Words,
 ) -> Made
-    requires { ⌜ Placed (length (now ram)) setup width rows flow far × (rows * width ≤ 64) × (1 ≤ rows * width)
+    requires { ⌜ Placed (length (now ram)) setup (size .width) (size .height) flow far × (size .height * size .width ≤ 64) × (1 ≤ size .height * size .width)
         × (length (now xa) ≡ 80) × (length (now xb) ≡ 80) × (length (now xc) ≡ 80)
         × (length (now ya) ≡ 80) × (length (now o) ≡ 80)
-        × AllRest setup width (flow .sources) (now xa) (now xb) (now xc)
-        × (ready ≡ true → Prepared setup width rows flow (now o)) ⌝ }
+        × AllRest setup (size .width) (flow .sources) (now xa) (now xb) (now xc)
+        × (ready ≡ true → Prepared setup (size .width) (size .height) flow (now o)) ⌝ }
     ensures { λ end. ⌜ (length (now (xa .exit)) ≡ 80) × (length (now (xb .exit)) ≡ 80) × (length (now (xc .exit)) ≡ 80)
         × (length (now (ya .exit)) ≡ 80) × (length (now (o .exit)) ≡ 80)
-        × AllRest setup width (end .sources) (now (xa .exit)) (now (xb .exit)) (now (xc .exit))
-        × MadeOf setup width rows far flow (now (ram .entry)) (now (xa .exit)) (now (xb .exit)) (now (xc .exit)) (now (o .exit)) end ⌝ }
+        × AllRest setup (size .width) (end .sources) (now (xa .exit)) (now (xb .exit)) (now (xc .exit))
+        × MadeOf setup (size .width) (size .height) far flow (now (ram .entry)) (now (xa .exit)) (now (xb .exit)) (now (xc .exit)) (now (o .exit)) end ⌝ }
 {
+    let before = flow.earlier;
     if ready {
         let sources = flow.sources;
-        let earlier = flow.earlier;
         return Made {
             sources,
-            earlier,
+            earlier: before,
             carry: flow.carry,
             allzero: flow.allzero,
         };
     }
-    let before = flow.earlier;
-    let sources = sources(ram, setup, far, width, rows, flow, xa, xb, xc);
-    let end = crate::finals::finals(setup, width, rows, before, xa, xb, xc, ya, o);
-    let last = end.earlier;
+    let sources = sources(ram, setup, far, size, flow, xa, xb, xc);
+    let carry = crate::finals::finals(setup, size, before, xa, xb, xc, ya, o);
+    let earlier = last_words(size.height * size.width, xa, xb);
+    let allzero = still_nought(flow.allzero, size.height * size.width, o);
     Made {
         sources,
-        earlier: last,
-        carry: end.carry,
-        allzero: still_nought(flow.allzero, rows * width, o),
+        earlier,
+        carry,
+        allzero,
     }
 }
 
@@ -290,43 +265,33 @@ pub fn one_block(
     ram: &mut [u16],
     setup: Setup,
     far: Strides,
-    width: usize,
-    rows: usize,
+    size: Size,
     ready: bool,
     flow: Flow,
-    xa: &mut [u16; 80],
-    xb: &mut [u16; 80],
-    xc: &mut [u16; 80],
-    ya: &mut [u16; 80],
-    o: &mut [u16; 80],
+    xa: &mut Words,
+    xb: &mut Words,
+    xc: &mut Words,
+    ya: &mut Words,
+    o: &mut Words,
 ) -> Flow
-    requires { ⌜ Placed (length (now ram)) setup width rows flow far × AllApart setup width (rows * width) (rows * width) flow
-        × (rows * width ≤ 64) × (1 ≤ rows * width) × (rows ≤ 64) × (flow .stored + 64 < 4294967296)
+    requires { ⌜ Placed (length (now ram)) setup (size .width) (size .height) flow far × AllApart setup (size .width) (size .height * size .width) (size .height * size .width) flow
+        × (size .height * size .width ≤ 64) × (1 ≤ size .height * size .width) × (size .height ≤ 64) × (flow .stored + 64 < 4294967296)
         × (length (now xa) ≡ 80) × (length (now xb) ≡ 80) × (length (now xc) ≡ 80)
         × (length (now ya) ≡ 80) × (length (now o) ≡ 80)
-        × AllRest setup width (flow .sources) (now xa) (now xb) (now xc)
-        × (ready ≡ true → Prepared setup width rows flow (now o)) ⌝ }
+        × AllRest setup (size .width) (flow .sources) (now xa) (now xb) (now xc)
+        × (ready ≡ true → Prepared setup (size .width) (size .height) flow (now o)) ⌝ }
     ensures { λ next. ⌜ (length (now (xa .exit)) ≡ 80) × (length (now (xb .exit)) ≡ 80) × (length (now (xc .exit)) ≡ 80)
         × (length (now (ya .exit)) ≡ 80) × (length (now (o .exit)) ≡ 80)
-        × AllRest setup width (next .sources) (now (xa .exit)) (now (xb .exit)) (now (xc .exit))
-        × (state (now (ram .exit)) next ≡ areaBlit setup width rows (state (now (ram .entry)) flow))
-        × (Still setup → Each (rows * width) (now (o .exit)) (stillAt setup width (flow .earlier) (flow .sources))) ⌝ }
+        × AllRest setup (size .width) (next .sources) (now (xa .exit)) (now (xb .exit)) (now (xc .exit))
+        × (state (now (ram .exit)) next ≡ areaBlit setup (size .width) (size .height) (state (now (ram .entry)) flow))
+        × (Still setup → Each (size .height * size .width) (now (o .exit)) (stillAt setup (size .width) (flow .earlier) (flow .sources))) ⌝ }
 {
-    let direction = setup.direction;
     let uses = setup.uses;
-    let from = flow.pointers;
-    let end = made(ram, setup, far, width, rows, ready, flow, xa, xb, xc, ya, o);
-    store_words(
-        ram,
-        uses.d,
-        direction,
-        flow.pointers.d.word as usize,
-        far.d,
-        width,
-        rows,
-        o,
-    );
-    let pointers = pointers_on(setup, far, rows, from);
+    let at = flow.pointers;
+    let end = made(ram, setup, far, size, ready, flow, xa, xb, xc, ya, o);
+    let d = source(uses.d, at.d, far.d, 0);
+    store_words(ram, setup, d.course, size, o);
+    let pointers = pointers_on(setup, far, size.height, at);
     let sources = end.sources;
     let earlier = end.earlier;
     let pending = Pending {
@@ -340,7 +305,7 @@ pub fn one_block(
         earlier,
         carry: end.carry,
         allzero: end.allzero,
-        stored: counted(uses.d, flow.stored, rows * width),
+        stored: counted(uses.d, flow.stored, size.height * size.width),
         pending,
     }
 }

@@ -1,14 +1,17 @@
 // The types that blocks speak of.
 use area::types::Earlier;
 use area::types::Sources;
+use block::types::Course;
 
-// What a block hands on to the next: its last words of A, as masked, and of B, and the last word's carry.
-pub struct Ended {
-    pub earlier: Earlier,
-    pub carry: u16,
+// A source: whether it is used, where its rows lie, and the word that it gives at rest.
+pub struct Source {
+    pub used: bool,
+    pub course: Course,
+    pub word: u16,
 }
 
-// A block's words made: its last words, what it hands on, and whether all words up to here were nought.
+// A block's words made: its last words, as fetched and as shifted, the last carry, and whether all words up to here were
+// nought.
 pub struct Made {
     pub sources: Sources,
     pub earlier: Earlier,

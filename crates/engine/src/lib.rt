@@ -7,6 +7,7 @@ ghost use Rattle.area.specs.Flow.{state, nothing};
 ghost use Rattle.area.specs.Rows.{rows, areaBlit};
 use area::types::Flow;
 use area::types::Setup;
+use block::types::Size;
 use word::pointer::INDEX_END;
 
 fn rows(ram: &mut [u16], setup: Setup, width: u32, height: u32, flow: Flow) -> Flow
@@ -62,7 +63,11 @@ pub fn area_blit(ram: &mut [u16], setup: Setup, width: u32, height: u32, flow: F
         let far = apart::strides(setup, width);
         let most = apart::rows_at_once(ram.len(), setup, wide, tall, flow, far);
         if 2 <= most * wide {
-            return blocks::all::blocks(ram, setup, far, wide, tall, most, flow);
+            let size = Size {
+                width: wide,
+                height: tall,
+            };
+            return blocks::all::blocks(ram, setup, far, size, most, flow);
         }
         return word_by_word(ram, setup, width, height, flow);
     }

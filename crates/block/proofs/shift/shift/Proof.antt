@@ -3,8 +3,8 @@
 use Rattle.word.proofs.Base.{_≡_, sym, ap, _∙_, _+_, _-_, _≤_, arith, not, needs, length}
 use Rattle.quiet.specs.Words.{shiftedAt}
 use Rattle.block.specs.Inner.Each.{Each, at}
-use Rattle.block.proofs.EachLaws.{never, each-fewer}
-use Rattle.block.proofs.ShiftLaws.{shift-of-nought, shift-first, shift-turn}
+use Rattle.block.proofs.EachLaws.{never, each-fewer, each-copied}
+use Rattle.block.proofs.ShiftLaws.{shift-first, shift-turn}
 use Rattle.block.proofs.shift.shift.Statement.{statement}
 use Rattle.block.proofs.shift.shift.Tie as tie
 
@@ -18,7 +18,7 @@ returns : tie.Need-returns Inv-loop μ-loop
 returns c = (search needs, λ yes. never (sym (c .if1 .taken) ∙ ap not yes))
 
 returns-2 : tie.Need-returns-2 Inv-loop μ-loop
-returns-2 c = (search needs, λ _. shift-of-nought _ _ _ _ _ _ (search needs) (search needs) (c .before .before .first-word .ensures) (c .copied .ensures .1))
+returns-2 c = (search needs, λ _. each-copied _ _ _ _ (c .before .before .unmoved .ensures _) (c .copied .ensures .1))
 
 loop-holds : tie.Need-loop-holds Inv-loop μ-loop
 loop-holds c = (search needs, search needs, shift-first _ _ _ _ (c .before .before .before .before .args .x .now) (c .before .before .before .before .args .y .now) (search needs) (c .drawn .ensures))

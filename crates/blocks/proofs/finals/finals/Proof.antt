@@ -1,23 +1,29 @@
--- `blocks::finals::finals` meets its contract: the results, then the fill.
-use Rattle.word.proofs.Base.{refl, needs}
-use Rattle.area.specs.Setup.{masks}
-use Rattle.blocks.proofs.FinalsLaws.{finals-are, finals-carry}
+-- `blocks::finals::finals` meets its contract: shifted where the function needs it, mixed, then filled.
+use Rattle.word.proofs.Base.{arith, needs}
+use Rattle.blocks.proofs.FinalsLaws.{results-are, finals-are, finals-carry}
 use Rattle.blocks.proofs.finals.finals.Statement.{statement}
 use Rattle.blocks.proofs.finals.finals.Tie as tie
 
 returns : tie.Need-returns
-returns c =
-    let results = c .before .before .before .before .before .results .ensures .2 in (
-      search needs,
-      search needs,
-      refl,
-      λ a masks. (
-        finals-are _ _ _ _ _ a _ _ (results a masks) _ (c .before .before .fill .ensures .2),
-        finals-carry _ _ _ _ _ a _ _ (results a masks) _ (c .before .before .before .before .before .before .before .before .pre .3) (c .before .before .fill .ensures .3),
-      ),
-    )
+returns c = (
+  search needs,
+  search needs,
+  λ a masks.
+      let results = results-are _ _ _ _ _ _ _ _ _ _ _ _ (omega arith) (c .before .before .before .before .before .before .before .before .before .before .needs .ensures) (λ _. c .before .before .before .before .before .unmoved .ensures _) (c .before .before .before .before .before .before .before .before .shift .ensures .1) (c .before .before .before .mix .ensures .1) a masks in
+      (finals-are _ _ _ _ _ a _ _ results _ (c .fill .ensures .2), finals-carry _ _ _ _ _ a _ _ results _ (c .before .before .before .before .before .before .before .before .before .before .before .before .pre .3) (c .fill .ensures .3)),
+)
+
+returns-2 : tie.Need-returns-2
+returns-2 c = (
+  search needs,
+  search needs,
+  λ a masks.
+      let results = results-are _ _ _ _ _ _ _ _ _ _ _ _ (omega arith) (c .before .before .before .before .before .before .before .before .before .before .before .before .needs .ensures) (c .before .before .before .before .before .before .shift2 .ensures .1) (c .before .before .before .before .before .before .before .before .before .before .shift .ensures .1) (c .before .before .before .mix2 .ensures .1) a masks in
+      (finals-are _ _ _ _ _ a _ _ results _ (c .fill2 .ensures .2), finals-carry _ _ _ _ _ a _ _ results _ (c .before .before .before .before .before .before .before .before .before .before .before .before .before .before .pre .3) (c .fill2 .ensures .3)),
+)
 
 pub finals-spec : {M : Type 1} → statement M
 finals-spec =
-    tie.close (tie.spec (λ c. search needs) (λ c κs. search needs) (λ c κs. search needs) (λ c. search needs)
-    (λ c. search needs) (λ c. search needs) (λ c. search needs) (λ c. search needs) (λ c. search needs) returns)
+    tie.close (tie.spec (λ c. search needs) (λ c. search needs) (λ c. search needs) (λ c κs. search needs)
+    (λ c κs. search needs) (λ c κs. search needs) (λ c κs. search needs) (λ c κs. search needs) returns
+    (λ c κs. search needs) (λ c κs. search needs) (λ c κs. search needs) returns-2)

@@ -5,10 +5,10 @@ use Rattle.blocks.proofs.one.store_words.Statement.{statement}
 use Rattle.blocks.proofs.one.store_words.Tie as tie
 
 narrow-rows-requires : tie.Need-narrow-rows-requires
-narrow-rows-requires c κs = (c .before .before .before .before .pre .0 (c .before .before .if1 .taken), search needs, search needs, search needs, search needs, search needs)
+narrow-rows-requires c κs = (c .before .before .before .before .before .before .pre (c .before .before .before .if1 .taken), search needs)
 
 rows-requires : tie.Need-rows-requires
-rows-requires c κs = (c .before .before .before .before .pre .0 (c .before .before .if1 .taken), search needs, search needs, search needs, search needs)
+rows-requires c κs = c .before .before .before .before .before .before .pre (c .before .before .before .if1 .taken)
 
 returns : tie.Need-returns
 returns c = search (needs, if-when-true)

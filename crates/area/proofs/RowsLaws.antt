@@ -81,39 +81,25 @@ pub rowStart-room : (setup : Setup) (width : ℕ) (flow started : Flow)
     → started ≡ withCarry (setup .carry) flow → flow .stored + width < 4294967296 → started .stored + width < 4294967296
 rowStart-room setup width flow started starts room = rw starts room
 
-pub rowStart-words : (setup : Setup) (width : ℕ) (memory after : List ℕ) (flow started end : Flow)
+pub oneRow-of-parts : (setup : Setup) (width : ℕ) (memory after : List ℕ) (flow started end turned : Flow)
     → started ≡ withCarry (setup .carry) flow
     → state after end ≡ words setup width width (state memory started)
-    → state after end ≡ words setup width width (rowStart setup (state memory flow))
-unfolding rowStart
-rowStart-words setup width memory after flow started end starts does = rw starts at does
-
-pub oneRow-of-parts : (setup : Setup) (width : ℕ) (memory after : List ℕ) (flow end turned : Flow)
-    → state after end ≡ words setup width width (rowStart setup (state memory flow))
     → turned ≡ rowEnd (setup .direction) (setup .uses) (setup .modulos) end
     → state after turned ≡ oneRow setup width (state memory flow)
-unfolding oneRow
-oneRow-of-parts setup width memory after flow end turned does turns = rw (turns, ← does)
+unfolding oneRow rowStart
+oneRow-of-parts setup width memory after flow started end turned starts does turns = rw (turns, ← starts, ← does)
 
 pub oneRow-counts : (setup : Setup) (width : ℕ) (now : State) → oneRow setup width now .flow .stored ≤ now .flow .stored + width
 unfolding oneRow rowStart rowEnd
 oneRow-counts setup width now = words-count setup width width (rowStart setup now)
 
--- one row done, by its parts: the rest of the rows, and room for the count
-module _ (setup : Setup) (width remaining : ℕ) (memory after : List ℕ) (flow end turned : Flow)
-    (does : state after end ≡ words setup width width (rowStart setup (state memory flow)))
-    (turns : turned ≡ rowEnd (setup .direction) (setup .uses) (setup .modulos) end) (more : 0 < remaining) where
-  pub rows-turn : rows setup width (remaining - 1) (state after turned) ≡ rows setup width remaining (state memory flow)
-  rows-turn =
-      repeated-turn (λ _. oneRow setup width) remaining (state memory flow) (state after turned) _ more
-      (oneRow-of-parts setup width memory after flow end turned does turns) refl
-
-  pub rows-room : width ≤ 64 → flow .stored + remaining * 64 < 4294967296 → turned .stored + (remaining - 1) * 64 < 4294967296
-  rows-room narrow room =
-      let count : turned .stored ≤ flow .stored + width =
-      rw (ap (λ (end : State). end .flow .stored) (oneRow-of-parts setup width memory after flow end turned does turns))
-      (oneRow-counts setup width (state memory flow)) in
-      omega arith
+pub rows-room : (setup : Setup) (width remaining : ℕ) (memory after : List ℕ) (flow next : Flow)
+    → 0 < remaining → width ≤ 64 → state after next ≡ oneRow setup width (state memory flow)
+    → flow .stored + remaining * 64 < 4294967296 → next .stored + (remaining - 1) * 64 < 4294967296
+rows-room setup width remaining memory after flow next more narrow row room =
+    let count : next .stored ≤ flow .stored + width =
+    rw (ap (λ (end : State). end .flow .stored) row) (oneRow-counts setup width (state memory flow)) in
+    omega arith
 
 -- all rows store at most 64 words each, so that there is room for the last
 rows-count : (setup : Setup) (width remaining : ℕ) (now : State) → width ≤ 64

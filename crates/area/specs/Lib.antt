@@ -1,4 +1,4 @@
--- What a reader must believe of an area blit's words, in the order of paper 01; Inner apart.
+-- What a reader must believe of an area blit's words, in the order of paper 01.
 pub mod Setup
 pub mod Flow
 pub mod With
@@ -7,4 +7,3 @@ pub mod Finish
 pub mod Store
 pub mod Move
 pub mod Rows
-pub mod Inner

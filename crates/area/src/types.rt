@@ -81,9 +81,3 @@ pub struct Finished {
     pub word: u16,
     pub flow: Flow,
 }
-
-// The flow after some rows, and how many rows are left.
-pub struct Rest {
-    pub remaining: u32,
-    pub flow: Flow,
-}

@@ -1,11 +1,9 @@
-// A row word by word, each word stored after the next one's fetches.
+// An area blit word by word, each word stored after the next one's fetches.
 ghost use mathlib.Core.Path.{_≡_};
 ghost use Prim.Native.Nat.{_+_, _*_, _<_, _≤_};
 ghost use Rattle.area.specs.Flow.{state};
-ghost use Rattle.area.specs.Rows.{oneWord, words, rowStart};
-ghost use Rattle.area.specs.Inner.GoesOn.{GoesOn};
+ghost use Rattle.area.specs.Rows.{oneWord, words, oneRow, rows, areaBlit};
 use area::types::Flow;
-use area::types::Rest;
 use area::types::Setup;
 
 // One word: its sources are fetched, then the word before it is stored, and this one waits; the pointers move on. So
@@ -43,30 +41,45 @@ fn words(ram: &mut [u16], setup: Setup, width: u32, flow: Flow) -> Flow
     here
 }
 
-// A row up to its last word.
-fn row_words(ram: &mut [u16], setup: Setup, width: u32, flow: Flow) -> Flow
+// A row: its start, its words, and its end.
+fn row(ram: &mut [u16], setup: Setup, width: u32, flow: Flow) -> Flow
     requires { ⌜ (setup .shifts .a < 16) × (setup .shifts .b < 16) × (flow .stored + width < 4294967296) ⌝ }
     ensures { λ after. ⌜
         state (now (ram .exit)) after
-        ≡ words setup width width (rowStart setup (state (now (ram .entry)) flow)) ⌝ }
-{
-    words(ram, setup, width, area::rows::row_start(setup, flow))
-}
-
-// Does one or more of the rows left and says how many are left after that.
-pub fn some_rows(ram: &mut [u16], setup: Setup, width: u32, remaining: u32, flow: Flow) -> Rest
-    requires { ⌜ (setup .shifts .a < 16) × (setup .shifts .b < 16)
-        × (0 < remaining) × (width ≤ 64) × (flow .stored + remaining * 64 < 4294967296) ⌝ }
-    ensures { λ rest. ⌜ (rest .remaining < remaining)
-        × GoesOn setup width (now (ram .exit)) rest remaining (now (ram .entry)) flow ⌝ }
+        ≡ oneRow setup width (state (now (ram .entry)) flow) ⌝ }
 {
     let uses = setup.uses;
     let direction = setup.direction;
     let modulos = setup.modulos;
-    let end = row_words(ram, setup, width, flow);
-    let after = area::moves::row_end(direction, uses, modulos, end);
-    Rest {
-        remaining: remaining - 1,
-        flow: after,
+    let end = words(ram, setup, width, area::rows::row_start(setup, flow));
+    area::moves::row_end(direction, uses, modulos, end)
+}
+
+// All rows, one after the other.
+fn rows(ram: &mut [u16], setup: Setup, width: u32, height: u32, flow: Flow) -> Flow
+    requires { ⌜ (setup .shifts .a < 16) × (setup .shifts .b < 16)
+        × (width ≤ 64) × (flow .stored + height * 64 < 4294967296) ⌝ }
+    ensures { λ after. ⌜
+        state (now (ram .exit)) after
+        ≡ rows setup width height (state (now (ram .entry)) flow) ⌝ }
+{
+    let mut here = flow;
+    let mut remaining = height;
+    while 0 < remaining {
+        here = row(ram, setup, width, here);
+        remaining = remaining - 1;
     }
+    here
+}
+
+// A whole blit: its rows, then the store of the last word.
+pub fn area_blit(ram: &mut [u16], setup: Setup, width: u32, height: u32, flow: Flow) -> Flow
+    requires { ⌜ (setup .shifts .a < 16) × (setup .shifts .b < 16)
+        × (width ≤ 64) × (flow .stored + height * 64 < 4294967295) ⌝ }
+    ensures { λ after. ⌜
+        state (now (ram .exit)) after
+        ≡ areaBlit setup width height (state (now (ram .entry)) flow) ⌝ }
+{
+    let end = rows(ram, setup, width, height, flow);
+    area::store::store_pending(ram, end)
 }

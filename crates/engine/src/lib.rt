@@ -4,40 +4,11 @@ ghost use mathlib.Core.Bool.{true};
 ghost use Prim.Native.Nat.{_+_, _*_, _<_, _≤_};
 ghost use Rattle.word.specs.Pointer.{pointerEnd};
 ghost use Rattle.area.specs.Flow.{state, nothing};
-ghost use Rattle.area.specs.Rows.{rows, areaBlit};
+ghost use Rattle.area.specs.Rows.{areaBlit};
 use area::types::Flow;
 use area::types::Setup;
 use block::types::Size;
 use word::pointer::INDEX_END;
-
-fn rows(ram: &mut [u16], setup: Setup, width: u32, height: u32, flow: Flow) -> Flow
-    requires { ⌜ (setup .shifts .a < 16) × (setup .shifts .b < 16)
-        × (width ≤ 64) × (flow .stored + height * 64 < 4294967296) ⌝ }
-    ensures { λ after. ⌜
-        state (now (ram .exit)) after
-        ≡ rows setup width height (state (now (ram .entry)) flow) ⌝ }
-{
-    let mut here = flow;
-    let mut remaining = height;
-    while 0 < remaining {
-        let rest = by_word::some_rows(ram, setup, width, remaining, here);
-        remaining = rest.remaining;
-        here = rest.flow;
-    }
-    here
-}
-
-// Word by word, and the last word stored at the end.
-fn word_by_word(ram: &mut [u16], setup: Setup, width: u32, height: u32, flow: Flow) -> Flow
-    requires { ⌜ (setup .shifts .a < 16) × (setup .shifts .b < 16)
-        × (width ≤ 64) × (flow .stored + height * 64 < 4294967295) ⌝ }
-    ensures { λ after. ⌜
-        state (now (ram .exit)) after
-        ≡ areaBlit setup width height (state (now (ram .entry)) flow) ⌝ }
-{
-    let end = rows(ram, setup, width, height, flow);
-    area::store::store_pending(ram, end)
-}
 
 // A few words cost less one by one. Blocks want memory no longer than a pointer reaches.
 fn worth_a_block(n: usize, words: u32) -> bool
@@ -69,7 +40,7 @@ pub fn area_blit(ram: &mut [u16], setup: Setup, width: u32, height: u32, flow: F
             };
             return blocks::all::blocks(ram, setup, far, size, most, flow);
         }
-        return word_by_word(ram, setup, width, height, flow);
+        return by_word::area_blit(ram, setup, width, height, flow);
     }
-    word_by_word(ram, setup, width, height, flow)
+    by_word::area_blit(ram, setup, width, height, flow)
 }

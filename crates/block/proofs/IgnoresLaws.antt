@@ -3,7 +3,7 @@ use Rattle.word.proofs.Base.{_≡_, refl, sym, ap, _∙_, ℕ, _+_, _*_, _/_, _
 use native.Mathlib.Nat.{div-one, div-div-eq-div-mul}
 use Rattle.word.specs.Word.{bit}
 use Rattle.word.specs.Logic.{logic}
-use Rattle.word.proofs.WordLaws.{bit-lt, bit-of-and, bit-of-ofBits, bits-are-enough, bit-cases}
+use Rattle.word.proofs.WordLaws.{bit-lt, bit-of-and, bits-are-enough, bit-cases}
 use Rattle.word.proofs.LogicLaws.{bit-of-logic, logic-lt}
 
 logic-same : (f a b c a′ b′ c′ : ℕ)

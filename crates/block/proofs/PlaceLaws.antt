@@ -1,5 +1,5 @@
 -- Laws of the places of rows evenly apart, and of the loops that fetch and store them.
-use Rattle.word.proofs.Base.{_≡_, refl, sym, ap, _∙_, ℕ, zero, suc, _+_, _-_, _*_, _%_, _<_, _≤_, add-zero, add-suc}
+use Rattle.word.proofs.Base.{_≡_, refl, sym, ap, _∙_, ℕ, zero, suc, _+_, _*_, _%_, _<_, _≤_, add-zero, add-suc}
 use Rattle.word.proofs.Base.{suc-mul, add-mul, add-one, arith, List, length, getD, set}
 use Rattle.word.specs.declared.types.Direction.{Direction}
 use Rattle.word.specs.declared.types.Direction.the-variants.{Ascending, Descending}

@@ -1,5 +1,5 @@
 -- Laws of the shift of an array's words.
-use Rattle.word.proofs.Base.{_≡_, refl, sym, ap, _∙_, ℕ, zero, suc, _+_, _-_, _*_, _/_, _%_, _^_, _<_, add-one, arith}
+use Rattle.word.proofs.Base.{_≡_, sym, ap, _∙_, ℕ, zero, suc, _+_, _-_, _*_, _/_, _%_, _^_, _<_, add-one, arith}
 use Rattle.word.proofs.Base.{subst, decLt, List, length, getD, set}
 use Rattle.word.specs.declared.types.Direction.{Direction}
 use Rattle.word.specs.declared.types.Direction.the-variants.{Ascending, Descending}

@@ -1,5 +1,5 @@
 -- Laws of the logic function as a sum: on single bits it is computed for all functions and settings, and words go bit by bit.
-use Rattle.word.proofs.Base.{_≡_, refl, sym, _∙_, ℕ, _+_, _*_, _/_, _%_, _^_, _<_, arith, Bool, T, eqb, eqb→eq, bitAnd}
+use Rattle.word.proofs.Base.{_≡_, sym, _∙_, ℕ, _+_, _*_, _/_, _%_, _^_, _<_, arith, Bool, T, eqb, eqb→eq, bitAnd}
 use Rattle.word.proofs.Base.{bitXor}
 use lib.Bits.{xor-lt, and-le-r, and-zero-l, xor-zero-r}
 use Rattle.word.specs.Choice.{every}

@@ -1,6 +1,6 @@
 -- A blit cut between two rows: the second part begins with the first one's last word stored, where none of its sources
 -- fetches that word first.
-use Rattle.word.proofs.Base.{_≡_, refl, sym, ap, _∙_, ℕ, zero, suc, _+_, _-_, _*_, _≤_, zero-add, add-zero, arith, true}
+use Rattle.word.proofs.Base.{_≡_, sym, ap, _∙_, ℕ, zero, suc, _+_, _-_, _*_, _≤_, zero-add, add-zero, arith, true}
 use Rattle.word.proofs.Base.{List}
 use native.Mathlib.Nat.{suc-add}
 use Rattle.word.specs.Repeat.{repeated}

@@ -10,7 +10,7 @@ use Rattle.word.specs.Choice.{if_then_else_, every}
 use Rattle.area.specs.declared.types.Pointers.{Pointers}
 use Rattle.area.specs.declared.types.Setup.{Setup}
 use Rattle.area.specs.declared.types.Flow.{Flow}
-use Rattle.area.specs.Flow.{State, state, nothing}
+use Rattle.area.specs.Flow.{state, nothing}
 use Rattle.area.specs.Rows.{areaBlit}
 use Rattle.quiet.specs.Words.{wordBefore, maskedAt}
 use Rattle.quiet.specs.Stream.{standing, atA, atB, atC, atD, wordA, wordB, wordC, finals, finalWord, laidAt}

@@ -1,6 +1,5 @@
 -- `block::fill::either` meets its contract: each turn joins one word more.
 use Rattle.word.proofs.Base.{_≡_, ap, ℕ, _+_, _-_, _<_, _≤_, arith, needs, List, length, getD, set, bitOr}
-use Rattle.area.specs.Rows.{words}
 use Rattle.block.specs.Inner.Each.{Kept, Each, eitherAt, at}
 use Rattle.block.proofs.EachLaws.{each-turn, kept-here, kept-all, each-none, kept-turn, each-fewer}
 use Rattle.block.proofs.fill.either.Statement.{statement}

@@ -1,7 +1,6 @@
 -- `block::fill::prefixes` meets its contract: each turn fills one word more.
 use Rattle.word.proofs.Base.{_≡_, ℕ, _+_, _-_, _<_, _≤_, needs, List, length, getD, set}
 use Rattle.word.specs.Fill.{exclusive}
-use Rattle.area.specs.Rows.{words}
 use Rattle.block.specs.Inner.Each.{Each, prefixAt, at}
 use Rattle.block.proofs.EachLaws.{each-turn, each-none, each-fewer}
 use Rattle.block.proofs.fill.prefixes.Statement.{statement}

@@ -1,7 +1,5 @@
 -- `block::level::level` meets its contract: each turn lays the word once more.
 use Rattle.word.proofs.Base.{_≡_, refl, ℕ, _+_, _-_, _<_, _≤_, needs, List, length, set}
-use Rattle.word.specs.Word.{word}
-use Rattle.area.specs.Rows.{words}
 use Rattle.block.specs.Inner.Each.{Each, levelAt}
 use Rattle.block.proofs.EachLaws.{each-turn, each-none, each-fewer}
 use Rattle.block.proofs.level.level.Statement.{statement}

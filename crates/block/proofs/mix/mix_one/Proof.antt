@@ -1,6 +1,5 @@
 -- `block::mix::mix_one` meets its contract: each turn turns one word more.
 use Rattle.word.proofs.Base.{_≡_, refl, ℕ, _+_, _-_, _<_, _≤_, needs, List, length, getD, set, bitAnd, bitXor}
-use Rattle.area.specs.Rows.{words}
 use Rattle.block.specs.Inner.Each.{Each, turnedAt, at}
 use Rattle.block.proofs.EachLaws.{each-turn, each-none, each-fewer}
 use Rattle.block.proofs.mix.mix_one.Statement.{statement}

@@ -1,6 +1,5 @@
 -- `block::shift::copied` meets its contract: each turn copies one word more.
 use Rattle.word.proofs.Base.{_≡_, refl, ℕ, _+_, _-_, _<_, _≤_, needs, List, length, getD, set}
-use Rattle.area.specs.Rows.{words}
 use Rattle.block.specs.Inner.Each.{Each, at}
 use Rattle.block.proofs.EachLaws.{each-turn, each-none, each-fewer}
 use Rattle.block.proofs.shift.copied.Statement.{statement}

@@ -1,5 +1,6 @@
 -- Laws of A's masks in an array: two words of each row are touched.
-use Rattle.word.proofs.Base.{_≡_, refl, sym, ap, _∙_, ℕ, _+_, _-_, _*_, _%_, _<_, _≤_, arith, Bool, true, false, eqb}
+use Rattle.word.proofs.Base.{_≡_, refl, sym, ap, _∙_, ℕ, _+_, _-_, _*_, _%_, _<_, _≤_, arith, Bool, true, false, eqb, _&&_}
+use Rattle.word.proofs.ChoiceLaws.{and-left, and-right}
 use Rattle.word.proofs.Base.{eq-eqb, ne-eqb, eqb-true, eqb-false, List, length, getD, length-set, getD-set-same}
 use Rattle.word.proofs.Base.{getD-set-other, bitAnd}
 use Rattle.word.specs.Mask.{maskedWhen, masked}
@@ -69,8 +70,8 @@ module _ (masks : Masks) (width row s : ℕ) (words before after : List ℕ) (so
   pub mask-row-turn : Each s words (maskedAt masks width (at before)) → Each (s + width) after (maskedAt masks width (at before))
   mask-row-turn all = each-of-laid s width after words _ _ (λ i below. refl) all mask-row-laid
 
-pub masked-all-ones : (masks : Masks) (width n : ℕ) (words : List ℕ) → masks .first ≡ 65535 → masks .last ≡ 65535 → ((j : ℕ) → getD words j 0 < 65536)
-    → Each n words (maskedAt masks width (at words))
+pub masked-all-ones : (masks : Masks) (width n : ℕ) (words : List ℕ) → (eqb (masks .first) 65535 && eqb (masks .last) 65535) ≡ true
+    → ((j : ℕ) → getD words j 0 < 65536) → Each n words (maskedAt masks width (at words))
 unfolding Each maskedAt at
-masked-all-ones masks width n words one other small j below =
-    rw (one, other) (sym (masked-by-ones (eqb (j % width) 0) (eqb (j % width + 1) width) (getD words j 0) (small j)))
+masked-all-ones masks width n words ones small j below =
+    rw (eqb-true (masks .first) 65535 (and-left _ (eqb (masks .last) 65535) ones), eqb-true (masks .last) 65535 (and-right (eqb (masks .first) 65535) _ ones)) (sym (masked-by-ones (eqb (j % width) 0) (eqb (j % width + 1) width) (getD words j 0) (small j)))

@@ -1,21 +1,11 @@
 // A's masks: the first word of each row, and the last.
 ghost use mathlib.Core.Path.{_≡_};
-ghost use mathlib.Core.Bool.{true, false};
 ghost use Prim.Native.Nat.{ℕ, _+_, _-_, _*_, _<_, _≤_};
 ghost use lib.ListN.{length, getD};
 ghost use Rattle.quiet.specs.Words.{maskedAt};
 ghost use Rattle.block.specs.Inner.Each.{at, Each, maskedIn};
 use crate::types::Words;
 use area::types::Masks;
-
-fn all_ones(masks: Masks) -> bool
-    ensures { λ ones. ⌜ (ones ≡ true → (masks .first ≡ 65535) × (masks .last ≡ 65535)) ⌝ }
-{
-    if masks.first != 65535 {
-        return false;
-    }
-    masks.last == 65535
-}
 
 // Its promise tells that what stands in an array are words.
 pub fn first_word(x: &[u16]) -> u16
@@ -56,7 +46,7 @@ pub fn mask(masks: Masks, width: usize, rows: usize, x: &mut Words)
     ensures { λ _. ⌜ (length (now (x .exit)) ≡ 80)
         × Each (rows * width) (now (x .exit)) (maskedAt masks width (at (now (x .entry)))) ⌝ }
 {
-    if all_ones(masks) {
+    if (masks.first == 65535) & (masks.last == 65535) {
         first_word(x);
         return;
     }

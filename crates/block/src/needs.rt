@@ -1,44 +1,25 @@
 // Whether a function gives the same for any A, for any B, for any C: bit 4a + 2b + c is the same for both a, b, c.
 ghost use mathlib.Core.Path.{_≡_};
 ghost use mathlib.Core.Bool.{false};
-ghost use Prim.Native.Nat.{ℕ};
-ghost use Rattle.word.specs.Logic.{logic};
+ghost use Prim.Native.Nat.{_/_, _<_};
+ghost use lib.Bits.{bitAnd};
 ghost use Rattle.block.specs.Inner.Ignores.{Ignores};
 use crate::types::Needs;
 
-fn needs_a(function: u16) -> bool
-    ensures { λ need. ⌜ (need ≡ false → (a other b c : ℕ) → logic function a b c ≡ logic function other b c) ⌝ }
+// Whether bits of the function differ from those that stand so far above them.
+fn differs(function: u16, by: u16, shown: u16) -> bool
+    requires { ⌜ 0 < by ⌝ }
+    ensures { λ differ. ⌜ (differ ≡ false → bitAnd (function / by) shown ≡ bitAnd function shown) ⌝ }
 {
-    if (function / 16) & 0x0F == function & 0x0F {
-        return false;
-    }
-    true
-}
-
-fn needs_b(function: u16) -> bool
-    ensures { λ need. ⌜ (need ≡ false → (a b other c : ℕ) → logic function a b c ≡ logic function a other c) ⌝ }
-{
-    if (function / 4) & 0x33 == function & 0x33 {
-        return false;
-    }
-    true
-}
-
-fn needs_c(function: u16) -> bool
-    ensures { λ need. ⌜ (need ≡ false → (a b c other : ℕ) → logic function a b c ≡ logic function a b other) ⌝ }
-{
-    if (function / 2) & 0x55 == function & 0x55 {
-        return false;
-    }
-    true
+    (function / by) & shown != function & shown
 }
 
 pub fn needs(function: u16) -> Needs
     ensures { λ need. ⌜ Ignores function need ⌝ }
 {
     Needs {
-        a: needs_a(function),
-        b: needs_b(function),
-        c: needs_c(function),
+        a: differs(function, 16, 0x0F),
+        b: differs(function, 4, 0x33),
+        c: differs(function, 2, 0x55),
     }
 }

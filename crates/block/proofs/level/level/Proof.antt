@@ -1,13 +1,9 @@
 -- `block::level::level` meets its contract: each turn lays the word once more.
-use Rattle.word.proofs.Base.{_≡_, refl, ℕ, _+_, _-_, _<_, _≤_, needs, List, length, set}
+use Rattle.word.proofs.Base.{_≡_, refl, _-_, _≤_, needs, length}
 use Rattle.block.specs.Inner.Each.{Each, levelAt}
 use Rattle.block.proofs.EachLaws.{each-turn, each-none, each-fewer}
 use Rattle.block.proofs.level.level.Statement.{statement}
 use Rattle.block.proofs.level.level.Tie as tie
-
-level-turn : (i word : ℕ) (words : List ℕ) → i < length words → Each i words (levelAt word) → Each (i + 1) (set words i word) (levelAt word)
-unfolding levelAt
-level-turn i word words inside all = each-turn i word words _ inside refl all
 
 abbrev Inv-loop : tie.InvT-loop
 Inv-loop word n x₀ i₀ x i = (i ≤ n) × (length x ≡ 80) × Each i x (levelAt word)
@@ -19,7 +15,8 @@ loop-holds : tie.Need-loop-holds Inv-loop μ-loop
 loop-holds c = (search needs, search needs, each-none _ _)
 
 loop-again : tie.Need-loop-again Inv-loop μ-loop
-loop-again c = (search needs, search needs, level-turn _ _ _ (search needs) (c .before .loop .inv .2))
+unfolding levelAt
+loop-again c = (search needs, search needs, each-turn _ _ _ _ (search needs) refl (c .before .loop .inv .2))
 
 returns : tie.Need-returns Inv-loop μ-loop
 returns c = (search needs, search (needs, each-fewer))

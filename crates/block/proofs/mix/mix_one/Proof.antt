@@ -1,14 +1,9 @@
 -- `block::mix::mix_one` meets its contract: each turn turns one word more.
-use Rattle.word.proofs.Base.{_≡_, refl, ℕ, _+_, _-_, _<_, _≤_, needs, List, length, getD, set, bitAnd, bitXor}
+use Rattle.word.proofs.Base.{_≡_, refl, _-_, _≤_, needs, length}
 use Rattle.block.specs.Inner.Each.{Each, turnedAt, at}
 use Rattle.block.proofs.EachLaws.{each-turn, each-none, each-fewer}
 use Rattle.block.proofs.mix.mix_one.Statement.{statement}
 use Rattle.block.proofs.mix.mix_one.Tie as tie
-
-turned-turn : (none turns i : ℕ) (x words : List ℕ) → i < length words → Each i words (turnedAt none turns (at x))
-    → Each (i + 1) (set words i (bitXor none (bitAnd (getD x i 0) turns))) (turnedAt none turns (at x))
-unfolding turnedAt at
-turned-turn none turns i x words inside all = each-turn i _ words _ inside refl all
 
 abbrev Inv-loop : tie.InvT-loop
 Inv-loop none turns n x o₀ i₀ o i = (i ≤ n) × (length o ≡ 80) × Each i o (turnedAt none turns (at x))
@@ -20,7 +15,8 @@ loop-holds : tie.Need-loop-holds Inv-loop μ-loop
 loop-holds c = (search needs, search needs, each-none _ _)
 
 loop-again : tie.Need-loop-again Inv-loop μ-loop
-loop-again c = (search needs, search needs, turned-turn _ _ _ _ _ (search needs) (c .before .before .loop .inv .2))
+unfolding turnedAt at
+loop-again c = (search needs, search needs, each-turn _ _ _ _ (search needs) refl (c .before .before .loop .inv .2))
 
 returns : tie.Need-returns Inv-loop μ-loop
 returns c = (search needs, search (needs, each-fewer))

@@ -1,13 +1,9 @@
 -- `block::shift::copied` meets its contract: each turn copies one word more.
-use Rattle.word.proofs.Base.{_≡_, refl, ℕ, _+_, _-_, _<_, _≤_, needs, List, length, getD, set}
+use Rattle.word.proofs.Base.{_≡_, refl, _-_, _≤_, needs, length}
 use Rattle.block.specs.Inner.Each.{Each, at}
 use Rattle.block.proofs.EachLaws.{each-turn, each-none, each-fewer}
 use Rattle.block.proofs.shift.copied.Statement.{statement}
 use Rattle.block.proofs.shift.copied.Tie as tie
-
-copy-turn : (i : ℕ) (x words : List ℕ) → i < length words → Each i words (at x) → Each (i + 1) (set words i (getD x i 0)) (at x)
-unfolding at
-copy-turn i x words inside all = each-turn i (getD x i 0) words _ inside refl all
 
 abbrev Inv-loop : tie.InvT-loop
 Inv-loop n x y₀ i₀ y i = (i ≤ n) × (length y ≡ 80) × Each i y (at x)
@@ -19,7 +15,8 @@ loop-holds : tie.Need-loop-holds Inv-loop μ-loop
 loop-holds c = (search needs, search needs, each-none _ _)
 
 loop-again : tie.Need-loop-again Inv-loop μ-loop
-loop-again c = (search needs, search needs, copy-turn _ _ _ (search needs) (c .before .before .loop .inv .2))
+unfolding at
+loop-again c = (search needs, search needs, each-turn _ _ _ _ (search needs) refl (c .before .before .loop .inv .2))
 
 returns : tie.Need-returns Inv-loop μ-loop
 returns c = (search needs, search (needs, each-fewer))

@@ -3,6 +3,7 @@ use Rattle.word.proofs.Base.{_≡_, refl, sym, ap, _∙_, ℕ, zero, suc, _+_, 
 use Rattle.word.proofs.Base.{mul-le-mul-right, sub-one, arith, Bool, true, false, _&&_, eqb, eq-eqb, ne-eqb, List, getD}
 use Rattle.word.proofs.Base.{set, getD-set-other}
 use Rattle.word.specs.declared.types.Pointer.{Pointer}
+use Rattle.word.specs.declared.types.Filled.{Filled}
 use Rattle.word.specs.Choice.{if_then_else_, every}
 use Rattle.word.specs.Repeat.{repeated}
 use Rattle.area.specs.declared.types.Pending.{Pending}
@@ -11,14 +12,14 @@ use Rattle.area.specs.declared.types.Setup.{Setup}
 use Rattle.area.specs.declared.types.Flow.{Flow}
 use Rattle.area.specs.Flow.{State, state, nothing}
 use Rattle.area.specs.Fetch.{fetched, fetch}
-use Rattle.area.specs.Finish.{maskedA, result, final, finish}
+use Rattle.area.specs.Finish.{maskedA, result, final as finishedFinal, finish}
 use Rattle.area.specs.Store.{wait, memoryWith, countWith, storePending}
 use Rattle.area.specs.Move.{stepped, moveOn, rowEnd}
 use Rattle.area.proofs.StoreLaws.{memoryWith-of-used, memoryWith-of-unused}
 use Rattle.area.specs.Rows.{finishedWord, storedBefore, oneWord, words, rowStart, oneRow, rows, areaBlit}
-use Rattle.quiet.specs.Words.{wordBefore, maskedAt, shiftedAt, mixedAt, resultAt, carryTo, filledAt}
-use Rattle.quiet.specs.Stream.{atA, atB, atC, atD, wordA, wordB, wordC, finals, finalWord, laidAt}
-use Rattle.quiet.specs.Quiet.{Unmet, Quiet, pointersIn, QuietBlit}
+use Rattle.quiet.specs.Words.{wordBefore, maskedAt, shiftedAt, mixedAt, resultAt, carryTo, filledAt, finalAt}
+use Rattle.quiet.specs.Stream.{atA, atB, atC, atD, wordA, wordB, wordC, finalWord, laidAt}
+use Rattle.quiet.specs.Quiet.{Unmet, Quiet, pointersIn, memoryOf, flowOf, Found, QuietBlit}
 use Rattle.quiet.proofs.StreamLaws.{row-of, word-of, standing-steps, standing-turns, standing-starts, is-first, is-last}
 
 -- a store elsewhere
@@ -40,10 +41,14 @@ unfolding wordBefore fetched
 wordBefore-rests used memory fetches source zero idle = refl
 wordBefore-rests used memory fetches source (suc k) idle = rw idle
 
-module _ (setup : Setup) (width : ℕ) (memory : List ℕ) (flow : Flow) where
+module _ (setup : Setup) (width : ℕ) (memory : List ℕ) (flow : Flow) (a b c : ℕ → ℕ) where
+  -- the final words of three sources
+  abbrev final : (k : ℕ) → Filled
+  final = finalAt setup width (flow .earlier) a b c
+
   -- word k on its way to D, and memory, count and flag with the first k words stored
   abbrev pub waiting : (k : ℕ) → Pending
-  waiting k = record { waits = setup .uses .d; place = atD setup width flow k .word; word = finalWord setup width memory flow k }
+  waiting k = record { waits = setup .uses .d; place = atD setup width flow k .word; word = final k .word }
 
   unfoldable memoryWords : (k : ℕ) → List ℕ
   memoryWords zero = memory
@@ -55,7 +60,7 @@ module _ (setup : Setup) (width : ℕ) (memory : List ℕ) (flow : Flow) where
 
   unfoldable zeroWords : (k : ℕ) → Bool
   zeroWords zero = flow .allzero
-  zeroWords (suc k) = zeroWords k && eqb (finalWord setup width memory flow k) 0
+  zeroWords (suc k) = zeroWords k && eqb (final k .word) 0
 
   -- memory, count and pending word as word k finds them: the one before it waits
   unfoldable memoryTo : (k : ℕ) → List ℕ
@@ -76,14 +81,14 @@ module _ (setup : Setup) (width : ℕ) (memory : List ℕ) (flow : Flow) where
         pointers = pointers;
         sources =
             record {
-              a = wordBefore (flow .sources .a) (wordA setup width memory flow) k;
-              b = wordBefore (flow .sources .b) (wordB setup width memory flow) k;
-              c = wordBefore (flow .sources .c) (wordC setup width memory flow) k;
+              a = wordBefore (flow .sources .a) a k;
+              b = wordBefore (flow .sources .b) b k;
+              c = wordBefore (flow .sources .c) c k;
             };
         earlier =
             record {
-              a = wordBefore (flow .earlier .a) (maskedAt (setup .masks) width (wordA setup width memory flow)) k;
-              b = wordBefore (flow .earlier .b) (wordB setup width memory flow) k;
+              a = wordBefore (flow .earlier .a) (maskedAt (setup .masks) width a) k;
+              b = wordBefore (flow .earlier .b) b k;
             };
         carry = carry;
         allzero = zeroWords k;
@@ -103,10 +108,10 @@ module _ (setup : Setup) (width : ℕ) (memory : List ℕ) (flow : Flow) where
 
   -- a word, its sources given
   module _ (remaining k : ℕ) (pointers : Pointers) (carry : ℕ)
-      (gives-a : fetched (setup .uses .a) (memoryTo k) (pointers .a) (wordBefore (flow .sources .a) (wordA setup width memory flow) k) ≡ wordA setup width memory flow k)
-      (gives-b : fetched (setup .uses .b) (memoryTo k) (pointers .b) (wordBefore (flow .sources .b) (wordB setup width memory flow) k) ≡ wordB setup width memory flow k)
-      (gives-c : fetched (setup .uses .c) (memoryTo k) (pointers .c) (wordBefore (flow .sources .c) (wordC setup width memory flow) k) ≡ wordC setup width memory flow k)
-      (comes : carry ≡ carryTo (setup .fill) (setup .carry) width (resultAt setup width (flow .earlier) (wordA setup width memory flow) (wordB setup width memory flow) (wordC setup width memory flow)) k)
+      (gives-a : fetched (setup .uses .a) (memoryTo k) (pointers .a) (wordBefore (flow .sources .a) a k) ≡ a k)
+      (gives-b : fetched (setup .uses .b) (memoryTo k) (pointers .b) (wordBefore (flow .sources .b) b k) ≡ b k)
+      (gives-c : fetched (setup .uses .c) (memoryTo k) (pointers .c) (wordBefore (flow .sources .c) c k) ≡ c k)
+      (comes : carry ≡ carryTo (setup .fill) (setup .carry) width (resultAt setup width (flow .earlier) a b c) k)
       (first : eqb (remaining + 1) width ≡ eqb (k % width) 0)
       (last : eqb remaining 0 ≡ eqb (k % width + 1) width)
       (stores : pointers .d .word ≡ atD setup width flow k .word) where
@@ -120,9 +125,27 @@ module _ (setup : Setup) (width : ℕ) (memory : List ℕ) (flow : Flow) where
         }
 
     oneWord-turns : oneWord setup width remaining (state (memoryTo k) (flowTo pointers carry k))
-        ≡ state (memoryTo (suc k)) (flowTo moves (finals setup width memory flow k .carry) (suc k))
-    unfolding oneWord storedBefore storePending finishedWord wait moveOn finish final result maskedA fetch flowTo memoryTo countTo pendingTo zeroWords wordBefore filledAt resultAt mixedAt shiftedAt maskedAt finalWord
+        ≡ state (memoryTo (suc k)) (flowTo moves (final k .carry) (suc k))
+    unfolding oneWord storedBefore storePending finishedWord wait moveOn finish finishedFinal result maskedA fetch flowTo memoryTo countTo pendingTo zeroWords wordBefore filledAt resultAt mixedAt shiftedAt maskedAt finalWord
     oneWord-turns = rw (gives-a, gives-b, gives-c, comes, first, last, stores, ← memoryTo-stored k, ← countTo-stored k)
+
+  -- memory as the theorem has it
+  memoryWords-laid : (used : Bool) (k : ℕ) → setup .uses .d ≡ used
+      → memoryWords k ≡ (if used then laidAt (λ k. atD setup width flow k .word) (λ k. final k .word) k memory else memory)
+  unfolding memoryWords laidAt
+  memoryWords-laid true zero uses = refl
+  memoryWords-laid false zero uses = refl
+  memoryWords-laid true (suc k) uses =
+      memoryWith-of-used (setup .uses .d) (atD setup width flow k .word) (final k .word) (memoryWords k) uses
+      ∙ ap (λ (before : List ℕ). set before (atD setup width flow k .word) (final k .word)) (memoryWords-laid true k uses)
+  memoryWords-laid false (suc k) uses =
+      memoryWith-of-unused (setup .uses .d) (atD setup width flow k .word) (final k .word) (memoryWords k) uses
+      ∙ memoryWords-laid false k uses
+
+  memoryTo-laid : (k : ℕ) → memoryOf setup width flow a b c memory (k - 1) ≡ memoryTo k
+  unfolding memoryTo memoryWords
+  memoryTo-laid zero = sym (memoryWords-laid (setup .uses .d) 0 refl)
+  memoryTo-laid (suc k) = ap (memoryOf setup width flow a b c memory) (sub-one (suc k)) ∙ sym (memoryWords-laid (setup .uses .d) k refl)
 
   -- a place that no earlier word was stored at is as it was
   memoryWords-elsewhere : (k place : ℕ) → ((j : ℕ) → j < k → setup .uses .d ≡ true → atD setup width flow j .word ≡ place → ⊥)
@@ -130,7 +153,7 @@ module _ (setup : Setup) (width : ℕ) (memory : List ℕ) (flow : Flow) where
   unfolding memoryWords
   memoryWords-elsewhere zero place apart = refl
   memoryWords-elsewhere (suc k) place apart =
-      memoryWith-elsewhere (setup .uses .d) (atD setup width flow k .word) (finalWord setup width memory flow k) place (memoryWords k) (apart k (omega arith))
+      memoryWith-elsewhere (setup .uses .d) (atD setup width flow k .word) (final k .word) place (memoryWords k) (apart k (omega arith))
       ∙ memoryWords-elsewhere k place (λ j below. apart j (omega arith))
 
   memoryTo-elsewhere : (k place : ℕ) → ((j : ℕ) → j + 1 < k → setup .uses .d ≡ true → atD setup width flow j .word ≡ place → ⊥)
@@ -151,11 +174,11 @@ module _ (setup : Setup) (width : ℕ) (memory : List ℕ) (flow : Flow) where
   unfoldable carryIn : (word k : ℕ) → ℕ
   carryIn zero k = setup .carry
   carryIn (suc word) zero = setup .carry
-  carryIn (suc word) (suc k) = finals setup width memory flow k .carry
+  carryIn (suc word) (suc k) = final k .carry
 
   carryIn-comes : (row word k : ℕ) → word < width → k ≡ row * width + word
       → carryIn word k
-      ≡ carryTo (setup .fill) (setup .carry) width (resultAt setup width (flow .earlier) (wordA setup width memory flow) (wordB setup width memory flow) (wordC setup width memory flow)) k
+      ≡ carryTo (setup .fill) (setup .carry) width (resultAt setup width (flow .earlier) a b c) k
   unfolding carryIn carryTo filledAt
   carryIn-comes row zero zero short is = refl
   carryIn-comes row zero (suc k) short is = rw (eq-eqb (suc k % width) 0 (word-of width row zero (suc k) short is))
@@ -166,18 +189,18 @@ module _ (setup : Setup) (width : ℕ) (memory : List ℕ) (flow : Flow) where
   abbrev stateIn : (row word k : ℕ) → State
   stateIn row word k = state (memoryTo k) (flowTo (pointersIn setup width row word (flow .pointers)) (carryIn word k) k)
 
-  module _ (n : ℕ) (quiet : Quiet setup width n flow) where
+  module _ (n : ℕ) (found : Found setup width flow a b c memory n) where
     oneWord-goes : (row word remaining k : ℕ) → remaining + 1 + word ≡ width → k ≡ row * width + word → k < n
         → oneWord setup width remaining (stateIn row word k) ≡ stateIn row (suc word) (suc k)
-    unfolding Quiet wordA wordB wordC carryIn
+    unfolding carryIn
     oneWord-goes row word remaining k all is below =
         let short : word < width = omega arith in
         let row-is : k / width ≡ row = row-of width row word k short is in
         let word-is : k % width ≡ word = word-of width row word k short is in
         oneWord-turns remaining k (pointersIn setup width row word (flow .pointers)) (carryIn word k)
-        (fetched-unmet (setup .uses .a) k n (flow .sources .a) _ (atA setup width flow) (rw (row-is, word-is)) below (quiet .0))
-        (fetched-unmet (setup .uses .b) k n (flow .sources .b) _ (atB setup width flow) (rw (row-is, word-is)) below (quiet .1))
-        (fetched-unmet (setup .uses .c) k n (flow .sources .c) _ (atC setup width flow) (rw (row-is, word-is)) below (quiet .2))
+        (rw (row-is, word-is, memoryTo-laid k) at (found .of-a k below))
+        (rw (row-is, word-is, memoryTo-laid k) at (found .of-b k below))
+        (rw (row-is, word-is, memoryTo-laid k) at (found .of-c k below))
         (carryIn-comes row word k short is)
         (is-first remaining word width all ∙ rw word-is)
         (is-last remaining word width all ∙ rw word-is)
@@ -201,7 +224,7 @@ module _ (setup : Setup) (width : ℕ) (memory : List ℕ) (flow : Flow) where
 
     -- at a row's end the carry is the last word's
     abbrev lastCarry : (k : ℕ) → ℕ
-    lastCarry k = wordBefore (flow .carry) (λ k. finals setup width memory flow k .carry) k
+    lastCarry k = wordBefore (flow .carry) (λ k. final k .carry) k
 
     carryIn-last : (word k : ℕ) → 1 ≤ word → 1 ≤ k → carryIn word k ≡ lastCarry k
     unfolding carryIn wordBefore
@@ -256,31 +279,19 @@ module _ (setup : Setup) (width : ℕ) (memory : List ℕ) (flow : Flow) where
         standing-starts (setup .direction) (setup .uses .d) width (setup .modulos .d) (flow .pointers .d),
       )
 
-  -- memory, flag and count as the theorem has them
-  memoryWords-laid : (used : Bool) (k : ℕ) → setup .uses .d ≡ used
-      → memoryWords k ≡ (if used then laidAt (λ k. atD setup width flow k .word) (finalWord setup width memory flow) k memory else memory)
-  unfolding memoryWords laidAt
-  memoryWords-laid true zero uses = refl
-  memoryWords-laid false zero uses = refl
-  memoryWords-laid true (suc k) uses =
-      memoryWith-of-used (setup .uses .d) (atD setup width flow k .word) (finalWord setup width memory flow k) (memoryWords k) uses
-      ∙ ap (λ (before : List ℕ). set before (atD setup width flow k .word) (finalWord setup width memory flow k)) (memoryWords-laid true k uses)
-  memoryWords-laid false (suc k) uses =
-      memoryWith-of-unused (setup .uses .d) (atD setup width flow k .word) (finalWord setup width memory flow k) (memoryWords k) uses
-      ∙ memoryWords-laid false k uses
-
+  -- flag and count as the theorem has them
   countWords-sum : (used : Bool) (k : ℕ) → setup .uses .d ≡ used → countWords k ≡ flow .stored + (if used then k else 0)
   unfolding countWords
   countWords-sum true zero uses = omega arith
   countWords-sum false zero uses = omega arith
   countWords-sum true (suc k) uses =
-      countWith-by (setup .uses .d) true (atD setup width flow k .word) (finalWord setup width memory flow k) (countWords k) uses
+      countWith-by (setup .uses .d) true (atD setup width flow k .word) (final k .word) (countWords k) uses
       ∙ omega (arith, countWords-sum true k uses)
   countWords-sum false (suc k) uses =
-      countWith-by (setup .uses .d) false (atD setup width flow k .word) (finalWord setup width memory flow k) (countWords k) uses
+      countWith-by (setup .uses .d) false (atD setup width flow k .word) (final k .word) (countWords k) uses
       ∙ countWords-sum false k uses
 
-  zeroWords-every : (k : ℕ) → zeroWords k ≡ (flow .allzero && every (λ k. eqb (finalWord setup width memory flow k) 0) k)
+  zeroWords-every : (k : ℕ) → zeroWords k ≡ (flow .allzero && every (λ k. eqb (final k .word) 0) k)
   unfolding zeroWords
   zeroWords-every zero = and-true (flow .allzero)
     where
@@ -289,7 +300,7 @@ module _ (setup : Setup) (width : ℕ) (memory : List ℕ) (flow : Flow) where
       and-true false = refl
   zeroWords-every (suc k) =
       rw (zeroWords-every k)
-      (turned (flow .allzero) (every (λ k. eqb (finalWord setup width memory flow k) 0) k) (eqb (finalWord setup width memory flow k) 0))
+      (turned (flow .allzero) (every (λ k. eqb (final k .word) 0) k) (eqb (final k .word) 0))
     where
       turned : (a b c : Bool) → ((a && b) && c) ≡ (a && (c && b))
       turned true true true = refl
@@ -299,34 +310,66 @@ module _ (setup : Setup) (width : ℕ) (memory : List ℕ) (flow : Flow) where
       turned false b c = refl
 
 -- all rows, the last word waiting
-module _ (setup : Setup) (width height : ℕ) (memory : List ℕ) (flow : Flow) (some : 1 ≤ width) (none : flow .pending ≡ nothing)
-    (quiet : Quiet setup width (height * width) flow) where
-  rows-are : rows setup width height (state memory flow) ≡ stateRow setup width memory flow (height * width) quiet height (height * width)
+module _ (setup : Setup) (width height : ℕ) (memory : List ℕ) (flow : Flow) (a b c : ℕ → ℕ) (some : 1 ≤ width) (none : flow .pending ≡ nothing)
+    (found : Found setup width flow a b c memory (height * width)) where
+  rows-are : rows setup width height (state memory flow) ≡ stateRow setup width memory flow a b c (height * width) found height (height * width)
   unfolding memoryTo wordBefore
   rows-are =
-      ap (rows setup width height) (ap (state memory) (flowTo-starts setup width memory flow none))
-      ∙ rows-go setup width memory flow (height * width) quiet height 0 height 0 some (omega arith) (omega arith) (omega arith)
+      ap (rows setup width height) (ap (state memory) (flowTo-starts setup width memory flow a b c none))
+      ∙ rows-go setup width memory flow a b c (height * width) found height 0 height 0 some (omega arith) (omega arith) (omega arith)
+
+  pub found-pointers : rows setup width height (state memory flow) .flow .pointers ≡ pointersIn setup width height 0 (flow .pointers)
+  unfolding flowTo
+  found-pointers = ap (λ (end : State). end .flow .pointers) rows-are
+
+  pub found-pending : 1 ≤ height * width → rows setup width height (state memory flow) .flow .pending ≡ waiting setup width memory flow a b c (height * width - 1)
+  unfolding flowTo pendingTo
+  found-pending more = ap (λ (end : State). end .flow .pending) rows-are ∙ last (height * width) more
+    where
+      last : (n : ℕ) → 1 ≤ n → pendingTo setup width memory flow a b c n ≡ waiting setup width memory flow a b c (n - 1)
+      last zero none = absurd (omega arith)
+      last (suc k) more = ap (waiting setup width memory flow a b c) (sym (sub-one (suc k)))
+
+  -- its words laid in order, and what it hands on
+  pub found-blit : areaBlit setup width height (state memory flow) ≡ state (memoryOf setup width flow a b c memory (height * width)) (flowOf setup width flow a b c height)
+  unfolding areaBlit storePending flowTo
+  found-blit =
+      ap storePending rows-are
+      ∙ rw (
+        memoryTo-stored setup width memory flow a b c (height * width),
+        countTo-stored setup width memory flow a b c (height * width),
+        memoryWords-laid setup width memory flow a b c (setup .uses .d) (height * width) refl,
+        countWords-sum setup width memory flow a b c (setup .uses .d) (height * width) refl,
+        zeroWords-every setup width memory flow a b c (height * width),
+      )
+
+-- a quiet blit's sources find what the blit found
+module _ (setup : Setup) (width height : ℕ) (memory : List ℕ) (flow : Flow) (some : 1 ≤ width) (none : flow .pending ≡ nothing) (quiet : Quiet setup width (height * width) flow) where
+  abbrev a : (k : ℕ) → ℕ
+  a = wordA setup width memory flow
+
+  abbrev b : (k : ℕ) → ℕ
+  b = wordB setup width memory flow
+
+  abbrev c : (k : ℕ) → ℕ
+  c = wordC setup width memory flow
+
+  found : Found setup width flow a b c memory (height * width)
+  unfolding Quiet wordA wordB wordC
+  found =
+      record {
+        of-a = λ k below. rw (memoryTo-laid setup width memory flow a b c k) (fetched-unmet setup width memory flow a b c (setup .uses .a) k (height * width) (flow .sources .a) _ (atA setup width flow) refl below (quiet .0));
+        of-b = λ k below. rw (memoryTo-laid setup width memory flow a b c k) (fetched-unmet setup width memory flow a b c (setup .uses .b) k (height * width) (flow .sources .b) _ (atB setup width flow) refl below (quiet .1));
+        of-c = λ k below. rw (memoryTo-laid setup width memory flow a b c k) (fetched-unmet setup width memory flow a b c (setup .uses .c) k (height * width) (flow .sources .c) _ (atC setup width flow) refl below (quiet .2));
+      }
 
   pub rows-pointers : rows setup width height (state memory flow) .flow .pointers ≡ pointersIn setup width height 0 (flow .pointers)
-  unfolding flowTo
-  rows-pointers = ap (λ (end : State). end .flow .pointers) rows-are
+  rows-pointers = found-pointers setup width height memory flow a b c some none found
 
-  pub rows-pending : 1 ≤ height * width → rows setup width height (state memory flow) .flow .pending ≡ waiting setup width memory flow (height * width - 1)
-  unfolding flowTo pendingTo
-  rows-pending more = ap (λ (end : State). end .flow .pending) rows-are ∙ last (height * width) more
-    where
-      last : (n : ℕ) → 1 ≤ n → pendingTo setup width memory flow n ≡ waiting setup width memory flow (n - 1)
-      last zero none = absurd (omega arith)
-      last (suc k) more = ap (waiting setup width memory flow) (sym (sub-one (suc k)))
+  pub rows-pending : 1 ≤ height * width → rows setup width height (state memory flow) .flow .pending
+      ≡ record { waits = setup .uses .d; place = atD setup width flow (height * width - 1) .word; word = finalWord setup width memory flow (height * width - 1) }
+  rows-pending more = found-pending setup width height memory flow a b c some none found more
 
 pub quiet-blit : QuietBlit
-unfolding areaBlit storePending flowTo
 quiet-blit setup width height memory flow some none quiet =
-    ap storePending (rows-are setup width height memory flow some none quiet)
-    ∙ rw (
-      memoryTo-stored setup width memory flow (height * width),
-      countTo-stored setup width memory flow (height * width),
-      memoryWords-laid setup width memory flow (setup .uses .d) (height * width) refl,
-      countWords-sum setup width memory flow (setup .uses .d) (height * width) refl,
-      zeroWords-every setup width memory flow (height * width),
-    )
+    found-blit setup width height memory flow _ _ _ some none (found setup width height memory flow some none quiet)

@@ -1,6 +1,6 @@
 -- A quiet blit: no used source fetches a word after D has stored one there. Paper 02, W2: a word is stored only after the
 -- next one's sources have been fetched, so that the word before is never met.
-use Prim.Native.Nat.{ℕ, _+_, _*_, _<_, _≤_}
+use Prim.Native.Nat.{ℕ, _+_, _-_, _*_, _<_, _≤_}
 use mathlib.Core.Path.{_≡_}
 use mathlib.Core.Bool.{Bool, true, _&&_}
 use mathlib.Core.List.{List}
@@ -10,9 +10,10 @@ use Rattle.word.specs.Choice.{if_then_else_, every}
 use Rattle.area.specs.declared.types.Pointers.{Pointers}
 use Rattle.area.specs.declared.types.Setup.{Setup}
 use Rattle.area.specs.declared.types.Flow.{Flow}
+use Rattle.area.specs.Fetch.{fetched}
 use Rattle.area.specs.Flow.{state, nothing}
 use Rattle.area.specs.Rows.{areaBlit}
-use Rattle.quiet.specs.Words.{wordBefore, maskedAt}
+use Rattle.quiet.specs.Words.{wordBefore, maskedAt, finalAt}
 use Rattle.quiet.specs.Stream.{standing, atA, atB, atC, atD, wordA, wordB, wordC, finals, finalWord, laidAt}
 
 -- of the first so many words a used source fetches none where D stored an earlier one, but for the word before
@@ -26,12 +27,6 @@ Quiet setup width words flow =
     × Unmet (setup .uses .d) (setup .uses .b) (atD setup width flow) (atB setup width flow) words
     × Unmet (setup .uses .d) (setup .uses .c) (atD setup width flow) (atC setup width flow) words
 
--- memory after so many words: as the blit found it, with D's words laid in order
-abbrev pub memoryAfter : Setup → (width : ℕ) → (memory : List ℕ) → Flow → (words : ℕ) → List ℕ
-memoryAfter setup width memory flow words =
-    if setup .uses .d then laidAt (λ k. atD setup width flow k .word) (finalWord setup width memory flow) words memory else
-    memory
-
 -- the pointers so many rows on, so many words into that row
 abbrev pub pointersIn : Setup → (width row word : ℕ) → Pointers → Pointers
 pointersIn setup width row word pointers =
@@ -42,27 +37,48 @@ pointersIn setup width row word pointers =
       d = standing (setup .direction) (setup .uses .d) width (setup .modulos .d) row word (pointers .d);
     }
 
--- the flow after so many rows, all their words stored
-abbrev pub flowAfter : Setup → (width : ℕ) → (memory : List ℕ) → Flow → (rows : ℕ) → Flow
-flowAfter setup width memory flow rows =
-    record {
-      pointers = pointersIn setup width rows 0 (flow .pointers);
-      sources =
-          record {
-            a = wordBefore (flow .sources .a) (wordA setup width memory flow) (rows * width);
-            b = wordBefore (flow .sources .b) (wordB setup width memory flow) (rows * width);
-            c = wordBefore (flow .sources .c) (wordC setup width memory flow) (rows * width);
-          };
-      earlier =
-          record {
-            a = wordBefore (flow .earlier .a) (maskedAt (setup .masks) width (wordA setup width memory flow)) (rows * width);
-            b = wordBefore (flow .earlier .b) (wordB setup width memory flow) (rows * width);
-          };
-      carry = wordBefore (flow .carry) (λ k. finals setup width memory flow k .carry) (rows * width);
-      allzero = flow .allzero && every (λ k. eqb (finalWord setup width memory flow k) 0) (rows * width);
-      stored = flow .stored + (if setup .uses .d then rows * width else 0);
-      pending = nothing;
-    }
+module _ (setup : Setup) (width : ℕ) (flow : Flow) (a b c : ℕ → ℕ) where
+  -- memory with D's words laid in order, and the flow after so many rows, all their words stored, by the sources' words
+  abbrev pub memoryOf : (memory : List ℕ) → (words : ℕ) → List ℕ
+  memoryOf memory words =
+      if setup .uses .d then laidAt (λ k. atD setup width flow k .word) (λ k. finalAt setup width (flow .earlier) a b c k .word) words memory else
+      memory
+
+  abbrev pub flowOf : (rows : ℕ) → Flow
+  flowOf rows =
+      record {
+        pointers = pointersIn setup width rows 0 (flow .pointers);
+        sources =
+            record {
+              a = wordBefore (flow .sources .a) a (rows * width);
+              b = wordBefore (flow .sources .b) b (rows * width);
+              c = wordBefore (flow .sources .c) c (rows * width);
+            };
+        earlier =
+            record {
+              a = wordBefore (flow .earlier .a) (maskedAt (setup .masks) width a) (rows * width);
+              b = wordBefore (flow .earlier .b) b (rows * width);
+            };
+        carry = wordBefore (flow .carry) (λ k. finalAt setup width (flow .earlier) a b c k .carry) (rows * width);
+        allzero = flow .allzero && every (λ k. eqb (finalAt setup width (flow .earlier) a b c k .word) 0) (rows * width);
+        stored = flow .stored + (if setup .uses .d then rows * width else 0);
+        pending = nothing;
+      }
+
+-- three sources' words are what they find when they come to them: all D's words laid but the one before
+module _ (setup : Setup) (width : ℕ) (flow : Flow) (a b c : ℕ → ℕ) (memory : List ℕ) where
+  pub record Found (n : ℕ) : Type 0 where
+    pub of-a : (k : ℕ) → k < n → fetched (setup .uses .a) (memoryOf setup width flow a b c memory (k - 1)) (atA setup width flow k) (wordBefore (flow .sources .a) a k) ≡ a k
+    pub of-b : (k : ℕ) → k < n → fetched (setup .uses .b) (memoryOf setup width flow a b c memory (k - 1)) (atB setup width flow k) (wordBefore (flow .sources .b) b k) ≡ b k
+    pub of-c : (k : ℕ) → k < n → fetched (setup .uses .c) (memoryOf setup width flow a b c memory (k - 1)) (atC setup width flow k) (wordBefore (flow .sources .c) c k) ≡ c k
+
+-- by the words that the sources find in the memory that the blit began with
+module _ (setup : Setup) (width : ℕ) (memory : List ℕ) (flow : Flow) where
+  abbrev pub memoryAfter : (words : ℕ) → List ℕ
+  memoryAfter = memoryOf setup width flow (wordA setup width memory flow) (wordB setup width memory flow) (wordC setup width memory flow) memory
+
+  abbrev pub flowAfter : (rows : ℕ) → Flow
+  flowAfter = flowOf setup width flow (wordA setup width memory flow) (wordB setup width memory flow) (wordC setup width memory flow)
 
 -- a quiet blit's words come from the memory that it found, and that memory with D's words laid in order is what it leaves
 abbrev pub QuietBlit : Type 0

@@ -53,7 +53,7 @@ module _ (setup : Setup) (width : ℕ) (memory : List ℕ) (flow : Flow) where
   abbrev pub finals : (k : ℕ) → Filled
   finals = finalAt setup width (flow .earlier) wordA wordB wordC
 
-  unfoldable pub finalWord : (k : ℕ) → ℕ
+  abbrev pub finalWord : (k : ℕ) → ℕ
   finalWord k = finals k .word
 
 -- words laid into memory one after the other, each at its place

@@ -7,6 +7,7 @@ ghost use Rattle.area.specs.Flow.{state, nothing};
 ghost use Rattle.area.specs.Rows.{rows, areaBlit};
 use area::types::Flow;
 use area::types::Setup;
+use block::types::Size;
 use word::pointer::INDEX_END;
 
 fn rows(ram: &mut [u16], setup: Setup, width: u32, height: u32, flow: Flow) -> Flow
@@ -59,8 +60,12 @@ pub fn area_blit(ram: &mut [u16], setup: Setup, width: u32, height: u32, flow: F
     if worth_a_block(ram.len(), width * height) {
         let wide = width as usize;
         let tall = height as usize;
+        let size = Size {
+            width: wide,
+            height: tall,
+        };
         let far = apart::strides(setup, width);
-        let most = apart::rows_at_once(ram.len(), setup, wide, tall, flow, far);
+        let most = apart::rows_at_once(ram.len(), setup, size, flow, far);
         if 2 <= most * wide {
             return blocks::all::blocks(ram, setup, far, wide, tall, most, flow);
         }

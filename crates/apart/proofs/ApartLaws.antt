@@ -1,17 +1,10 @@
 -- The test before a blit tells what its blocks must be told.
-use Rattle.word.proofs.Base.{_≡_, sym, _∙_, ℕ, _*_, _/_, _<_, _≤_, mul-le-mul-right, arith, Bool, true}
+use Rattle.word.proofs.Base.{_≡_, sym, _∙_, ℕ, _*_, _/_, _<_, _≤_, mul-le-mul-right, arith, Bool, true, needs}
 use native.Mathlib.Nat.{div-add-mod'}
-use Rattle.word.specs.declared.types.Pointer.{Pointer}
-use Rattle.word.specs.Pointer.{pointerEnd}
-use Rattle.area.specs.declared.types.Setup.{Setup}
-use Rattle.area.specs.declared.types.Flow.{Flow}
 use Rattle.quiet.specs.Stream.{standingAt, atD}
-use Rattle.block.specs.declared.types.Size.{Size}
-use Rattle.apart.specs.declared.types.Span.{Span}
-use Rattle.apart.specs.declared.types.Strides.{Strides}
 use Rattle.apart.specs.Inner.Placed.{Channel, Placed}
 use Rattle.apart.specs.Inner.Apart.{Apart, AllApart}
-use Rattle.apart.specs.Inner.Spans.{course, Spans, Told, Stride, Known}
+use Rattle.apart.specs.Inner.Spans.{Pointer, Setup, Flow, Size, Span, Strides, pointerEnd, course, Spans, Told, Stride, Known}
 use Rattle.apart.proofs.PlacedLaws.{channel-place}
 use Rattle.apart.proofs.SpanLaws.{spans-inside}
 
@@ -49,21 +42,9 @@ module _ {n : ℕ} {setup : Setup} {size : Size} {flow : Flow} {far : Strides} (
   all-apart to-a to-b to-c first second some =
       let a = source-apart some (omega arith) to-a (known .even .a) (known .a) in
       let b = source-apart some second to-b (known .even .b) (known .b) in
-      let c = source-apart some (omega arith) to-c (known .even .c) (known .c) in (
-        record {
-          most = known .sized .most;
-          some = known .sized .some;
-          narrow = known .sized .narrow;
-          shift-a = known .shift-a;
-          shift-b = known .shift-b;
-          none = known .none;
-          a = a .0;
-          b = b .0;
-          c = c .0;
-          d = d-placed;
-        },
-        record { a = a .1; b = b .1; c = c .1 },
-      )
+      let c = source-apart some (omega arith) to-c (known .even .c) (known .c) in
+      let d = d-placed in
+      (search needs, search needs)
 
 pub rows-room : (rows width : ℕ) → rows ≤ 64 / width → rows * width ≤ 64
 rows-room rows width few =

@@ -2,16 +2,8 @@
 use Rattle.word.proofs.Base.{_≡_, ap, ℕ, _+_, _-_, _*_, _/_, _%_, _<_, _≤_, add-mul, mul-le-mul-right, mod-lt, arith}
 use native.Mathlib.Nat.{mul-add, div-add-mod', div-mul-le-self, add-mul-div-right, le-div-iff-mul-le}
 use mathlib.Core.Logic.{_⊎_, ⊎-elim}
-use Rattle.word.specs.declared.types.Direction.{Direction}
-use Rattle.word.specs.declared.types.Direction.the-variants.{Ascending, Descending}
-use Rattle.word.specs.Pointer.{pointerEnd}
-use Rattle.word.specs.Inner.Even.{downward}
-use Rattle.block.specs.declared.types.Size.{Size}
-use Rattle.block.specs.declared.types.Course.{Course}
-use Rattle.block.specs.Inner.Place.{placeIn, placeAt}
-use Rattle.apart.specs.declared.types.Span.{Span}
-use Rattle.apart.specs.Inner.Spans.{Clear, Ahead, Calm}
-use Rattle.apart.proofs.SpanLaws.{row-up, row-down, row-between, row-of, spans-between}
+use Rattle.apart.specs.Inner.Spans.{Direction, Ascending, Descending, Size, Course, Span, pointerEnd, Ahead, Calm}
+use Rattle.apart.proofs.SpanLaws.{spans-between, place-up, place-down}
 
 -- along rows a step apart word k is k words on, and for each row as many more as the step is more than the width
 along : (width step k : ℕ) → width ≤ step → k / width * step + k % width ≡ k + k / width * (step - width)
@@ -27,17 +19,11 @@ apart-along {width} {step} {behind} {front} {rows} some ahead j i early near mee
     let soon : i / width ≤ j / width + rows =
     rw (← add-mul-div-right j rows {z = width} some) (le-div-iff-mul-le {k = width} {x = i / width} {y = j + rows * width} some .1 (omega (arith, div-mul-le-self i width))) in
     let whole : width + (step - width) ≡ step = omega arith in
+    let at-j = along width step j (ahead .apart) in
+    let at-i = along width step i (ahead .apart) in
     ⊎-elim
-    (λ back. omega (arith, along width step j (ahead .apart), along width step i (ahead .apart), mul-le-mul-right (step - width) later))
-    (λ on. omega (
-      arith,
-      along width step j (ahead .apart),
-      along width step i (ahead .apart),
-      mul-le-mul-right (step - width) soon,
-      add-mul (j / width) rows (step - width),
-      mul-add rows width (step - width),
-      ap (λ (all : ℕ). rows * all) whole,
-    ))
+    (λ back. omega (arith, mul-le-mul-right (step - width) later))
+    (λ on. omega (arith, mul-le-mul-right (step - width) soon, add-mul (j / width) rows (step - width), mul-add rows width (step - width), ap (λ (all : ℕ). rows * all) whole))
     (ahead .order)
 
 module _ {size : Size} {d x : Span} {to of : Course} {rows : ℕ} where
@@ -53,33 +39,18 @@ module _ {size : Size} {d x : Span} {to of : Course} {rows : ℕ} where
   -- upward and downward
   pub calm-up : {direction : Direction} → direction ≡ Ascending → to .far ≡ of .far → Ahead (size .width) (of .far) (of .from) (to .from) rows
       → Calm direction size d x to of rows
-  unfolding placeAt placeIn
-  calm-up way same ahead = rw way (λ n at-d at-x. record {
+  calm-up way same ahead n at-d at-x = record {
     never = λ i j below early near meets.
-        let at-j = row-up at-d (j / size .width) (row-of at-d j (omega arith)) (omega arith) in
-        let at-i = row-up at-x (i / size .width) (row-of at-x i below) (omega arith) in
-        apart-along (at-d .sized .some) ahead j i early near (omega (arith, meets, at-j, at-i, ap (λ (far : ℕ). j / size .width * far) same));
-  })
+        let d-lies = place-up at-d j (omega arith) way (omega arith) in
+        let x-lies = place-up at-x i below way (omega arith) in
+        apart-along (at-d .sized .some) ahead j i early near (omega (arith, ap (λ (far : ℕ). j / size .width * far) same));
+  }
 
   pub calm-down : {direction : Direction} → direction ≡ Descending → to .far ≡ of .far → Ahead (size .width) (pointerEnd - of .far) (to .from) (of .from) rows
       → Calm direction size d x to of rows
-  unfolding placeAt placeIn
-  calm-down way same ahead = rw way (λ n at-d at-x. record {
+  calm-down way same ahead n at-d at-x = record {
     never = λ i j below early near meets.
-        let some = at-d .sized .some in
-        let row-j = row-of at-d j (omega arith) in
-        let at-j = row-down at-d (j / size .width) row-j (omega arith) in
-        let at-i = row-down at-x (i / size .width) (row-of at-x i below) (omega arith) in
-        apart-along some ahead j i early near
-        (omega (
-          arith,
-          meets,
-          at-j,
-          at-i,
-          row-between at-d (j / size .width) row-j,
-          row-between at-x (i / size .width) (row-of at-x i below),
-          mod-lt j {m = size .width} some,
-          mod-lt i {m = size .width} some,
-          ap (λ (far : ℕ). j / size .width * (pointerEnd - far)) same,
-        ));
-  })
+        let d-lies = place-down at-d j (omega arith) way (omega arith) in
+        let x-lies = place-down at-x i below way (omega arith) in
+        apart-along (at-d .sized .some) ahead j i early near (omega (arith, ap (λ (far : ℕ). j / size .width * (pointerEnd - far)) same));
+  }

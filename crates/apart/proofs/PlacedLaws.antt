@@ -2,9 +2,7 @@
 use Rattle.word.proofs.Base.{_≡_, refl, sym, ap, _∙_, ℕ, zero, suc, _+_, _-_, _*_, _/_, _%_, _<_, _≤_, mod-lt, add-one}
 use Rattle.word.proofs.Base.{arith, Bool, true, false}
 use native.Mathlib.Nat.{div-lt-iff-lt-mul}
-use Rattle.word.specs.declared.types.Direction.{Direction}
 use Rattle.word.specs.declared.types.Direction.the-variants.{Ascending, Descending}
-use Rattle.word.specs.declared.types.Pointer.{Pointer}
 use Rattle.word.specs.Choice.{if_then_else_}
 use Rattle.word.specs.Repeat.{repeated}
 use Rattle.word.specs.Pointer.{pointerEnd, moved, passed, nextRow}
@@ -15,7 +13,7 @@ use Rattle.quiet.specs.Stream.{standing, standingAt}
 use Rattle.quiet.proofs.StreamLaws.{repeated-last}
 use Rattle.block.specs.Inner.Place.{rowAt, placeIn, placeAt, EvenRows}
 use Rattle.block.proofs.PlaceLaws.{rowAt-first, rowAt-next, rowAt-from, rowAt-lt}
-use Rattle.apart.specs.Inner.Placed.{Channel}
+use Rattle.apart.specs.Inner.Placed.{Direction, Pointer, Channel}
 
 -- a row that lies inside doesn't go round
 placeIn-moves : (n : ℕ) (direction : Direction) (width word : ℕ) (pointer : Pointer) → RowInside n direction width pointer → n ≤ pointerEnd → word < width → width ≤ 64

@@ -7,9 +7,6 @@ use Rattle.apart.proofs.rows_at_once.Tie as tie
 fine-when : (used fine : Bool) → (used && not fine) ≡ false → used ≡ true → fine ≡ true
 fine-when used fine told uses = not-false fine (rw uses at told)
 
-returns : tie.Need-returns
-returns c = (omega arith, λ some. absurd (omega arith))
-
 returns-2 : tie.Need-returns-2
 returns-2 c =
     let a = c .before .before .source-rows .ensures in
@@ -21,5 +18,5 @@ returns-2 c =
 
 pub rows-at-once-spec : {M : Type 1} → statement M
 rows-at-once-spec =
-    tie.close (tie.spec (λ c. search needs) (λ c κs. search needs) returns (λ c. search needs) (λ c κs. search needs)
-    (λ c κs. search needs) (λ c κs. search needs) returns-2)
+    tie.close (tie.spec (λ c. search needs) (λ c κs. search needs) (λ c. (omega arith, λ some. absurd (omega arith)))
+    (λ c. search needs) (λ c κs. search needs) (λ c κs. search needs) (λ c κs. search needs) returns-2)

@@ -3,19 +3,13 @@ use Prim.Native.Nat.{ℕ, _+_, _-_, _*_, _<_, _≤_}
 use mathlib.Core.Path.{_≡_}
 use mathlib.Core.Bool.{true}
 use mathlib.Core.Logic.{_⊎_}
-use Rattle.word.specs.declared.types.Direction.{Direction}
-use Rattle.word.specs.declared.types.Direction.the-variants.{Ascending, Descending}
-use Rattle.word.specs.declared.types.Pointer.{Pointer}
-use Rattle.word.specs.Inner.Even.{downward}
-use Rattle.word.specs.Pointer.{pointerEnd, nextRow}
-use Rattle.area.specs.declared.types.Setup.{Setup}
-use Rattle.area.specs.declared.types.Flow.{Flow}
-use Rattle.area.specs.Flow.{nothing}
-use Rattle.block.specs.declared.types.Size.{Size}
-use Rattle.block.specs.declared.types.Course.{Course}
+pub use Rattle.word.specs.declared.types.Direction.the-variants.{Ascending, Descending}
+pub use Rattle.word.specs.Inner.Even.{downward}
+pub use Rattle.block.specs.declared.types.Size.{Size}
+pub use Rattle.block.specs.declared.types.Course.{Course}
 use Rattle.block.specs.Inner.Place.{placeAt, EvenRows}
-use Rattle.apart.specs.declared.types.Strides.{Strides}
-use Rattle.apart.specs.declared.types.Span.{Span}
+pub use Rattle.apart.specs.declared.types.Span.{Span}
+pub use Rattle.apart.specs.Inner.Placed.{Direction, Pointer, Setup, Flow, Strides, pointerEnd, nextRow, nothing}
 
 -- some words in some rows, as a blit may have, and memory no longer than a pointer reaches
 pub record Sized (n : ℕ) (size : Size) : Type 0 where

@@ -8,21 +8,15 @@ use Rattle.apart.proofs.calm.ahead.Tie as tie
 steps-in : (rows step behind front : ℕ) → 1 ≤ step → behind < front → rows ≤ (front - behind) / step → behind + rows * step ≤ front
 steps-in rows step behind front some less few = omega (arith, le-div-iff-mul-le {k = step} {x = rows} {y = front - behind} some .0 few)
 
-returns : tie.Need-returns
-returns c = (omega arith, λ some. absurd (omega arith))
-
-returns-2 : tie.Need-returns-2
-returns-2 c = (omega arith, λ some. absurd (omega arith))
-
 returns-3 : tie.Need-returns-3
 returns-3 c = (search needs, λ some. record { apart = omega arith; short = omega arith; order = inl (c .if3 .taken) })
 
 returns-4 : tie.Need-returns-4
-returns-4 c = (
-  c .fewer .ensures .0,
-  λ some. record { apart = omega arith; short = omega arith; order = inr (steps-in _ _ _ _ (omega arith) (omega arith) (c .fewer .ensures .1)) },
-)
+returns-4 c =
+    let few = c .fewer .ensures in
+    (few .0, λ some. record { apart = omega arith; short = omega arith; order = inr (steps-in _ _ _ _ (omega arith) (omega arith) (few .1)) })
 
 pub ahead-spec : {M : Type 1} → statement M
 ahead-spec =
-    tie.close (tie.spec returns returns-2 returns-3 (λ c. search needs) (λ c. search needs) (λ c κs. search needs) returns-4)
+    tie.close (tie.spec (λ c. (omega arith, λ some. absurd (omega arith))) (λ c. (omega arith, λ some. absurd (omega arith))) returns-3
+    (λ c. search needs) (λ c. search needs) (λ c κs. search needs) returns-4)

@@ -15,13 +15,10 @@ returns-2 c =
     let x = c .before .before .span .ensures (c .before .if2 .taken) in
     (search needs, λ some uses. record { inside = spans-inside x; clear = λ stores d. never (sym stores ∙ c .if3 .left) })
 
-returns-3 : tie.Need-returns-3
-returns-3 c = (omega arith, λ some. absurd (omega arith))
-
 returns-4 : tie.Need-returns-4
 returns-4 c = (search needs, λ some uses. never (sym uses ∙ c .if1 .left))
 
 pub source-rows-spec : {M : Type 1} → statement M
 source-rows-spec =
-    tie.close (tie.spec (λ c. search needs) (λ c κs. search needs) (λ c κs. search needs) returns returns-2 returns-3
-    returns-4)
+    tie.close (tie.spec (λ c. search needs) (λ c κs. search needs) (λ c κs. search needs) returns returns-2
+    (λ c. (omega arith, λ some. absurd (omega arith))) returns-4)

@@ -1,31 +1,25 @@
 -- `apart::span::span` meets its contract: the first row and the last tell.
-use Rattle.word.proofs.Base.{ℕ, _-_, _*_, _≤_, mul-le-mul, arith, needs}
-use Rattle.word.specs.Pointer.{pointerEnd}
+use Rattle.word.proofs.Base.{ℕ, _+_, _*_, _≤_, mul-le-mul, arith, needs}
+use mir.Syntax.{w64}
+use mir.Val.{Fits}
+use Rattle.apart.specs.Inner.Spans.{pointerEnd}
 use Rattle.apart.proofs.span.span.Statement.{statement}
 use Rattle.apart.proofs.span.span.Tie as tie
 
-distance-le : (last words : ℕ) → last ≤ 1024 → words ≤ pointerEnd → last * words ≤ 268435456
-distance-le last words few short = mul-le-mul few short
+-- the rows' reach is no long way
+reach-le : (last far on : ℕ) → last ≤ 1024 → far ≤ pointerEnd → on ≤ 64 → last * far + on ≤ 268435520
+reach-le last far on few short narrow = let all : last * far ≤ 268435456 = mul-le-mul few short in omega arith
 
-mul-around : tie.Need-mul-around
-mul-around c = omega (arith, distance-le (c .before .before .before .before .before .before .args .size .height - 1) (c .before .before .before .before .before .before .args .course .far) (omega arith) (omega arith))
+rows-fit : (last far : ℕ) → last ≤ 1024 → far ≤ pointerEnd → Fits w64 (last * far)
+rows-fit last far few short = omega (arith, reach-le last far 0 few short (omega arith))
 
-add-around : tie.Need-add-around
-add-around c = omega (arith, distance-le (c .before .before .before .before .before .before .args .size .height - 1) (c .before .before .before .before .before .before .args .course .far) (omega arith) (omega arith))
-
-around-requires : tie.Need-around-requires
-around-requires c κs = (search needs, omega (arith, distance-le (c .before .before .before .before .before .before .args .size .height - 1) (c .before .before .before .before .before .before .args .course .far) (omega arith) (omega arith)))
+reach-fits : (last far on : ℕ) → last ≤ 1024 → far ≤ pointerEnd → on ≤ 64 → Fits w64 (last * far + on)
+reach-fits last far on few short narrow = omega (arith, reach-le last far on few short narrow)
 
 returns : tie.Need-returns
 returns c = λ fine.
     let told = c .around .ensures fine in
     record { sized = c .before .before .before .before .before .before .before .pre .0; inside = told .2; bound = c .before .before .before .before .before .before .before .pre .2; up = λ short. (omega arith, omega arith); down = λ long. absurd (omega arith) }
-
-mul-around-2 : tie.Need-mul-around-2
-mul-around-2 c = omega (arith, distance-le (c .before .before .before .before .before .before .args .size .height - 1) (pointerEnd - c .before .before .before .before .before .before .args .course .far) (omega arith) (omega arith))
-
-add-around-2 : tie.Need-add-around-2
-add-around-2 c = omega (arith, distance-le (c .before .before .before .before .before .before .args .size .height - 1) (pointerEnd - c .before .before .before .before .before .before .args .course .far) (omega arith) (omega arith))
 
 returns-2 : tie.Need-returns-2
 returns-2 c = λ fine.
@@ -34,5 +28,8 @@ returns-2 c = λ fine.
 
 pub span-spec : {M : Type 1} → statement M
 span-spec =
-    tie.close (tie.spec (λ c κs. search needs) (λ c. search needs) (λ c. search needs) (λ c. search needs) mul-around add-around around-requires returns
-    (λ c. search needs) (λ c. search needs) mul-around-2 add-around-2 (λ c κs. search needs) returns-2)
+    tie.close (tie.spec (λ c κs. search needs) (λ c. search needs) (λ c. search needs) (λ c. search needs)
+    (λ c. rows-fit _ _ (omega arith) (omega arith)) (λ c. reach-fits _ _ _ (omega arith) (omega arith) (omega arith))
+    (λ c κs. (search needs, reach-le _ _ _ (omega arith) (omega arith) (omega arith))) returns (λ c. search needs)
+    (λ c. search needs) (λ c. rows-fit _ _ (omega arith) (omega arith))
+    (λ c. reach-fits _ _ _ (omega arith) (omega arith) (omega arith)) (λ c κs. search needs) returns-2)

@@ -1,5 +1,5 @@
 -- Laws of two channels' words: where D's lie apart from a source's, go along behind them, or are so many rows ahead.
-use Rattle.word.proofs.Base.{_≡_, ap, ℕ, _+_, _-_, _*_, _/_, _%_, _<_, _≤_, add-mul, mul-le-mul-right, mod-lt, arith}
+use Rattle.word.proofs.Base.{_≡_, ap, ℕ, _+_, _-_, _*_, _/_, _%_, _<_, _≤_, add-mul, mul-le-mul-right, arith}
 use native.Mathlib.Nat.{mul-add, div-add-mod', div-mul-le-self, add-mul-div-right, le-div-iff-mul-le}
 use mathlib.Core.Logic.{_⊎_, ⊎-elim}
 use Rattle.apart.specs.Inner.Spans.{Direction, Ascending, Descending, Size, Course, Span, pointerEnd, Ahead, Calm}

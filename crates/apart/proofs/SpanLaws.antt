@@ -1,7 +1,7 @@
 -- Laws of a channel's rows: they go up or down without going round, between their lowest word and their highest.
-use Rattle.word.proofs.Base.{_≡_, refl, sym, ap, _∙_, ℕ, _+_, _-_, _*_, _/_, _%_, _<_, _≤_, mul-le-mul-right, mod-lt}
+use Rattle.word.proofs.Base.{_≡_, sym, ap, _∙_, ℕ, _+_, _-_, _*_, _/_, _%_, _<_, _≤_, mul-le-mul-right, mod-lt}
 use Rattle.word.proofs.Base.{mod-eq-of-lt, decLt, arith}
-use native.Mathlib.Nat.{mul-le-mul-left, le-trans, mul-add, mul-assoc, add-mul-mod-self-right, div-lt-iff-lt-mul}
+use native.Mathlib.Nat.{mul-add, mul-assoc, add-mul-mod-self-right, div-lt-iff-lt-mul}
 use Rattle.word.specs.Inner.Even.{RowInside}
 use Rattle.block.specs.Inner.Place.{rowAt, placeIn, placeAt, EvenRows}
 use Rattle.apart.specs.Inner.Spans.{Direction, Ascending, Descending, Size, Course, Span, pointerEnd}

@@ -22,8 +22,8 @@ fn fewer(most: usize, rows: usize) -> usize
     rows
 }
 
-// Two go along, rows a step apart and none over the next: the one in front so many steps ahead of the other may be done
-// so many rows at a time, and it never meets the other where it is behind it after all.
+// One goes along with another, rows a step apart and none over the next: at the other or behind it they never meet, ahead
+// of it by so many steps it may be done so many rows at a time.
 fn ahead(width: usize, step: usize, behind: usize, front: usize, most: usize) -> usize
     requires { ⌜ 1 ≤ width ⌝ }
     ensures { λ rows. ⌜ (rows ≤ most) × (1 ≤ rows → Ahead width step behind front rows) ⌝ }
@@ -40,7 +40,7 @@ fn ahead(width: usize, step: usize, behind: usize, front: usize, most: usize) ->
     fewer(most, (front - behind) / step)
 }
 
-// Where their words lie apart altogether no row is too many; else D goes along with the source, upward or downward.
+// Where their words lie apart altogether no row is too many; else D must go along with the source, upward or downward.
 fn calm(setup: Setup, size: Size, d: Span, x: Span, to: Course, of: Course, most: usize) -> usize
     requires { ⌜ (1 ≤ size .width) × (of .far < pointerEnd) ⌝ }
     ensures { λ rows. ⌜ (rows ≤ most) × (1 ≤ rows → Calm (setup .direction) size d x to of rows) ⌝ }

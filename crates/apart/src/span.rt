@@ -1,7 +1,7 @@
 // Where a channel's rows lie: whether all are inside memory and none goes round, the lowest word and the highest.
 ghost use mathlib.Core.Path.{_≡_};
 ghost use mathlib.Core.Bool.{true};
-ghost use Prim.Native.Nat.{_+_, _<_, _≤_};
+ghost use Prim.Native.Nat.{_+_, _*_, _<_, _≤_};
 ghost use Rattle.word.specs.Pointer.{pointerEnd};
 ghost use Rattle.apart.specs.Inner.Spans.{below, Sized, Spans};
 use crate::types::Span;
@@ -24,7 +24,7 @@ fn below(direction: Direction, width: usize) -> usize
 
 // The words from so many under a place to so many over it.
 fn around(n: usize, from: usize, under: usize, over: usize) -> Span
-    requires { ⌜ (from < pointerEnd) × (over ≤ 268435520) ⌝ }
+    requires { ⌜ (from < pointerEnd) × (over ≤ 1024 * pointerEnd + 64) ⌝ }
     ensures { λ span. ⌜ (span .fine ≡ true → (span .low + under ≡ from) × (span .high ≡ from + over) × (span .high < n)) ⌝ }
 {
     let fine = false;
@@ -42,7 +42,7 @@ fn around(n: usize, from: usize, under: usize, over: usize) -> Span
     Span { fine, low, high }
 }
 
-// Rows go up or down from the first.
+// Rows go up or down from the first: the first and the last tell of all.
 pub fn span(n: usize, direction: Direction, size: Size, course: Course) -> Span
     requires { ⌜ Sized n size × (course .from < pointerEnd) × (course .far < pointerEnd) ⌝ }
     ensures { λ span. ⌜ (span .fine ≡ true → Spans n direction size course span) ⌝ }
@@ -52,10 +52,6 @@ pub fn span(n: usize, direction: Direction, size: Size, course: Course) -> Span
     if course.far < INDEX_DOWNWARD {
         return around(n, course.from, back, (size.height - 1) * course.far + on);
     }
-    around(
-        n,
-        course.from,
-        (size.height - 1) * (INDEX_END - course.far) + back,
-        on,
-    )
+    let fall = INDEX_END - course.far;
+    around(n, course.from, (size.height - 1) * fall + back, on)
 }

@@ -58,8 +58,7 @@ Calm direction size d x to of rows =
 -- what is told of a used source: its rows lie inside memory, and where D stores, so many rows at a time are clear of it
 pub record Told (n : ℕ) (setup : Setup) (size : Size) (d : Span) (to of : Course) (rows : ℕ) : Type 0 where
   pub inside : EvenRows n (setup .direction) (size .width) (of .far) (of .from) (size .height)
-  pub clear : setup .uses .d ≡ true → Spans n (setup .direction) size to d
-      → Clear (setup .direction) size to of rows
+  pub clear : setup .uses .d ≡ true → Spans n (setup .direction) size to d → Clear (setup .direction) size to of rows
 
 -- how far above a row's start the next one's is
 abbrev pub Stride : Direction → (width modulo far : ℕ) → Type 0

@@ -7,8 +7,8 @@ use Rattle.apart.proofs.span.span.Statement.{statement}
 use Rattle.apart.proofs.span.span.Tie as tie
 
 -- the rows' reach is no long way
-reach-le : (last far on : ℕ) → last ≤ 1024 → far ≤ pointerEnd → on ≤ 64 → last * far + on ≤ 268435520
-reach-le last far on few short narrow = let all : last * far ≤ 268435456 = mul-le-mul few short in omega arith
+reach-le : (last far on : ℕ) → last ≤ 1024 → far ≤ pointerEnd → on ≤ 64 → last * far + on ≤ 1024 * pointerEnd + 64
+reach-le last far on few short narrow = let all : last * far ≤ 1024 * pointerEnd = mul-le-mul few short in omega arith
 
 rows-fit : (last far : ℕ) → last ≤ 1024 → far ≤ pointerEnd → Fits w64 (last * far)
 rows-fit last far few short = omega (arith, reach-le last far 0 few short (omega arith))

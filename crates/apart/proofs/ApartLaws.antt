@@ -2,9 +2,9 @@
 use Rattle.word.proofs.Base.{_≡_, sym, _∙_, ℕ, _*_, _/_, _<_, _≤_, mul-le-mul-right, arith, Bool, true, needs}
 use native.Mathlib.Nat.{div-add-mod'}
 use Rattle.quiet.specs.Stream.{standingAt, atD}
-use Rattle.apart.specs.Inner.Placed.{Channel, Placed}
+use Rattle.apart.specs.Inner.Placed.{Pointer, Setup, Flow, Strides, pointerEnd, Channel, Placed}
 use Rattle.apart.specs.Inner.Apart.{Apart, AllApart}
-use Rattle.apart.specs.Inner.Spans.{Pointer, Setup, Flow, Size, Span, Strides, pointerEnd, course, Spans, Told, Stride, Known}
+use Rattle.apart.specs.Inner.Spans.{Size, Span, course, Spans, Told, Stride, Known}
 use Rattle.apart.proofs.PlacedLaws.{channel-place}
 use Rattle.apart.proofs.SpanLaws.{spans-inside}
 

@@ -22,8 +22,8 @@ fn fewer(most: usize, rows: usize) -> usize
     rows
 }
 
-// One goes along with another, rows a step apart and none over the next: at the other or behind it they never meet, ahead
-// of it by so many steps it may be done so many rows at a time.
+// One goes along with another, rows a step apart and none over the next: at the other or behind it it never meets it,
+// ahead of it by so many steps it may be done so many rows at a time.
 fn ahead(width: usize, step: usize, behind: usize, front: usize, most: usize) -> usize
     requires { ⌜ 1 ≤ width ⌝ }
     ensures { λ rows. ⌜ (rows ≤ most) × (1 ≤ rows → Ahead width step behind front rows) ⌝ }

@@ -3,7 +3,6 @@ mod calm;
 mod span;
 pub mod types;
 
-ghost use mathlib.Core.Path.{_≡_};
 ghost use Prim.Native.Nat.{_*_, _≤_};
 ghost use Rattle.apart.specs.Inner.Placed.{Placed};
 ghost use Rattle.apart.specs.Inner.Apart.{AllApart};

@@ -25,7 +25,8 @@ fn below(direction: Direction, width: usize) -> usize
 // The words from so many under a place to so many over it.
 fn around(n: usize, from: usize, under: usize, over: usize) -> Span
     requires { ⌜ (from < pointerEnd) × (over ≤ 1024 * pointerEnd + 64) ⌝ }
-    ensures { λ span. ⌜ (span .fine ≡ true → (span .low + under ≡ from) × (span .high ≡ from + over) × (span .high < n)) ⌝ }
+    ensures { λ span. ⌜ (span .fine ≡ true
+        → (span .low + under ≡ from) × (span .high ≡ from + over) × (span .high < n)) ⌝ }
 {
     let fine = false;
     let low = 0;

@@ -18,5 +18,6 @@ returns-4 c =
 
 pub ahead-spec : {M : Type 1} → statement M
 ahead-spec =
-    tie.close (tie.spec (λ c. (omega arith, λ some. absurd (omega arith))) (λ c. (omega arith, λ some. absurd (omega arith))) returns-3
-    (λ c. search needs) (λ c. search needs) (λ c κs. search needs) returns-4)
+    tie.close (tie.spec (λ c. (omega arith, λ some. absurd (omega arith)))
+    (λ c. (omega arith, λ some. absurd (omega arith))) returns-3 (λ c. search needs) (λ c. search needs)
+    (λ c κs. search needs) returns-4)

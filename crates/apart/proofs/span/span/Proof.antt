@@ -16,20 +16,12 @@ rows-fit last far few short = omega (arith, reach-le last far 0 few short (omega
 reach-fits : (last far on : ℕ) → last ≤ 1024 → far ≤ pointerEnd → on ≤ 64 → Fits w64 (last * far + on)
 reach-fits last far on few short narrow = omega (arith, reach-le last far on few short narrow)
 
-returns : tie.Need-returns
-returns c = λ fine.
-    let told = c .around .ensures fine in
-    record { sized = c .before .before .before .before .before .before .before .pre .0; inside = told .2; bound = c .before .before .before .before .before .before .before .pre .2; up = λ short. (omega arith, omega arith); down = λ long. absurd (omega arith) }
-
-returns-2 : tie.Need-returns-2
-returns-2 c = λ fine.
-    let told = c .around2 .ensures fine in
-    record { sized = c .before .before .before .before .before .before .before .pre .0; inside = told .2; bound = c .before .before .before .before .before .before .before .pre .2; up = λ short. absurd (omega arith); down = λ long. (omega arith, omega arith) }
-
 pub span-spec : {M : Type 1} → statement M
 span-spec =
     tie.close (tie.spec (λ c κs. search needs) (λ c. search needs) (λ c. search needs) (λ c. search needs)
     (λ c. rows-fit _ _ (omega arith) (omega arith)) (λ c. reach-fits _ _ _ (omega arith) (omega arith) (omega arith))
-    (λ c κs. (search needs, reach-le _ _ _ (omega arith) (omega arith) (omega arith))) returns (λ c. search needs)
+    (λ c κs. (search needs, reach-le _ _ _ (omega arith) (omega arith) (omega arith)))
+    (λ c fine. let told = c .around .ensures fine in search needs) (λ c. search needs)
     (λ c. search needs) (λ c. rows-fit _ _ (omega arith) (omega arith))
-    (λ c. reach-fits _ _ _ (omega arith) (omega arith) (omega arith)) (λ c κs. search needs) returns-2)
+    (λ c. reach-fits _ _ _ (omega arith) (omega arith) (omega arith)) (λ c κs. search needs)
+    (λ c fine. let told = c .around2 .ensures fine in search needs))

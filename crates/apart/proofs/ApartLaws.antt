@@ -1,6 +1,6 @@
 -- The test before a blit tells what its blocks must be told.
 use Rattle.word.proofs.Base.{_≡_, sym, _∙_, ℕ, _*_, _/_, _<_, _≤_, mul-le-mul-right, arith, Bool, true, needs}
-use native.Mathlib.Nat.{div-add-mod'}
+use native.Mathlib.Nat.{le-trans, div-mul-le-self}
 use Rattle.quiet.specs.Stream.{standingAt, atD}
 use Rattle.apart.specs.Inner.Placed.{Pointer, Setup, Flow, Strides, pointerEnd, Channel, Placed}
 use Rattle.apart.specs.Inner.Apart.{Apart, AllApart}
@@ -47,6 +47,4 @@ module _ {n : ℕ} {setup : Setup} {size : Size} {flow : Flow} {far : Strides} (
       (search needs, search needs)
 
 pub rows-room : (rows width : ℕ) → rows ≤ 64 / width → rows * width ≤ 64
-rows-room rows width few =
-    let most : rows * width ≤ 64 / width * width = mul-le-mul-right width few in
-    omega (arith, most, div-add-mod' 64 width)
+rows-room rows width few = le-trans (mul-le-mul-right width few) (div-mul-le-self 64 width)

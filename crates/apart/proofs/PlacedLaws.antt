@@ -2,20 +2,19 @@
 use Rattle.word.proofs.Base.{_≡_, refl, sym, ap, _∙_, ℕ, zero, suc, _+_, _-_, _*_, _/_, _%_, _<_, _≤_, mod-lt, add-one}
 use Rattle.word.proofs.Base.{arith, Bool, true, false}
 use native.Mathlib.Nat.{div-lt-iff-lt-mul}
-use Rattle.word.specs.declared.types.Direction.{Direction}
 use Rattle.word.specs.declared.types.Direction.the-variants.{Ascending, Descending}
-use Rattle.word.specs.declared.types.Pointer.{Pointer}
 use Rattle.word.specs.Choice.{if_then_else_}
 use Rattle.word.specs.Repeat.{repeated}
 use Rattle.word.specs.Pointer.{pointerEnd, moved, passed, nextRow}
 use Rattle.word.specs.Inner.Even.{RowInside}
+use Rattle.word.proofs.ChoiceLaws.{if-either}
 use Rattle.word.proofs.PointerLaws.{moves-are-one, nextRow-lt}
 use Rattle.word.proofs.StrideLaws.{origin, nextRow-evenly, rows-lt}
 use Rattle.quiet.specs.Stream.{standing, standingAt}
 use Rattle.quiet.proofs.StreamLaws.{repeated-last}
 use Rattle.block.specs.Inner.Place.{rowAt, placeIn, placeAt, EvenRows}
 use Rattle.block.proofs.PlaceLaws.{rowAt-first, rowAt-next, rowAt-from, rowAt-lt}
-use Rattle.apart.specs.Inner.Placed.{Channel}
+use Rattle.apart.specs.Inner.Placed.{Direction, Pointer, Channel}
 
 -- a row that lies inside doesn't go round
 placeIn-moves : (n : ℕ) (direction : Direction) (width word : ℕ) (pointer : Pointer) → RowInside n direction width pointer → n ≤ pointerEnd → word < width → width ≤ 64
@@ -72,13 +71,6 @@ module _ (n : ℕ) (direction : Direction) (width rows modulo : ℕ) (used : Boo
   channel-on row more fits =
       record {
         stride = channel .stride;
-        small = rw (channel-rows row) (small used);
-        inside = λ uses. rw (channel-rows row, uses) (inside uses);
+        small = rw (channel-rows row) (if-either (λ (at : Pointer). at .word < pointerEnd) used _ _ (rowAt-lt far (pointer .word) row) (channel .small));
+        inside = λ uses k below. rw (channel-rows row, uses, rowAt-from far (pointer .word) row k) (channel .inside uses (row + k) (omega arith));
       }
-    where
-      small : (used : Bool) → (if used then record { word = rowAt far (pointer .word) row } else pointer) .word < pointerEnd
-      small true = rowAt-lt far (pointer .word) row
-      small false = channel .small
-
-      inside : used ≡ true → EvenRows n direction width far (rowAt far (pointer .word) row) more
-      inside uses k below = rw (rowAt-from far (pointer .word) row k) (channel .inside uses (row + k) (omega arith))

@@ -1,98 +1,93 @@
 -- Laws of a channel's rows: they go up or down without going round, between their lowest word and their highest.
-use Rattle.word.proofs.Base.{_≡_, refl, ap, _∙_, ℕ, _+_, _-_, _*_, _%_, _<_, _≤_, mul-le-mul-right, mod-eq-of-lt, arith}
-use native.Mathlib.Nat.{mul-le-mul-left, le-trans, mul-add, add-mul-mod-self-right}
-use Rattle.word.specs.declared.types.Direction.{Direction}
-use Rattle.word.specs.declared.types.Direction.the-variants.{Ascending, Descending}
-use Rattle.word.specs.Pointer.{pointerEnd}
-use Rattle.word.specs.Inner.Even.{downward, RowInside}
-use Rattle.block.specs.Inner.Place.{rowAt, placeIn, EvenRows}
-use Rattle.apart.specs.Inner.Spans.{below, above, Spans}
+use Rattle.word.proofs.Base.{_≡_, sym, ap, _∙_, ℕ, _+_, _-_, _*_, _/_, _%_, _<_, _≤_, mul-le-mul-right, mod-lt}
+use Rattle.word.proofs.Base.{mod-eq-of-lt, decLt, arith}
+use native.Mathlib.Nat.{mul-add, mul-assoc, add-mul-mod-self-right, div-lt-iff-lt-mul}
+use Rattle.word.specs.Inner.Even.{RowInside}
+use Rattle.block.specs.Inner.Place.{rowAt, placeIn, placeAt, EvenRows}
+use Rattle.apart.specs.Inner.Spans.{Direction, Ascending, Descending, Size, Course, Span, pointerEnd}
+use Rattle.apart.specs.Inner.Spans.{downward, below, Spans}
 
-pub distance-le : (height words : ℕ) → height ≤ 1024 → words ≤ pointerEnd → (height - 1) * words ≤ 268435456
-distance-le height words few short =
-    let less : height - 1 ≤ 1024 = omega arith in
-    le-trans (mul-le-mul-right words less) (mul-le-mul-left 1024 short)
+-- rows that rise, or that fall by going round each time, where the last one lies inside
+row-goes : (far from rise fall round last row : ℕ) → far + fall ≡ rise + round * pointerEnd → row ≤ last → last * fall ≤ from → from + last * rise < pointerEnd
+    → (rowAt far from row + row * fall ≡ from + row * rise) × (row * fall ≤ last * fall) × (row * rise ≤ last * rise)
+unfolding rowAt
+row-goes far from rise fall round last row goes here under over =
+    let down : row * fall ≤ last * fall = mul-le-mul-right fall here in
+    let up : row * rise ≤ last * rise = mul-le-mul-right rise here in
+    let whole : row * far + row * fall ≡ row * rise + row * round * pointerEnd =
+    sym (mul-add row far fall) ∙ ap (λ (all : ℕ). row * all) goes ∙ mul-add row rise (round * pointerEnd) ∙ ap (λ (all : ℕ). row * rise + all) (sym (mul-assoc row round pointerEnd)) in
+    let at : (from + row * far) % pointerEnd ≡ from + row * rise - row * fall =
+    ap (λ (sum : ℕ). sum % pointerEnd) (omega arith)
+    ∙ add-mul-mod-self-right (from + row * rise - row * fall) (row * round) pointerEnd
+    ∙ mod-eq-of-lt (omega arith) in
+    (omega arith, down, up)
 
-pub above-when : (direction : Direction) (width : ℕ) → direction ≡ Ascending → width - 1 ≡ above direction width
-above-when direction width way = rw way
+-- a row that starts here lies between two words, and so do its words
+record Between (direction : Direction) (width low high start : ℕ) : Type 0 where
+  under : low + below direction width ≤ start
+  over : start + (width - 1 - below direction width) ≤ high
 
-pub below-when : (direction : Direction) (width : ℕ) → direction ≡ Descending → width - 1 ≡ below direction width
-below-when direction width way = rw way
-
--- a row that starts here lies inside, and between its lowest and its highest word
-row-inside : (n : ℕ) (direction : Direction) (width start : ℕ) → 1 ≤ width → below direction width ≤ start → start + above direction width < n
+row-inside : (n : ℕ) (direction : Direction) (width low high start : ℕ) → 1 ≤ width → high < n → Between direction width low high start
     → RowInside n direction width (record { word = start })
 unfolding RowInside
-row-inside n Ascending width start some under over = omega arith
-row-inside n Descending width start some under over = (omega arith, omega arith)
+row-inside n Ascending width low high start some inside lies = omega arith
+row-inside n Descending width low high start some inside lies = (omega arith, omega arith)
 
-row-lowest : (direction : Direction) (width start word : ℕ) → word < width → start - below direction width ≤ placeIn direction start word
+word-between : (direction : Direction) (width low high start word : ℕ) → word < width → Between direction width low high start
+    → (low ≤ placeIn direction start word) × (placeIn direction start word ≤ high)
 unfolding placeIn
-row-lowest Ascending width start word short = omega arith
-row-lowest Descending width start word short = omega arith
+word-between Ascending width low high start word short lies = (omega arith, omega arith)
+word-between Descending width low high start word short lies = (omega arith, omega arith)
 
-row-highest : (direction : Direction) (width start word : ℕ) → word < width → placeIn direction start word ≤ start + above direction width
-unfolding placeIn
-row-highest Ascending width start word short = omega arith
-row-highest Descending width start word short = omega arith
+module _ {n : ℕ} {direction : Direction} {size : Size} {course : Course} {span : Span} (spans : Spans n direction size course span) where
+  row-up : (row : ℕ) → row < size .height → course .far < downward
+      → (rowAt (course .far) (course .from) row ≡ course .from + row * course .far) × (row * course .far ≤ (size .height - 1) * course .far)
+  row-up row here short =
+      let goes = row-goes (course .far) (course .from) (course .far) 0 0 (size .height - 1) row (omega arith) (omega arith) (omega arith) (omega (arith, spans .up short)) in
+      (omega (arith, goes), goes .2)
 
-module _ (n : ℕ) (direction : Direction) (from far width height back on top : ℕ) (most : n ≤ pointerEnd) (some : 1 ≤ width) (rows : 1 ≤ height)
-    (is-back : back ≡ below direction width) (is-on : on ≡ above direction width) where
-  -- upward
-  row-up : top ≡ (height - 1) * far → from + top < pointerEnd → (row : ℕ) → row < height → (rowAt far from row ≡ from + row * far) × (row * far ≤ top)
-  unfolding rowAt
-  row-up is-top inside row here =
-      let less : row * far ≤ (height - 1) * far = mul-le-mul-right far (omega arith) in
-      (mod-eq-of-lt (omega arith), omega arith)
+  row-down : (row : ℕ) → row < size .height → downward ≤ course .far
+      → (rowAt (course .far) (course .from) row + row * (pointerEnd - course .far) ≡ course .from) × (row * (pointerEnd - course .far) ≤ (size .height - 1) * (pointerEnd - course .far))
+  row-down row here long =
+      let ends = spans .down long in
+      let goes = row-goes (course .far) (course .from) 0 (pointerEnd - course .far) 1 (size .height - 1) row (omega arith) (omega arith) (omega arith) (omega arith) in
+      (omega (arith, goes), goes .1)
 
-  pub span-upward : far < downward → top ≡ (height - 1) * far → back ≤ from → from + top + on < n
-      → Spans n direction width far from height (from - back) (from + top + on)
-  unfolding EvenRows
-  span-upward short is-top under over =
-      record {
-        inside = λ row here.
-            let at = row-up is-top (omega arith) row here in
-            row-inside n direction width (rowAt far from row) some (rw (← is-back) (omega (arith, at))) (rw (← is-on) (omega (arith, at)));
-        lowest = λ row word here few.
-            let at = row-up is-top (omega arith) row here in
-            le-trans (rw is-back (omega (arith, at))) (row-lowest direction width (rowAt far from row) word few);
-        highest = λ row word here few.
-            let at = row-up is-top (omega arith) row here in
-            le-trans (row-highest direction width (rowAt far from row) word few) (rw (← is-on) (omega (arith, at)));
-        up = λ _ row here. row-up is-top (omega arith) row here .0;
-        down = λ long row here. absurd (omega arith);
-      }
-
-  -- downward
-  row-down : far < pointerEnd → from < pointerEnd → top ≡ (height - 1) * (pointerEnd - far) → top ≤ from → (row : ℕ) → row < height
-      → (rowAt far from row + row * (pointerEnd - far) ≡ from) × (row * (pointerEnd - far) ≤ top)
-  unfolding rowAt
-  row-down bound small is-top inside row here =
-      let less : row * (pointerEnd - far) ≤ (height - 1) * (pointerEnd - far) = mul-le-mul-right (pointerEnd - far) (omega arith) in
-      let whole : row * pointerEnd ≡ row * (pointerEnd - far) + row * far = ap (λ (all : ℕ). row * all) (omega arith) ∙ mul-add row (pointerEnd - far) far in
-      let at : (from + row * far) % pointerEnd ≡ from - row * (pointerEnd - far) =
-      ap (λ (sum : ℕ). sum % pointerEnd) (split from (row * far) (row * (pointerEnd - far)) (row * pointerEnd) (omega arith) whole)
-      ∙ add-mul-mod-self-right (from - row * (pointerEnd - far)) row pointerEnd
-      ∙ mod-eq-of-lt (omega arith) in
-      (omega arith, omega arith)
+  row-between : (row : ℕ) → row < size .height → Between direction (size .width) (span .low) (span .high) (rowAt (course .far) (course .from) row)
+  row-between row here = by (decLt (course .far) downward)
     where
-      split : (from up down all : ℕ) → down ≤ from → all ≡ down + up → from + up ≡ from - down + all
-      split from up down all less is = omega arith
+      by : Dec (course .far < downward) → Between direction (size .width) (span .low) (span .high) (rowAt (course .far) (course .from) row)
+      by (yes short) =
+          let at = row-up row here short in
+          let ends = spans .up short in
+          record { under = omega arith; over = omega arith }
+      by (no long) =
+          let at = row-down row here (omega arith) in
+          let ends = spans .down (omega arith) in
+          record { under = omega arith; over = omega arith }
 
-  pub span-downward : downward ≤ far → far < pointerEnd → from < pointerEnd → top ≡ (height - 1) * (pointerEnd - far) → top + back ≤ from → from + on < n
-      → Spans n direction width far from height (from - top - back) (from + on)
+  pub spans-inside : EvenRows n direction (size .width) (course .far) (course .from) (size .height)
   unfolding EvenRows
-  span-downward long bound small is-top under over =
-      record {
-        inside = λ row here.
-            let at = row-down bound small is-top (omega arith) row here in
-            row-inside n direction width (rowAt far from row) some (rw (← is-back) (omega (arith, at))) (rw (← is-on) (omega (arith, at)));
-        lowest = λ row word here few.
-            let at = row-down bound small is-top (omega arith) row here in
-            le-trans (rw is-back (omega (arith, at))) (row-lowest direction width (rowAt far from row) word few);
-        highest = λ row word here few.
-            let at = row-down bound small is-top (omega arith) row here in
-            le-trans (row-highest direction width (rowAt far from row) word few) (rw (← is-on) (omega (arith, at)));
-        up = λ short row here. absurd (omega arith);
-        down = λ _ row here. row-down bound small is-top (omega arith) row here .0;
-      }
+  spans-inside row here = row-inside n direction (size .width) (span .low) (span .high) _ (spans .sized .some) (spans .inside) (row-between row here)
+
+  -- word k lies in one of the rows
+  module _ (k : ℕ) (here : k < size .height * size .width) where
+    row-of : k / size .width < size .height
+    row-of = div-lt-iff-lt-mul {k = size .width} {x = k} {y = size .height} (spans .sized .some) .1 here
+
+    pub spans-between : (span .low ≤ placeAt direction (size .width) (course .far) (course .from) k) × (placeAt direction (size .width) (course .far) (course .from) k ≤ span .high)
+    unfolding placeAt
+    spans-between = word-between direction (size .width) (span .low) (span .high) _ (k % size .width) (mod-lt k {m = size .width} (spans .sized .some)) (row-between (k / size .width) row-of)
+
+    -- and so far on from the first
+    pub place-up : direction ≡ Ascending → course .far < downward
+        → placeAt direction (size .width) (course .far) (course .from) k ≡ course .from + (k / size .width * course .far + k % size .width)
+    unfolding placeAt placeIn
+    place-up way short = rw way (omega (arith, row-up (k / size .width) row-of short))
+
+    pub place-down : direction ≡ Descending → downward ≤ course .far
+        → placeAt direction (size .width) (course .far) (course .from) k + (k / size .width * (pointerEnd - course .far) + k % size .width) ≡ course .from
+    unfolding placeAt placeIn
+    place-down way long =
+        let lies = rw way at (row-between (k / size .width) row-of) in
+        rw way (omega (arith, lies, row-down (k / size .width) row-of long, mod-lt k {m = size .width} (spans .sized .some)))

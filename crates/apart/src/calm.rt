@@ -1,14 +1,17 @@
 // How many rows at a time a source may be fetched before D stores any of them.
 ghost use mathlib.Core.Path.{_≡_};
 ghost use mathlib.Core.Bool.{true};
-ghost use Prim.Native.Nat.{ℕ, _*_, _<_, _≤_};
-ghost use Rattle.word.specs.declared.types.Direction.the-variants.{Ascending, Descending};
+ghost use Prim.Native.Nat.{_<_, _≤_};
 ghost use Rattle.word.specs.Pointer.{pointerEnd};
-ghost use Rattle.apart.specs.Inner.Spans.{Spans, Clear, Told};
+ghost use Rattle.apart.specs.Inner.Spans.{Sized, Ahead, Calm, Told, course};
 use crate::types::Span;
+use area::types::Setup;
+use block::types::Course;
+use block::types::Size;
 use word::pointer::INDEX_DOWNWARD;
 use word::pointer::INDEX_END;
 use word::types::Direction;
+use word::types::Pointer;
 
 fn fewer(most: usize, rows: usize) -> usize
     ensures { λ few. ⌜ (few ≤ most) × (few ≤ rows) ⌝ }
@@ -19,96 +22,28 @@ fn fewer(most: usize, rows: usize) -> usize
     rows
 }
 
-// D goes along with the source upward, rows evenly apart and none over the next: at the source or behind it D never meets
-// it, ahead of it by so many strides it may be done so many rows at a time.
-fn calm_up(
-    width: usize,
-    height: usize,
-    far: usize,
-    startd: usize,
-    startx: usize,
-    most: usize,
-) -> usize
+// One goes along with another, rows a step apart and none over the next: at the other or behind it it never meets it,
+// ahead of it by so many steps it may be done so many rows at a time.
+fn ahead(width: usize, step: usize, behind: usize, front: usize, most: usize) -> usize
     requires { ⌜ 1 ≤ width ⌝ }
-    ensures { λ rows. ⌜ (rows ≤ most)
-        × (1 ≤ rows → (n lowD highD lowX highX : ℕ) → Spans n Ascending width far startd height lowD highD
-        → Spans n Ascending width far startx height lowX highX → Clear Ascending width height far far startd startx (rows * width)) ⌝ }
+    ensures { λ rows. ⌜ (rows ≤ most) × (1 ≤ rows → Ahead width step behind front rows) ⌝ }
 {
-    if INDEX_DOWNWARD <= far {
+    if INDEX_DOWNWARD <= step {
         return 0;
     }
-    if far < width {
+    if step < width {
         return 0;
     }
-    if startd <= startx {
+    if front <= behind {
         return most;
     }
-    fewer(most, (startd - startx) / far)
+    fewer(most, (front - behind) / step)
 }
 
-// Downward the same.
-fn calm_down(
-    width: usize,
-    height: usize,
-    far: usize,
-    startd: usize,
-    startx: usize,
-    most: usize,
-) -> usize
-    requires { ⌜ (1 ≤ width) × (width ≤ 64) × (far < pointerEnd) ⌝ }
-    ensures { λ rows. ⌜ (rows ≤ most)
-        × (1 ≤ rows → (n lowD highD lowX highX : ℕ) → Spans n Descending width far startd height lowD highD
-        → Spans n Descending width far startx height lowX highX → Clear Descending width height far far startd startx (rows * width)) ⌝ }
-{
-    if far < INDEX_DOWNWARD {
-        return 0;
-    }
-    if INDEX_END - far < width {
-        return 0;
-    }
-    if startx <= startd {
-        return most;
-    }
-    fewer(most, (startx - startd) / (INDEX_END - far))
-}
-
-fn calm_evenly(
-    direction: Direction,
-    width: usize,
-    height: usize,
-    far: usize,
-    startd: usize,
-    startx: usize,
-    most: usize,
-) -> usize
-    requires { ⌜ (1 ≤ width) × (width ≤ 64) × (far < pointerEnd) ⌝ }
-    ensures { λ rows. ⌜ (rows ≤ most)
-        × (1 ≤ rows → (n lowD highD lowX highX : ℕ) → Spans n direction width far startd height lowD highD
-        → Spans n direction width far startx height lowX highX → Clear direction width height far far startd startx (rows * width)) ⌝ }
-{
-    match direction {
-        Direction::Ascending => calm_up(width, height, far, startd, startx, most),
-        Direction::Descending => calm_down(width, height, far, startd, startx, most),
-    }
-}
-
-// Where their words lie apart altogether no row is too many.
-fn calm(
-    direction: Direction,
-    width: usize,
-    height: usize,
-    d: Span,
-    x: Span,
-    fard: usize,
-    farx: usize,
-    startd: usize,
-    startx: usize,
-    most: usize,
-) -> usize
-    requires { ⌜ (1 ≤ width) × (width ≤ 64) × (fard < pointerEnd) ⌝ }
-    ensures { λ rows. ⌜ (rows ≤ most)
-        × (1 ≤ rows → (n : ℕ) → Spans n direction width fard startd height (d .low) (d .high)
-        → Spans n direction width farx startx height (x .low) (x .high) → Clear direction width height fard farx startd startx (rows * width)) ⌝ }
+// Where their words lie apart altogether no row is too many; else D must go along with the source, upward or downward.
+fn calm(setup: Setup, size: Size, d: Span, x: Span, to: Course, of: Course, most: usize) -> usize
+    requires { ⌜ (1 ≤ size .width) × (of .far < pointerEnd) ⌝ }
+    ensures { λ rows. ⌜ (rows ≤ most) × (1 ≤ rows → Calm (setup .direction) size d x to of rows) ⌝ }
 {
     if x.high < d.low {
         return most;
@@ -116,48 +51,39 @@ fn calm(
     if d.high < x.low {
         return most;
     }
-    if fard == farx {
-        return calm_evenly(direction, width, height, fard, startd, startx, most);
+    if to.far != of.far {
+        return 0;
     }
-    0
+    let direction = setup.direction;
+    match direction {
+        Direction::Ascending => ahead(size.width, of.far, of.from, to.from, most),
+        Direction::Descending => ahead(size.width, INDEX_END - of.far, to.from, of.from, most),
+    }
 }
 
 // The rows of a source; where it is used they lie inside memory, and where D is too they are apart from D's.
 pub fn source_rows(
     n: usize,
-    direction: Direction,
-    width: usize,
-    height: usize,
-    used: bool,
-    stores: bool,
+    setup: Setup,
+    size: Size,
     d: Span,
-    fard: usize,
-    farx: usize,
-    startd: usize,
-    startx: usize,
+    to: Course,
+    used: bool,
+    pointer: Pointer,
+    far: usize,
     most: usize,
 ) -> usize
-    requires { ⌜ (n ≤ pointerEnd) × (startx < pointerEnd) × (farx < pointerEnd) × (fard < pointerEnd)
-        × (1 ≤ width) × (width ≤ 64) × (1 ≤ height) × (height ≤ 1024) ⌝ }
-    ensures { λ rows. ⌜ (rows ≤ most)
-        × (1 ≤ rows → used ≡ true → Told n direction width height stores (d .low) (d .high) fard farx startd startx rows) ⌝ }
+    requires { ⌜ Sized n size × (pointer .word < pointerEnd) × (far < pointerEnd) ⌝ }
+    ensures { λ rows. ⌜ (rows ≤ most) × (1 ≤ rows → used ≡ true → Told n setup size d to (course pointer far) rows) ⌝ }
 {
     if used {
-        let x = crate::span::span(n, direction, startx, farx, width, height);
+        let from = pointer.word as usize;
+        let of = Course { from, far };
+        let direction = setup.direction;
+        let x = crate::span::span(n, direction, size, of);
         if x.fine {
-            if stores {
-                return calm(
-                    direction,
-                    width,
-                    height,
-                    d,
-                    x,
-                    fard,
-                    farx,
-                    startd,
-                    startx,
-                    most,
-                );
+            if setup.uses.d {
+                return calm(setup, size, d, x, to, of, most);
             }
             return most;
         }

@@ -31,8 +31,12 @@ pub fn area_blit(ram: &mut [u16], setup: Setup, width: u32, height: u32, flow: F
     if worth_a_block(ram.len(), width * height) {
         let wide = width as usize;
         let tall = height as usize;
+        let size = Size {
+            width: wide,
+            height: tall,
+        };
         let far = apart::strides(setup, width);
-        let most = apart::rows_at_once(ram.len(), setup, wide, tall, flow, far);
+        let most = apart::rows_at_once(ram.len(), setup, size, flow, far);
         if 2 <= most * wide {
             let size = Size {
                 width: wide,

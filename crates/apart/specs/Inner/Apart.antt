@@ -2,10 +2,8 @@
 use Prim.Native.Nat.{ℕ, _+_, _<_}
 use mathlib.Core.Path.{_≡_}
 use mathlib.Core.Bool.{Bool, true}
-use Rattle.word.specs.declared.types.Pointer.{Pointer}
-use Rattle.area.specs.declared.types.Setup.{Setup}
-use Rattle.area.specs.declared.types.Flow.{Flow}
 use Rattle.quiet.specs.Stream.{atA, atB, atC, atD}
+use Rattle.apart.specs.Inner.Placed.{Pointer, Setup, Flow}
 
 -- no used source fetches a word where D stored one of the span of words before it
 unfoldable pub Apart : (stores used : Bool) → (place fetches : ℕ → Pointer) → (span words : ℕ) → Type 0

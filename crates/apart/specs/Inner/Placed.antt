@@ -2,14 +2,14 @@
 use Prim.Native.Nat.{ℕ, _<_, _≤_}
 use mathlib.Core.Path.{_≡_}
 use mathlib.Core.Bool.{Bool, true}
-use Rattle.word.specs.declared.types.Direction.{Direction}
-use Rattle.word.specs.declared.types.Pointer.{Pointer}
-use Rattle.word.specs.Pointer.{pointerEnd, nextRow}
-use Rattle.area.specs.declared.types.Setup.{Setup}
-use Rattle.area.specs.declared.types.Flow.{Flow}
-use Rattle.area.specs.Flow.{nothing}
+pub use Rattle.word.specs.declared.types.Direction.{Direction}
+pub use Rattle.word.specs.declared.types.Pointer.{Pointer}
+pub use Rattle.word.specs.Pointer.{pointerEnd, nextRow}
+pub use Rattle.area.specs.declared.types.Setup.{Setup}
+pub use Rattle.area.specs.declared.types.Flow.{Flow}
+pub use Rattle.area.specs.Flow.{nothing}
 use Rattle.block.specs.Inner.Place.{EvenRows}
-use Rattle.apart.specs.declared.types.Strides.{Strides}
+pub use Rattle.apart.specs.declared.types.Strides.{Strides}
 
 -- a channel's rows are evenly apart, so many words; if it is used, they lie inside memory and none goes round
 pub record Channel (n : ℕ) (direction : Direction) (width rows modulo : ℕ) (used : Bool) (pointer : Pointer) (far : ℕ) : Type 0 where

@@ -1,71 +1,85 @@
 -- What the test tells of a channel's rows, and of two channels' words.
 use Prim.Native.Nat.{ℕ, _+_, _-_, _*_, _<_, _≤_}
 use mathlib.Core.Path.{_≡_}
-use mathlib.Core.Bool.{Bool, true}
-use Rattle.word.specs.declared.types.Direction.{Direction}
-use Rattle.word.specs.declared.types.Direction.the-variants.{Ascending, Descending}
-use Rattle.word.specs.declared.types.Pointer.{Pointer}
-use Rattle.word.specs.Inner.Even.{downward}
-use Rattle.word.specs.Pointer.{pointerEnd, nextRow}
-use Rattle.area.specs.declared.types.Setup.{Setup}
-use Rattle.area.specs.declared.types.Flow.{Flow}
-use Rattle.area.specs.Flow.{nothing}
-use Rattle.block.specs.Inner.Place.{rowAt, placeIn, placeAt, EvenRows}
-use Rattle.apart.specs.declared.types.Strides.{Strides}
+use mathlib.Core.Bool.{true}
+use mathlib.Core.Logic.{_⊎_}
+pub use Rattle.word.specs.declared.types.Direction.the-variants.{Ascending, Descending}
+pub use Rattle.word.specs.Inner.Even.{downward}
+pub use Rattle.block.specs.declared.types.Size.{Size}
+pub use Rattle.block.specs.declared.types.Course.{Course}
+use Rattle.block.specs.Inner.Place.{placeAt, EvenRows}
+pub use Rattle.apart.specs.declared.types.Span.{Span}
+pub use Rattle.apart.specs.Inner.Placed.{Direction, Pointer, Setup, Flow, Strides, pointerEnd, nextRow, nothing}
 
--- how far a row reaches below its first word, and above it
+-- some words in some rows, as a blit may have, and memory no longer than a pointer reaches
+pub record Sized (n : ℕ) (size : Size) : Type 0 where
+  pub most : n ≤ pointerEnd
+  pub some : 1 ≤ size .width
+  pub narrow : size .width ≤ 64
+  pub rows : 1 ≤ size .height
+  pub few : size .height ≤ 1024
+
+-- how far a row reaches below its first word; above it lie the others
 abbrev pub below : Direction → (width : ℕ) → ℕ
 below Ascending width = 0
 below Descending width = width - 1
 
-abbrev pub above : Direction → (width : ℕ) → ℕ
-above Ascending width = width - 1
-above Descending width = 0
+-- a channel's course: its rows start at its pointer
+abbrev pub course : Pointer → (far : ℕ) → Course
+course pointer far = record { from = pointer .word; far = far }
 
--- a channel's rows: inside memory, between two words, and going up or down without going round
-pub record Spans (n : ℕ) (direction : Direction) (width far from height low high : ℕ) : Type 0 where
-  pub inside : EvenRows n direction width far from height
-  pub lowest : (row word : ℕ) → row < height → word < width → low ≤ placeIn direction (rowAt far from row) word
-  pub highest : (row word : ℕ) → row < height → word < width → placeIn direction (rowAt far from row) word ≤ high
-  pub up : far < downward → (row : ℕ) → row < height → rowAt far from row ≡ from + row * far
-  pub down : downward ≤ far → (row : ℕ) → row < height → rowAt far from row + row * (pointerEnd - far) ≡ from
+-- a channel's rows, going up or down without going round, between two words inside memory
+pub record Spans (n : ℕ) (direction : Direction) (size : Size) (course : Course) (span : Span) : Type 0 where
+  pub sized : Sized n size
+  pub inside : span .high < n
+  pub bound : course .far < pointerEnd
+  pub up : course .far < downward → (span .low + below direction (size .width) ≡ course .from)
+      × (course .from + (size .height - 1) * course .far + (size .width - 1 - below direction (size .width)) ≡ span .high)
+  pub down : downward ≤ course .far
+      → (span .low + (size .height - 1) * (pointerEnd - course .far) + below direction (size .width) ≡ course .from)
+      × (course .from + (size .width - 1 - below direction (size .width)) ≡ span .high)
 
--- no word is fetched where one of the span of words before it was stored
-unfoldable pub Clear : Direction → (width height farD farX fromD fromX span : ℕ) → Type 0
-Clear direction width height farD farX fromD fromX span =
-    (i j : ℕ) → i < height * width → j < i → i < j + span
-    → placeAt direction width farD fromD j ≡ placeAt direction width farX fromX i → ⊥
+-- no word is fetched where one of so many rows of words before it was stored
+pub record Clear (direction : Direction) (size : Size) (to of : Course) (rows : ℕ) : Type 0 where
+  pub never : (i j : ℕ) → i < size .height * size .width → j < i → i < j + rows * size .width
+      → placeAt direction (size .width) (to .far) (to .from) j ≡ placeAt direction (size .width) (of .far) (of .from) i → ⊥
+
+-- rows a step apart and none over the next: one channel at the other or behind it, or so many steps ahead
+pub record Ahead (width step behind front rows : ℕ) : Type 0 where
+  pub apart : width ≤ step
+  pub short : step < downward
+  pub order : (front ≤ behind) ⊎ (behind + rows * step ≤ front)
+
+-- so many rows at a time of a source are clear of D
+abbrev pub Calm : Direction → Size → (d x : Span) → (to of : Course) → (rows : ℕ) → Type 0
+Calm direction size d x to of rows =
+    (n : ℕ) → Spans n direction size to d → Spans n direction size of x → Clear direction size to of rows
 
 -- what is told of a used source: its rows lie inside memory, and where D stores, so many rows at a time are clear of it
-abbrev pub Told : (n : ℕ) → Direction → (width height : ℕ) → (stores : Bool) → (lowD highD farD farX fromD fromX rows : ℕ) → Type 0
-Told n direction width height stores lowD highD farD farX fromD fromX rows =
-    EvenRows n direction width farX fromX height
-    × (stores ≡ true → Spans n direction width farD fromD height lowD highD
-    → Clear direction width height farD farX fromD fromX (rows * width))
+pub record Told (n : ℕ) (setup : Setup) (size : Size) (d : Span) (to of : Course) (rows : ℕ) : Type 0 where
+  pub inside : EvenRows n (setup .direction) (size .width) (of .far) (of .from) (size .height)
+  pub clear : setup .uses .d ≡ true → Spans n (setup .direction) size to d → Clear (setup .direction) size to of rows
 
--- a channel's stride and pointer
-pub record Moves (direction : Direction) (width modulo : ℕ) (pointer : Pointer) (far : ℕ) : Type 0 where
-  pub stride : far ≡ nextRow direction width modulo (record { word = 0 }) .word
-  pub small : pointer .word < pointerEnd
-
--- what is known of a blit before the test
-pub record Known (n : ℕ) (setup : Setup) (width height : ℕ) (flow : Flow) (far : Strides) : Type 0 where
-  pub most : n ≤ pointerEnd
-  pub some : 1 ≤ width
-  pub narrow : width ≤ 64
-  pub rows : 1 ≤ height
-  pub few : height ≤ 1024
-  pub shift-a : setup .shifts .a < 16
-  pub shift-b : setup .shifts .b < 16
-  pub none : flow .pending ≡ nothing
-  pub a : Moves (setup .direction) width (setup .modulos .a) (flow .pointers .a) (far .a)
-  pub b : Moves (setup .direction) width (setup .modulos .b) (flow .pointers .b) (far .b)
-  pub c : Moves (setup .direction) width (setup .modulos .c) (flow .pointers .c) (far .c)
-  pub d : Moves (setup .direction) width (setup .modulos .d) (flow .pointers .d) (far .d)
+-- how far above a row's start the next one's is
+abbrev pub Stride : Direction → (width modulo far : ℕ) → Type 0
+Stride direction width modulo far =
+    (far ≡ nextRow direction width modulo (record { word = 0 }) .word) × (far < pointerEnd)
 
 -- the strides of a blit's channels
 pub record Evenly (setup : Setup) (width : ℕ) (far : Strides) : Type 0 where
-  pub a : far .a ≡ nextRow (setup .direction) width (setup .modulos .a) (record { word = 0 }) .word
-  pub b : far .b ≡ nextRow (setup .direction) width (setup .modulos .b) (record { word = 0 }) .word
-  pub c : far .c ≡ nextRow (setup .direction) width (setup .modulos .c) (record { word = 0 }) .word
-  pub d : far .d ≡ nextRow (setup .direction) width (setup .modulos .d) (record { word = 0 }) .word
+  pub a : Stride (setup .direction) width (setup .modulos .a) (far .a)
+  pub b : Stride (setup .direction) width (setup .modulos .b) (far .b)
+  pub c : Stride (setup .direction) width (setup .modulos .c) (far .c)
+  pub d : Stride (setup .direction) width (setup .modulos .d) (far .d)
+
+-- what is known of a blit before the test
+pub record Known (n : ℕ) (setup : Setup) (size : Size) (flow : Flow) (far : Strides) : Type 0 where
+  pub sized : Sized n size
+  pub shift-a : setup .shifts .a < 16
+  pub shift-b : setup .shifts .b < 16
+  pub none : flow .pending ≡ nothing
+  pub even : Evenly setup (size .width) far
+  pub a : flow .pointers .a .word < pointerEnd
+  pub b : flow .pointers .b .word < pointerEnd
+  pub c : flow .pointers .c .word < pointerEnd
+  pub d : flow .pointers .d .word < pointerEnd

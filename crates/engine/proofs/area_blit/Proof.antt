@@ -7,20 +7,8 @@ use Rattle.engine.proofs.area_blit.Tie as tie
 
 rows-at-once-requires : tie.Need-rows-at-once-requires
 rows-at-once-requires c κs =
-    let pre = c .before .before .before .before .pre in record {
-      most = c .before .before .worth-a-block .ensures (c .before .if1 .taken);
-      some = pre .2;
-      narrow = pre .3;
-      rows = pre .4;
-      few = pre .5;
-      shift-a = pre .0;
-      shift-b = pre .1;
-      none = pre .10;
-      a = record { stride = c .strides .ensures .a; small = pre .6 };
-      b = record { stride = c .strides .ensures .b; small = pre .7 };
-      c = record { stride = c .strides .ensures .c; small = pre .8 };
-      d = record { stride = c .strides .ensures .d; small = pre .9 };
-    }
+    let most = c .before .before .worth-a-block .ensures (c .before .if1 .taken) in
+    search needs
 
 mul-worth-a-block : tie.Need-mul-worth-a-block
 mul-worth-a-block c = omega (arith, words-le (c .before .args .width) (c .before .args .height) (c .before .pre .3) (c .before .pre .5))

@@ -128,7 +128,7 @@ module _ (n : ℕ) (setup : Setup) (width rows : ℕ) (far : Strides) (flow : Fl
         rw (shiftedAt-same (setup .direction) (setup .shifts .b) (flow .earlier .b) (at xb) (wordB setup width memory flow) (rows * width) fetched-b j below, fetched-c j below))
 
     final-here : (j : ℕ) → j < rows * width → at o j ≡ finalWord setup width memory flow j
-    unfolding at Each finalWordAt finalWord
+    unfolding at Each finalWordAt
     final-here j below = finished .words (wordA setup width memory flow) masked-a .0 j below ∙ ap (λ (made : Filled). made .word) (finals-same j below)
 
     memory-after : after ≡ memoryAfter setup width memory flow (rows * width)

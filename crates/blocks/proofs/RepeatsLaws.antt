@@ -178,7 +178,7 @@ module _ (setup : Setup) (width rows : ℕ) (here next : Flow) (ram after o : Li
       ∙ sym (carry-of-off (setup .fill) (setup .carry) width (rows * width - 1) _ (still .off))
 
   finals-are-still : (k : ℕ) → finalWord setup width ram here k ≡ stillAt setup width (here .earlier) (here .sources) k
-  unfolding finalWord stillAt finalWordAt maskedAt levelAt
+  unfolding stillAt finalWordAt maskedAt levelAt
   finals-are-still k =
       ap (λ (made : Filled). made .word)
       (finals-alike setup width (suc k) (here .earlier) _ _ _ (levelAt (here .sources .a)) (levelAt (here .sources .b)) (levelAt (here .sources .c))

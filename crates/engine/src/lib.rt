@@ -29,19 +29,13 @@ pub fn area_blit(ram: &mut [u16], setup: Setup, width: u32, height: u32, flow: F
         ≡ areaBlit setup width height (state (now (ram .entry)) flow) ⌝ }
 {
     if worth_a_block(ram.len(), width * height) {
-        let wide = width as usize;
-        let tall = height as usize;
         let size = Size {
-            width: wide,
-            height: tall,
+            width: width as usize,
+            height: height as usize,
         };
         let far = apart::strides(setup, width);
         let most = apart::rows_at_once(ram.len(), setup, size, flow, far);
-        if 2 <= most * wide {
-            let size = Size {
-                width: wide,
-                height: tall,
-            };
+        if 2 <= most * size.width {
             return blocks::all::blocks(ram, setup, far, size, most, flow);
         }
         return by_word::area_blit(ram, setup, width, height, flow);

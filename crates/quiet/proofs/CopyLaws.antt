@@ -73,7 +73,7 @@ module _ (setup : Setup) (copying : Copying setup) (width : ℕ) (memory : List 
   before-lt (suc k) = rw (maskedAt-copies k) (all (atA setup width flow k .word))
 
   finalWord-copies : (k : ℕ) → finalWord setup width memory flow k ≡ getD memory (atA setup width flow k .word) 0
-  unfolding finalWord filledAt resultAt mixedAt shiftedAt
+  unfolding filledAt resultAt mixedAt shiftedAt
   finalWord-copies k =
       filled-copies (setup .fill) (setup .direction) _ (setup .function) (setup .shifts .a) _ _ _ _ _
       (copying .fill) (copying .function) (copying .shift) (maskedAt-copies k) (all (atA setup width flow k .word)) (before-lt k)

@@ -126,7 +126,7 @@ module _ (setup : Setup) (width : ℕ) (memory : List ℕ) (flow : Flow) (a b c 
 
     oneWord-turns : oneWord setup width remaining (state (memoryTo k) (flowTo pointers carry k))
         ≡ state (memoryTo (suc k)) (flowTo moves (final k .carry) (suc k))
-    unfolding oneWord storedBefore storePending finishedWord wait moveOn finish finishedFinal result maskedA fetch flowTo memoryTo countTo pendingTo zeroWords wordBefore filledAt resultAt mixedAt shiftedAt maskedAt finalWord
+    unfolding oneWord storedBefore storePending finishedWord wait moveOn finish finishedFinal result maskedA fetch flowTo memoryTo countTo pendingTo zeroWords wordBefore filledAt resultAt mixedAt shiftedAt maskedAt
     oneWord-turns = rw (gives-a, gives-b, gives-c, comes, first, last, stores, ← memoryTo-stored k, ← countTo-stored k)
 
   -- memory as the theorem has it

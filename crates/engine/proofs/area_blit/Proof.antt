@@ -14,13 +14,13 @@ mul-worth-a-block : tie.Need-mul-worth-a-block
 mul-worth-a-block c = omega (arith, words-le (c .before .args .width) (c .before .args .height) (c .before .pre .3) (c .before .pre .5))
 
 mul-if2 : tie.Need-mul-if2
-mul-if2 c = omega (arith, c .rows-at-once .ensures .0)
+mul-if2 c = omega (arith, c .before .rows-at-once .ensures .0)
 
 blocks-requires : tie.Need-blocks-requires
 blocks-requires c κs =
-    let told = c .before .before .rows-at-once .ensures in
+    let told = c .before .before .before .rows-at-once .ensures in
     let some = one-row _ _ (c .before .if2 .taken) in
-    (told .1 some .0, told .1 some .1, some, told .0, c .before .if2 .taken, c .before .before .before .before .before .before .before .pre .5, c .before .before .before .before .before .before .before .pre .11)
+    (told .1 some .0, told .1 some .1, some, told .0, c .before .if2 .taken, c .before .before .before .before .before .before .before .before .pre .5, c .before .before .before .before .before .before .before .before .pre .11)
 
 pub area-blit-spec : {M : Type 1} → statement M
 area-blit-spec =

@@ -1,4 +1,7 @@
 // An area blit word by word, each word stored after the next one's fetches.
+pub mod smear;
+pub mod types;
+
 ghost use mathlib.Core.Path.{_≡_};
 ghost use Prim.Native.Nat.{_+_, _*_, _<_, _≤_};
 ghost use Rattle.area.specs.Flow.{state};

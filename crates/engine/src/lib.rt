@@ -38,6 +38,9 @@ pub fn area_blit(ram: &mut [u16], setup: Setup, width: u32, height: u32, flow: F
         if 2 <= most * size.width {
             return blocks::all::blocks(ram, setup, far, size, most, flow);
         }
+        if by_word::smear::smears(ram.len(), setup, size, flow, far) {
+            return by_word::smear::smear(ram, setup, size, flow, far);
+        }
         return by_word::area_blit(ram, setup, width, height, flow);
     }
     by_word::area_blit(ram, setup, width, height, flow)

@@ -22,8 +22,15 @@ blocks-requires c κs =
     let some = one-row _ _ (c .before .if2 .taken) in
     (told .1 some .0, told .1 some .1, some, told .0, c .before .if2 .taken, c .before .before .before .before .before .before .before .before .pre .5, c .before .before .before .before .before .before .before .before .pre .11)
 
+smears-requires : tie.Need-smears-requires
+smears-requires c κs = let most = c .before .before .before .before .before .worth-a-block .ensures (c .before .before .before .before .if1 .taken) in search needs
+
+smear-requires : tie.Need-smear-requires
+smear-requires c κs = let most = c .before .before .before .before .before .before .before .before .worth-a-block .ensures (c .before .before .before .before .before .before .before .if1 .taken) in (search needs, c .before .before .smears .ensures (c .before .if3 .taken), c .before .before .before .before .before .before .before .before .before .before .pre .11)
+
 pub area-blit-spec : {M : Type 1} → statement M
 area-blit-spec =
     tie.close (tie.spec mul-worth-a-block (λ c κs. search needs) (λ c κs. search needs) rows-at-once-requires mul-if2
-    blocks-requires (λ c. search needs) (λ c. search needs) (λ c κs. search needs) (λ c. search needs)
-    (λ c. search needs) (λ c κs. search needs) (λ c. search needs) (λ c. search needs))
+    blocks-requires (λ c. search needs) (λ c. search needs) smears-requires smear-requires (λ c. search needs)
+    (λ c. search needs) (λ c κs. search needs) (λ c. search needs) (λ c. search needs) (λ c κs. search needs)
+    (λ c. search needs) (λ c. search needs))

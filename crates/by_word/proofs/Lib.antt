@@ -1,0 +1,2 @@
+-- The laws of a smear.
+pub mod SmearLaws

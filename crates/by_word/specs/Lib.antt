@@ -1,0 +1,2 @@
+-- What only contracts speak of stands in Inner.
+pub mod Inner

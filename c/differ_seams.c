@@ -9,7 +9,7 @@
 #include "differ.h"
 
 enum { DESCENDING = 0x02, CARRY = 0x04, INCLUSIVE = 0x08, EXCLUSIVE = 0x10 };
-enum { WIDEST = 64, LEAST_GAP = -2, GREATEST_GAP = 66, MOST_ROWS = 4, COLUMN_ROWS = 70 };
+enum { WIDEST = 64, LEAST_GAP = -2, GREATEST_GAP = 66, MOST_AHEAD = 20, MOST_ROWS = 4, COLUMN_ROWS = 70 };
 
 /* The channels in use, the fill, and the source whose place beside D is gone through; D itself where there is none. */
 struct set {
@@ -273,6 +273,22 @@ static bool blocks(const struct set *set, bool descending)
     return true;
 }
 
+/* A alone in rows without a gap, unmasked, by functions of A: D behind it, at it, or some words ahead in the same row. */
+static bool smears(const struct set *set, bool descending)
+{
+    static const uint8_t functions[] = {0xF0, 0x0F, 0x00, 0xFF, 0xF1};
+    for (uint32_t width = 1; width <= WIDEST; width++)
+        for (int32_t ahead = LEAST_GAP; ahead <= MOST_AHEAD; ahead++)
+            for (size_t i = 0; i < sizeof functions; i++) {
+                make_beside(set, descending, 0, width, NONE, ahead);
+                seam.plan.file[0] = (seam.plan.file[0] & 0xFF00) | functions[i];
+                seam.plan.file[2] = seam.plan.file[3] = 0xFFFF;
+                if (!alike(lay(0)))
+                    return false;
+            }
+    return true;
+}
+
 /* All sources beside D at once: C at D, one before it or one behind it, B and A near. */
 static bool crowds(const struct set *set, bool descending)
 {
@@ -361,7 +377,7 @@ static bool all_of(const struct set *set, bool descending)
 {
     bool many = (set->uses & (USE_B | USE_C)) == (USE_B | USE_C);
     return gaps(set, descending) && columns(set, descending) && blocks(set, descending) && rounds(set, descending)
-        && edges(set, descending) && (!many || crowds(set, descending)) && (!descending || fills(set));
+        && edges(set, descending) && (set->uses != (USE_A | USE_D) || smears(set, descending)) && (!many || crowds(set, descending)) && (!descending || fills(set));
 }
 
 uint64_t seams(void)

@@ -273,7 +273,7 @@ static bool blocks(const struct set *set, bool descending)
     return true;
 }
 
-/* A alone in rows without a gap, unmasked, by functions of A: D behind it, at it, or some words ahead in the same row. */
+/* A alone in rows without a gap, unmasked, by functions of A: D behind it, at it, or some words ahead of it. */
 static bool smears(const struct set *set, bool descending)
 {
     static const uint8_t functions[] = {0xF0, 0x0F, 0x00, 0xFF, 0xF1};
@@ -375,9 +375,10 @@ static bool edges(const struct set *set, bool descending)
 
 static bool all_of(const struct set *set, bool descending)
 {
-    bool many = (set->uses & (USE_B | USE_C)) == (USE_B | USE_C);
+    bool alone = set->uses == (USE_A | USE_D), many = (set->uses & (USE_B | USE_C)) == (USE_B | USE_C);
     return gaps(set, descending) && columns(set, descending) && blocks(set, descending) && rounds(set, descending)
-        && edges(set, descending) && (set->uses != (USE_A | USE_D) || smears(set, descending)) && (!many || crowds(set, descending)) && (!descending || fills(set));
+        && edges(set, descending) && (!alone || smears(set, descending)) && (!many || crowds(set, descending))
+        && (!descending || fills(set));
 }
 
 uint64_t seams(void)

@@ -62,19 +62,19 @@ alone-of setup need ignores others plain up none =
       off = none;
     }
 
-pub smearing-of : (n : ℕ) (setup : Setup) (size : Size) (flow : Flow) (far : Strides) → Alone setup
+pub smearing-of : (n one : ℕ) (setup : Setup) (size : Size) (flow : Flow) (far : Strides) → one ≡ flow .pointers .a .word + 1 → Alone setup
     → (not (eqb (far .a) (size .width)) || not (eqb (far .d) (size .width))) ≡ false
     → ((ltb n (flow .pointers .a .word + size .height * size .width) || ltb n (flow .pointers .d .word + size .height * size .width))
-    || eqb (flow .pointers .d .word) (flow .pointers .a .word + 1)) ≡ false → Smearing n setup size flow far
-smearing-of n setup size flow far alone follow inside =
-    let both = or-left _ (eqb (flow .pointers .d .word) (flow .pointers .a .word + 1)) inside in
+    || eqb (flow .pointers .d .word) one) ≡ false → Smearing n setup size flow far
+smearing-of n one setup size flow far next alone follow inside =
+    let both = or-left _ (eqb (flow .pointers .d .word) one) inside in
     record {
       alone = alone;
       far-a = eqb-true _ _ (not-false _ (or-left _ (not (eqb (far .d) (size .width))) follow));
       far-d = eqb-true _ _ (not-false _ (or-right (not (eqb (far .a) (size .width))) _ follow));
       inside-a = ltb-false _ _ (or-left _ (ltb n (flow .pointers .d .word + size .height * size .width)) both);
       inside-d = ltb-false _ _ (or-right (ltb n (flow .pointers .a .word + size .height * size .width)) _ both);
-      ahead = eqb-false _ _ (or-right (ltb n (flow .pointers .a .word + size .height * size .width) || ltb n (flow .pointers .d .word + size .height * size .width)) _ inside);
+      ahead = λ same. eqb-false _ _ (or-right (ltb n (flow .pointers .a .word + size .height * size .width) || ltb n (flow .pointers .d .word + size .height * size .width)) _ inside) (same ∙ sym next);
     }
 
 -- word after word

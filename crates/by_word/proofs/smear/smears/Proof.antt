@@ -21,7 +21,7 @@ returns-2 : tie.Need-returns-2
 returns-2 c = λ told. never (sym told)
 
 returns-3 : tie.Need-returns-3
-returns-3 c = λ told. smearing-of _ _ _ _ _ (c .alone .ensures told) (c .before .before .if1 .left) (c .before .if2 .left)
+returns-3 c = λ told. smearing-of _ _ _ _ _ _ (omega arith) (c .alone .ensures told) (c .before .before .if1 .left) (c .before .if2 .left)
 
 pub smears-spec : {M : Type 1} → statement M
 smears-spec =

@@ -13,7 +13,6 @@ use crate::types::Smeared;
 use apart::types::Strides;
 use area::types::Earlier;
 use area::types::Flow;
-use area::types::Pending;
 use area::types::Pointers;
 use area::types::Setup;
 use area::types::Sources;
@@ -121,27 +120,20 @@ pub fn smear(ram: &mut [u16], setup: Setup, size: Size, flow: Flow, far: Strides
     let a = words_on(words, at.a);
     let d = words_on(words, at.d);
     let pointers = Pointers { a, b, c, d };
-    let sources = Sources {
-        a: end.last,
-        b: rest.b,
-        c: rest.c,
-    };
-    let earlier = Earlier {
-        a: end.last,
-        b: rest.b,
-    };
-    let pending = Pending {
-        waits: false,
-        place: 0,
-        word: 0,
-    };
+    let a = end.last;
+    let b = rest.b;
+    let c = rest.c;
+    let sources = Sources { a, b, c };
+    let earlier = Earlier { a, b };
+    let pending = flow.pending;
+    let count = words as u32;
     Flow {
         pointers,
         sources,
         earlier,
         carry: setup.carry,
         allzero: flow.allzero & end.zero,
-        stored: flow.stored + words as u32,
+        stored: flow.stored + count,
         pending,
     }
 }

@@ -17,15 +17,15 @@ words-on-requires c κs = omega (arith, mul-le-mul (c .before .before .before .b
 words-on-requires-2 : tie.Need-words-on-requires-2
 words-on-requires-2 c κs = omega (arith, mul-le-mul (c .before .before .before .before .before .before .before .before .before .before .before .before .before .before .pre .0 .sized .few) (c .before .before .before .before .before .before .before .before .before .before .before .before .before .before .pre .0 .sized .narrow))
 
-cast-words : tie.Need-cast-t24
-cast-words c = omega (arith, mul-le-mul (c .before .before .before .before .before .before .before .before .before .before .before .before .before .before .before .before .before .pre .0 .sized .few) (c .before .before .before .before .before .before .before .before .before .before .before .before .before .before .before .before .before .pre .0 .sized .narrow))
+cast-words : tie.Need-cast-count
+cast-words c = omega (arith, mul-le-mul (c .before .before .before .before .before .before .before .before .before .before .before .before .before .before .before .before .pre .0 .sized .few) (c .before .before .before .before .before .before .before .before .before .before .before .before .before .before .before .before .pre .0 .sized .narrow))
 
-add-words : tie.Need-add-t25
-add-words c = omega (arith, mul-le-mul-left (c .before .before .before .before .before .before .before .before .before .before .before .before .before .before .before .before .before .before .args .size .height) (c .before .before .before .before .before .before .before .before .before .before .before .before .before .before .before .before .before .before .pre .0 .sized .narrow), c .before .before .before .before .before .before .before .before .before .before .before .before .before .before .before .before .before .before .pre .2)
+add-words : tie.Need-add-t28
+add-words c = omega (arith, mul-le-mul-left (c .before .before .before .before .before .before .before .before .before .before .before .before .before .before .before .before .before .before .before .args .size .height) (c .before .before .before .before .before .before .before .before .before .before .before .before .before .before .before .before .before .before .before .pre .0 .sized .narrow), c .before .before .before .before .before .before .before .before .before .before .before .before .before .before .before .before .before .before .before .pre .2)
 
 returns : tie.Need-returns
 returns c =
-    smear-is _ _ _ _ _ _ _ _ _ (c .before .before .before .before .before .before .before .before .before .before .before .before .before .before .before .before .before .before .pre .0) (c .before .before .before .before .before .before .before .before .before .before .before .before .before .before .before .before .before .before .pre .1) (rw (c .before .before .before .before .before .before .before .before .before .before .before .before .before .terms .ensures) at (c .before .before .before .before .before .before .before .before .before .smeared .ensures)) _ (rw (c .before .before .before .before .words-on .ensures, c .before .before .before .words-on2 .ensures) refl)
+    smear-is _ _ _ _ _ _ _ _ _ (c .before .before .before .before .before .before .before .before .before .before .before .before .before .before .before .before .before .before .before .pre .0) (c .before .before .before .before .before .before .before .before .before .before .before .before .before .before .before .before .before .before .before .pre .1) (rw (c .before .before .before .before .before .before .before .before .before .before .before .before .before .before .terms .ensures) at (c .before .before .before .before .before .before .before .before .before .before .smeared .ensures)) _ (rw (c .before .before .before .before .before .words-on .ensures, c .before .before .before .before .words-on2 .ensures, c .before .before .before .before .before .before .before .before .before .before .before .before .before .before .before .before .before .before .before .pre .0 .none) refl)
 
 pub smear-spec : {M : Type 1} → statement M
 smear-spec =

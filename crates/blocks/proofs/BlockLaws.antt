@@ -1,5 +1,5 @@
 -- One block is a blit of its rows: its words are those of the quiet blit.
-use Rattle.word.proofs.Base.{_≡_, refl, sym, ap, _∙_, ℕ, zero, suc, _+_, _-_, _*_, _<_, _≤_, mul-le-mul, sub-one, arith, Bool, true}
+use Rattle.word.proofs.Base.{_≡_, refl, sym, ap, _∙_, ℕ, zero, suc, _+_, _-_, _*_, _<_, _≤_, mul-le-mul-right, sub-one, arith, Bool, true}
 use Rattle.word.proofs.Base.{false, eqb, List, getD}
 use Rattle.word.specs.Choice.{if_then_else_, every}
 use Rattle.area.specs.Flow.{state}
@@ -9,57 +9,63 @@ use Rattle.quiet.specs.Words.{wordBefore}
 use Rattle.quiet.specs.Stream.{standing, standingAt, atD, wordA, wordB, wordC, finals, finalWord, laidAt}
 use Rattle.quiet.specs.Quiet.{Unmet, Quiet, flowAfter}
 use Rattle.quiet.proofs.QuietLaws.{quiet-blit}
-use Rattle.block.specs.Inner.Place.{placeAt}
+use Rattle.block.specs.Inner.Place.{placeAt, EvenRows}
 use Rattle.block.proofs.PlaceLaws.{laidAt-same}
-use Rattle.apart.specs.Inner.Apart.{Apart, AllApart}
+use Rattle.apart.specs.Inner.Apart.{Apart}
 use Rattle.apart.proofs.PlacedLaws.{stride-lt, channel-place, channel-rows}
-use Rattle.blocks.specs.Inner.Block.{Pointer, Sources, Earlier, Setup, Flow, Strides, Size, Made, pointerEnd, nothing}
-use Rattle.blocks.specs.Inner.Block.{Channel, Placed, maskedAt, at, Each, levelAt, finalWordAt, nought, Lies, fetchedAt}
+use Rattle.blocks.specs.Inner.Block.{Pointer, Sources, Earlier, Pointers, Setup, Flow, Strides, Size, Made, pointerEnd, nothing}
+use Rattle.blocks.specs.Inner.Block.{Channel, maskedAt, at, Each, levelAt, finalWordAt, nought, Lies, fetchedAt}
 use Rattle.blocks.specs.Inner.Block.{suppliedAt, sourceOf, Rested, Asked, Fits, Stand, MadeOf, rowsOn, pointersOn}
 
-module _ {n : ℕ} {setup : Setup} {width rows : ℕ} {flow : Flow} {far : Strides} (placed : Placed n setup width rows flow far)
-    {modulo : ℕ} {used : Bool} {pointer : Pointer} {gap : ℕ} (channel : Channel n (setup .direction) width rows modulo used pointer gap) where
+module _ {n : ℕ} {setup : Setup} {size : Size} {flow : Flow} {far : Strides} (fits : Fits n setup size flow far)
+    {modulo : ℕ} {used : Bool} {pointer : Pointer} {gap : ℕ} (channel : Channel n (setup .direction) (size .width) (fits .left) modulo used pointer gap) where
   pub far-lt : gap < pointerEnd
-  far-lt = stride-lt n (setup .direction) width rows modulo used pointer gap channel (placed .most) (placed .some) (placed .narrow)
+  far-lt = stride-lt _ _ _ _ _ _ _ _ channel (fits .placed .most) (fits .placed .some) (fits .placed .narrow)
 
-  place-is : used ≡ true → (k : ℕ) → k < rows * width → standingAt (setup .direction) used width modulo pointer k .word ≡ placeAt (setup .direction) width gap (pointer .word) k
-  place-is = channel-place n (setup .direction) width rows modulo used pointer gap channel (placed .most) (placed .some) (placed .narrow)
+  place-is : used ≡ true → (k : ℕ) → k < size .height * size .width
+      → standingAt (setup .direction) used (size .width) modulo pointer k .word ≡ placeAt (setup .direction) (size .width) gap (pointer .word) k
+  place-is uses k below =
+      channel-place _ _ _ _ _ _ _ _ channel (fits .placed .most) (fits .placed .some) (fits .placed .narrow) uses k (omega (arith, mul-le-mul-right (size .width) (fits .enough)))
 
-  rows-are : standing (setup .direction) used width modulo rows 0 pointer ≡ rowsOn used gap rows pointer
-  rows-are = channel-rows n (setup .direction) width rows modulo used pointer gap channel (placed .most) (placed .some) (placed .narrow) rows
+  rows-are : standing (setup .direction) used (size .width) modulo (size .height) 0 pointer ≡ rowsOn used gap (size .height) pointer
+  rows-are = channel-rows _ _ _ _ _ _ _ _ channel (fits .placed .most) (fits .placed .some) (fits .placed .narrow) (size .height)
 
   -- a channel's rows are a block's
-  pub lies-of : rows * width ≤ 64 → used ≡ true → Lies n (setup .direction) gap (pointer .word) (record { width = width; height = rows })
-  lies-of room uses = record { inside = channel .inside uses; room = room; some = placed .some; starts = channel .small; strides = far-lt }
+  pub lies-of : used ≡ true → Lies n (setup .direction) gap (pointer .word) size
+  unfolding EvenRows
+  lies-of uses =
+      record {
+        inside = λ row below. channel .inside uses row (omega (arith, fits .enough));
+        room = fits .room;
+        some = fits .placed .some;
+        starts = channel .small;
+        strides = far-lt;
+      }
 
-  -- what a source gives is what the blit fetches
-  supplied-fetched : (memory : List ℕ) (word k : ℕ) → k < rows * width
-      → suppliedAt (setup .direction) width (sourceOf used pointer gap word) memory k ≡ fetched used memory (standingAt (setup .direction) used width modulo pointer k) word
+  -- what is asked of a source
+  pub asked : {word : ℕ} {over : (k word : ℕ) → ℕ} {words : List ℕ} → Rested used (size .width) over word words → Asked n (setup .direction) (sourceOf used pointer gap word) size over words
+  asked rested = record { lies = lies-of; some = fits .some; room = fits .room; rested = rested }
+
+  -- what it gives is what the blit fetches
+  supplied-fetched : (memory : List ℕ) (word k : ℕ) → k < size .height * size .width
+      → suppliedAt (setup .direction) (size .width) (sourceOf used pointer gap word) memory k ≡ fetched used memory (standingAt (setup .direction) used (size .width) modulo pointer k) word
   unfolding suppliedAt fetched fetchedAt
   supplied-fetched memory word k below = by used refl
     where
-      by : (is : Bool) → used ≡ is → (if is then getD memory (placeAt (setup .direction) width gap (pointer .word) k) 0 else word)
-          ≡ (if is then getD memory (standingAt (setup .direction) used width modulo pointer k .word) 0 else word)
+      by : (is : Bool) → used ≡ is → (if is then getD memory (placeAt (setup .direction) (size .width) gap (pointer .word) k) 0 else word)
+          ≡ (if is then getD memory (standingAt (setup .direction) used (size .width) modulo pointer k .word) 0 else word)
       by true uses = ap (λ (place : ℕ). getD memory place 0) (sym (place-is uses k below))
       by false idle = refl
 
--- what a block asks of a source, and of its rows
-pub asked : {n : ℕ} {setup : Setup} {size : Size} {flow : Flow} {far : Strides} {modulo : ℕ} {used : Bool} {pointer : Pointer} {gap word : ℕ} {over : (k word : ℕ) → ℕ} {words : List ℕ}
-    → Fits n setup size flow far → Channel n (setup .direction) (size .width) (size .height) modulo used pointer gap → Rested used (size .width) over word words
-    → Asked n (setup .direction) (sourceOf used pointer gap word) size over words
-asked fits channel rested = record { lies = lies-of (fits .placed) channel (fits .room); some = fits .some; room = fits .room; rested = rested }
-
-pub few-rows : {n : ℕ} {setup : Setup} {size : Size} {flow : Flow} {far : Strides} → Fits n setup size flow far → size .height ≤ 64
-few-rows {size = size} fits = let least : size .height * 1 ≤ size .height * size .width = mul-le-mul (omega arith) (fits .placed .some) in omega (arith, fits .room)
-
 -- no fetch meets a store of the same block
-pub apart-quiet : (setup : Setup) (width words : ℕ) (flow : Flow) → AllApart setup width words words flow → Quiet setup width words flow
+pub fits-quiet : {n : ℕ} {setup : Setup} {size : Size} {flow : Flow} {far : Strides} → Fits n setup size flow far → Quiet setup (size .width) (size .height * size .width) flow
 unfolding Quiet Apart Unmet
-apart-quiet setup width words flow apart = (
-  λ i j below early. apart .a i j below (omega arith) (omega arith),
-  λ i j below early. apart .b i j below (omega arith) (omega arith),
-  λ i j below early. apart .c i j below (omega arith) (omega arith),
-)
+fits-quiet {size = size} fits =
+    let all : size .height * size .width ≤ fits .left * size .width = mul-le-mul-right (size .width) (fits .enough) in (
+      λ i j below early. fits .apart .a i j (omega arith) (omega arith) (omega (arith, fits .within)),
+      λ i j below early. fits .apart .b i j (omega arith) (omega arith) (omega (arith, fits .within)),
+      λ i j below early. fits .apart .c i j (omega arith) (omega arith) (omega (arith, fits .within)),
+    )
 
 -- the last of some words
 before-last : (first : ℕ) (word : ℕ → ℕ) (n : ℕ) → 1 ≤ n → wordBefore first word n ≡ word (n - 1)
@@ -73,7 +79,7 @@ same-sources first second third = rw (first, second, third)
 pub same-earlier : {a b a′ b′ : ℕ} → a ≡ a′ → b ≡ b′ → _≡_ {A = Earlier} (record { a = a; b = b }) (record { a = a′; b = b′ })
 same-earlier first second = rw (first, second)
 
-module _ {n : ℕ} {setup : Setup} {size : Size} {far : Strides} {flow : Flow} {memory xa xb xc ya o : List ℕ} {end : Made} (placed : Placed n setup (size .width) (size .height) flow far)
+module _ {n : ℕ} {setup : Setup} {size : Size} {far : Strides} {flow : Flow} {memory xa xb xc ya o : List ℕ} {end : Made} (fits : Fits n setup size flow far)
     (finished : MadeOf setup size far flow memory xa xb xc ya o end) where
   abbrev count : ℕ
   count = size .height * size .width
@@ -83,9 +89,9 @@ module _ {n : ℕ} {setup : Setup} {size : Size} {far : Strides} {flow : Flow} {
   unfolding Each maskedAt levelAt wordA wordB wordC
   stands =
       record {
-        of-a = λ j below. finished .supplied .a .words j below ∙ rw (supplied-fetched placed (placed .a) memory (flow .sources .a) j below);
-        of-b = λ j below. finished .supplied .b .words j below ∙ supplied-fetched placed (placed .b) memory (flow .sources .b) j below;
-        of-c = λ j below. finished .supplied .c .words j below ∙ supplied-fetched placed (placed .c) memory (flow .sources .c) j below;
+        of-a = λ j below. finished .supplied .a .words j below ∙ rw (supplied-fetched fits (fits .placed .a) memory (flow .sources .a) j below);
+        of-b = λ j below. finished .supplied .b .words j below ∙ supplied-fetched fits (fits .placed .b) memory (flow .sources .b) j below;
+        of-c = λ j below. finished .supplied .c .words j below ∙ supplied-fetched fits (fits .placed .c) memory (flow .sources .c) j below;
       }
 
   -- so the final words are the blit's
@@ -101,47 +107,41 @@ module _ {n : ℕ} {setup : Setup} {size : Size} {far : Strides} {flow : Flow} {
   memory-after : (used : Bool) → setup .uses .d ≡ used
       → (if used then laidAt (placeAt (setup .direction) (size .width) (far .d) (flow .pointers .d .word)) (at o) count memory else memory)
       ≡ (if used then laidAt (λ k. atD setup (size .width) flow k .word) (finalWord setup (size .width) memory flow) count memory else memory)
-  memory-after true uses = laidAt-same _ _ _ _ count memory (λ i below. sym (place-is placed (placed .d) uses i below)) final-here
+  memory-after true uses = laidAt-same _ _ _ _ count memory (λ i below. sym (place-is fits (fits .placed .d) uses i below)) final-here
   memory-after false idle = refl
 
-  module _ (some : 1 ≤ count) where
-    -- what is handed on
-    sources-after : end .sources ≡ flowAfter setup (size .width) memory flow (size .height) .sources
-    unfolding wordA wordB wordC
-    sources-after =
-        same-sources (finished .supplied .a .last ∙ supplied-fetched placed (placed .a) memory (flow .sources .a) (count - 1) (omega arith) ∙ sym (before-last _ _ count some))
-        (finished .supplied .b .last ∙ supplied-fetched placed (placed .b) memory (flow .sources .b) (count - 1) (omega arith) ∙ sym (before-last _ _ count some))
-        (finished .supplied .c .last ∙ supplied-fetched placed (placed .c) memory (flow .sources .c) (count - 1) (omega arith) ∙ sym (before-last _ _ count some))
+  -- what is handed on
+  sources-after : end .sources ≡ flowAfter setup (size .width) memory flow (size .height) .sources
+  unfolding wordA wordB wordC
+  sources-after =
+      same-sources (finished .supplied .a .last ∙ supplied-fetched fits (fits .placed .a) memory (flow .sources .a) (count - 1) (omega (arith, fits .some)) ∙ sym (before-last _ _ count (fits .some)))
+      (finished .supplied .b .last ∙ supplied-fetched fits (fits .placed .b) memory (flow .sources .b) (count - 1) (omega (arith, fits .some)) ∙ sym (before-last _ _ count (fits .some)))
+      (finished .supplied .c .last ∙ supplied-fetched fits (fits .placed .c) memory (flow .sources .c) (count - 1) (omega (arith, fits .some)) ∙ sym (before-last _ _ count (fits .some)))
 
-    earlier-after : end .earlier ≡ flowAfter setup (size .width) memory flow (size .height) .earlier
-    unfolding Each
-    earlier-after =
-        finished .earlier
-        ∙ same-earlier (stands .of-a (count - 1) (omega arith) ∙ sym (before-last _ _ count some)) (stands .of-b (count - 1) (omega arith) ∙ sym (before-last _ _ count some))
+  earlier-after : end .earlier ≡ flowAfter setup (size .width) memory flow (size .height) .earlier
+  unfolding Each
+  earlier-after =
+      finished .earlier
+      ∙ same-earlier (stands .of-a (count - 1) (omega (arith, fits .some)) ∙ sym (before-last _ _ count (fits .some))) (stands .of-b (count - 1) (omega (arith, fits .some)) ∙ sym (before-last _ _ count (fits .some)))
 
-    pub block-is : (after : List ℕ) (next : Flow) → AllApart setup (size .width) count count flow
-        → after ≡ (if setup .uses .d then laidAt (placeAt (setup .direction) (size .width) (far .d) (flow .pointers .d .word)) (at o) count memory else memory)
-        → next ≡ record {
-          pointers = pointersOn setup far (size .height) (flow .pointers);
-          sources = end .sources;
-          earlier = end .earlier;
-          carry = end .carry;
-          allzero = end .allzero;
-          stored = flow .stored + (if setup .uses .d then count else 0);
-          pending = nothing;
-        } → state after next ≡ areaBlit setup (size .width) (size .height) (state memory flow)
-    block-is after next apart stores is-next =
-        rw (
-          stores ∙ memory-after (setup .uses .d) refl,
-          is-next,
-          sources-after,
-          earlier-after,
-          finished .zero,
-          nought-after count (omega arith),
-          finished .carry _ _ _ stands ∙ sym (before-last (flow .carry) (λ k. finals setup (size .width) memory flow k .carry) count some),
-          ← rows-are placed (placed .a),
-          ← rows-are placed (placed .b),
-          ← rows-are placed (placed .c),
-          ← rows-are placed (placed .d),
-        )
-        (sym (quiet-blit setup (size .width) (size .height) memory flow (placed .some) (placed .none) (apart-quiet setup (size .width) count flow apart)))
+  pub block-is : {after : List ℕ} {pointers : Pointers} {stored : ℕ}
+      → after ≡ (if setup .uses .d then laidAt (placeAt (setup .direction) (size .width) (far .d) (flow .pointers .d .word)) (at o) count memory else memory)
+      → pointers ≡ pointersOn setup far (size .height) (flow .pointers) → stored ≡ flow .stored + (if setup .uses .d then count else 0)
+      → state after (record { pointers = pointers; sources = end .sources; earlier = end .earlier; carry = end .carry; allzero = end .allzero; stored = stored; pending = nothing })
+      ≡ areaBlit setup (size .width) (size .height) (state memory flow)
+  block-is stores moves counts =
+      rw (
+        stores ∙ memory-after (setup .uses .d) refl,
+        moves,
+        counts,
+        sources-after,
+        earlier-after,
+        finished .zero,
+        nought-after count (omega arith),
+        finished .carry _ _ _ stands ∙ sym (before-last (flow .carry) (λ k. finals setup (size .width) memory flow k .carry) count (fits .some)),
+        ← rows-are fits (fits .placed .a),
+        ← rows-are fits (fits .placed .b),
+        ← rows-are fits (fits .placed .c),
+        ← rows-are fits (fits .placed .d),
+      )
+      (sym (quiet-blit setup (size .width) (size .height) memory flow (fits .placed .some) (fits .placed .none) (fits-quiet fits)))

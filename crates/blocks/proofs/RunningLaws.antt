@@ -10,15 +10,14 @@ use Rattle.area.specs.Rows.{areaBlit}
 use Rattle.area.proofs.RowsLaws.{areaBlit-keeps-length}
 use Rattle.area.proofs.EarlyLaws.{storePending-of-nothing}
 use Rattle.quiet.specs.Stream.{standing, standingAt}
-use Rattle.quiet.specs.Quiet.{Quiet, flowAfter}
+use Rattle.quiet.specs.Quiet.{flowAfter}
 use Rattle.quiet.proofs.StreamLaws.{row-of, word-of}
 use Rattle.quiet.proofs.QuietLaws.{quiet-blit}
 use Rattle.quiet.proofs.CutLaws.{repeated-sum, Seam, quiet-cut}
-use Rattle.block.specs.Inner.Place.{EvenRows}
 use Rattle.apart.specs.Inner.Apart.{Apart, AllApart}
 use Rattle.apart.proofs.PlacedLaws.{channel-on}
 use Rattle.blocks.specs.Inner.Block.{Direction, Pointer, Setup, Flow, Strides, Channel, Placed, Fits}
-use Rattle.blocks.proofs.BlockLaws.{apart-quiet}
+use Rattle.blocks.proofs.BlockLaws.{fits-quiet}
 
 -- word k from so many rows on
 standingAt-on : (direction : Direction) (used : Bool) (width modulo first k : ℕ) (pointer : Pointer) → 1 ≤ width
@@ -48,34 +47,21 @@ module _ {n : ℕ} {setup : Setup} {width : ℕ} {far : Strides} {most left : �
     {rows : ℕ} (some : 1 ≤ rows) (fits : rows ≤ left) (few : rows ≤ most) where
   -- the next block
   pub block-fits : most * width ≤ 64 → Fits (length ram) setup (record { width = width; height = rows }) here far
-  unfolding EvenRows
   block-fits room =
-      let placed = running .placed in
-      let words : rows * width ≤ most * width = mul-le-mul-right width few in
-      let a = fewer (placed .a) in
-      let b = fewer (placed .b) in
-      let c = fewer (placed .c) in
-      let d = fewer (placed .d) in
+      let all : rows * width ≤ most * width = mul-le-mul-right width few in
+      let least : rows * 1 ≤ most * width = mul-le-mul few (running .placed .some) in
       rw (running .long)
-      (record { placed = search needs; some = omega (arith, mul-le-mul some (placed .some)); room = omega arith })
-    where
-      fewer : {modulo : ℕ} {used : Bool} {pointer : Pointer} {gap : ℕ} → Channel n (setup .direction) width left modulo used pointer gap
-          → Channel n (setup .direction) width rows modulo used pointer gap
-      fewer channel = record { stride = channel .stride; small = channel .small; inside = λ uses row below. channel .inside uses row (omega arith) }
-
-  pub block-apart : AllApart setup width (rows * width) (rows * width) here
-  unfolding Apart
-  block-apart =
-      let words : rows * width ≤ most * width = mul-le-mul-right width few in
-      let all : rows * width ≤ left * width = mul-le-mul-right width fits in
-      record {
-        a = λ i j below early near. running .apart .a i j (omega arith) early (omega arith);
-        b = λ i j below early near. running .apart .b i j (omega arith) early (omega arith);
-        c = λ i j below early near. running .apart .c i j (omega arith) early (omega arith);
-      }
-
-  quiet : Quiet setup width (rows * width) here
-  quiet = apart-quiet setup width (rows * width) here block-apart
+      (record {
+        some = omega (arith, mul-le-mul some (running .placed .some));
+        room = omega arith;
+        few = omega arith;
+        left = left;
+        enough = fits;
+        placed = running .placed;
+        span = most * width;
+        within = all;
+        apart = running .apart;
+      })
 
   -- and those after it
   placed-on : Placed n setup width (left - rows) (flowAfter setup width ram here rows) far
@@ -121,6 +107,7 @@ module _ {n : ℕ} {setup : Setup} {width : ℕ} {far : Strides} {most left : �
       → rest ≡ left - rows → Running n setup width far most rest (state after next) end
   running-on small two does less =
       let wide : 1 ≤ width = running .placed .some in
+      let quiet = fits-quiet (block-fits small) in
       let is = quiet-blit setup width rows ram here wide (running .placed .none) quiet in
       rw (does ∙ is, less)
       (record {

@@ -8,7 +8,6 @@ ghost use Rattle.area.specs.Flow.{state};
 ghost use Rattle.area.specs.Rows.{areaBlit};
 ghost use Rattle.quiet.specs.Stream.{laidAt};
 ghost use Rattle.block.specs.Inner.Place.{placeAt};
-ghost use Rattle.apart.specs.Inner.Apart.{AllApart};
 ghost use Rattle.blocks.specs.Inner.Block.{pointerEnd, at, nought, Lies, masking, plain, sourceOf};
 ghost use Rattle.blocks.specs.Inner.Block.{Asked, Given, AllRest, Supplied, Arrays, Fits, MadeOf, handed};
 ghost use Rattle.blocks.specs.Inner.Block.{rowsOn, pointersOn};
@@ -238,8 +237,7 @@ pub fn one_block(
     ya: &mut Words,
     o: &mut Words,
 ) -> Flow
-    requires { ⌜ Fits (length (now ram)) setup size flow far
-        × AllApart setup (size .width) (size .height * size .width) (size .height * size .width) flow × (flow .stored + 64 < 4294967296)
+    requires { ⌜ Fits (length (now ram)) setup size flow far × (flow .stored + 64 < 4294967296)
         × Arrays setup (size .width) (flow .sources) (now xa) (now xb) (now xc) (now ya) (now o)
         × (ready ≡ true → Prepared setup size flow (now xa) (now xb) (now xc) (now o)) ⌝ }
     ensures { λ next. ⌜ (state (now (ram .exit)) next ≡ areaBlit setup (size .width) (size .height) (state (now (ram .entry)) flow))

@@ -15,6 +15,7 @@ unfoldable pub use Rattle.block.specs.Inner.Each.{at, Each, levelAt, finalWordA
 pub use Rattle.block.specs.Inner.Place.{Lies}
 unfoldable pub use Rattle.block.specs.Inner.Place.{rowAt, fetchedAt}
 pub use Rattle.apart.specs.Inner.Placed.{Direction, Pointer, Setup, Flow, pointerEnd, nothing, Channel, Placed}
+pub use Rattle.apart.specs.Inner.Apart.{AllApart}
 pub use Rattle.apart.specs.declared.types.Strides.{Strides}
 pub use Rattle.apart.specs.Inner.Spans.{Size}
 pub use Rattle.blocks.specs.declared.types.Source.{Source}
@@ -71,11 +72,17 @@ pub record Arrays (setup : Setup) (width : ℕ) (sources : Sources) (xa xb xc ya
   pub long-y : length ya ≡ 80
   pub long-o : length o ≡ 80
 
--- a block can be done at once: its channels are placed, and its words are few enough
+-- a block can be done at once: it has few enough words, and is the next of the rows that are left
 pub record Fits (n : ℕ) (setup : Setup) (size : Size) (flow : Flow) (far : Strides) : Type 0 where
-  pub placed : Placed n setup (size .width) (size .height) flow far
   pub some : 1 ≤ size .height * size .width
   pub room : size .height * size .width ≤ 64
+  pub few : size .height ≤ 64
+  pub left : ℕ
+  pub enough : size .height ≤ left
+  pub placed : Placed n setup (size .width) left flow far
+  pub span : ℕ
+  pub within : size .height * size .width ≤ span
+  pub apart : AllApart setup (size .width) span (left * size .width) flow
 
 -- the first n words of three sources stand in arrays, A's masked
 pub record Stand (setup : Setup) (width n : ℕ) (xa xb xc : List ℕ) (a b c : ℕ → ℕ) : Type 0 where

@@ -5,7 +5,7 @@ use Rattle.area.specs.Rows.{areaBlit}
 use Rattle.blocks.specs.Inner.Block.{Arrays}
 use Rattle.blocks.specs.Inner.Repeats.{Repeating}
 use Rattle.blocks.proofs.RepeatsLaws.{arrays-of, repeating-starts, repeating-on, ready-of}
-use Rattle.blocks.proofs.RunningLaws.{Running, running-starts, block-fits, block-apart, running-on, running-done}
+use Rattle.blocks.proofs.RunningLaws.{Running, running-starts, block-fits, running-on, running-done}
 use Rattle.blocks.proofs.all.block_by_block.Statement.{statement}
 use Rattle.blocks.proofs.all.block_by_block.Tie as tie
 
@@ -27,7 +27,6 @@ one-block-requires c κs =
     let running = c .before .before .before .before .before .before .before .before .before .before .before .loop .inv .1 in
     let few = c .before .before .before .before .before .before .before .fewer .ensures in (
       block-fits running (few .0) (few .2) (few .1) (c .before .before .before .before .before .before .before .before .before .before .before .before .before .pre .3),
-      block-apart running (few .0) (few .2) (few .1),
       omega (arith, running .room, few .0, few .2),
       c .before .before .before .before .before .before .before .before .before .before .before .loop .inv .2,
       λ told. ready-of (few .1) (c .before .before .before .before .before .before .before .before .before .if1 .taken) (c .before .before .before .before .before .before .before .before .before .before .before .loop .inv .3) (c .before .before .before .before .before .before .repeats .ensures told),

@@ -44,7 +44,7 @@ module _ {n : ℕ} {setup : Setup} {size : Size} {flow : Flow} {far : Strides} (
 
   -- what is asked of a source
   pub asked : {word : ℕ} {over : (k word : ℕ) → ℕ} {words : List ℕ} → Rested used (size .width) over word words → Asked n (setup .direction) (sourceOf used pointer gap word) size over words
-  asked rested = record { lies = lies-of; some = fits .some; room = fits .room; rested = rested }
+  asked rested = record { lies = lies-of; wide = fits .placed .some; some = fits .some; room = fits .room; rested = rested }
 
   -- what it gives is what the blit fetches
   supplied-fetched : (memory : List ℕ) (word k : ℕ) → k < size .height * size .width

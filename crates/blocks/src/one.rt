@@ -213,8 +213,9 @@ fn made(
     }
     let sources = sources(ram, setup, far, size, flow, xa, xb, xc);
     let carry = crate::finals::finals(setup, size, before, xa, xb, xc, ya, o);
-    let earlier = last_words(size.height * size.width, xa, xb);
-    let allzero = still_nought(flow.allzero, size.height * size.width, o);
+    let n = size.height * size.width;
+    let earlier = last_words(n, xa, xb);
+    let allzero = still_nought(flow.allzero, n, o);
     Made {
         sources,
         earlier,

@@ -42,6 +42,7 @@ pub record Rested (used : Bool) (width : ℕ) (over : (k word : ℕ) → ℕ) (w
 -- a source can give a block's words
 pub record Asked (n : ℕ) (direction : Direction) (source : Source) (size : Size) (over : (k word : ℕ) → ℕ) (words : List ℕ) : Type 0 where
   pub lies : source .used ≡ true → Lies n direction (source .course .far) (source .course .from) size
+  pub wide : 1 ≤ size .width
   pub some : 1 ≤ size .height * size .width
   pub room : size .height * size .width ≤ 64
   pub rested : Rested (source .used) (size .width) over (source .word) words

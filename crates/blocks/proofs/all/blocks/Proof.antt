@@ -3,9 +3,6 @@ use Rattle.word.proofs.Base.{refl, needs}
 use Rattle.blocks.proofs.all.blocks.Statement.{statement}
 use Rattle.blocks.proofs.all.blocks.Tie as tie
 
-rest-a-requires : tie.Need-rest-a-requires
-rest-a-requires c κs = (c .before .before .before .before .before .pre .0 .some, c .before .before .before .before .before .pre .0 .narrow, search needs)
-
 block-by-block-requires : tie.Need-block-by-block-requires
 block-by-block-requires c κs =
     let pre = c .before .before .before .before .before .before .before .before .before .before .before .before .before .before .before .before .pre in
@@ -13,5 +10,5 @@ block-by-block-requires c κs =
 
 pub blocks-spec : {M : Type 1} → statement M
 blocks-spec =
-    tie.close (tie.spec rest-a-requires (λ c κs. search needs) (λ c κs. search needs) block-by-block-requires
+    tie.close (tie.spec (λ c κs. search needs) (λ c κs. search needs) (λ c κs. search needs) block-by-block-requires
     (λ c. search needs) (λ c. search needs))

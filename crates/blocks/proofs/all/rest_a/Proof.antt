@@ -5,9 +5,6 @@ use Rattle.blocks.proofs.SuppliedLaws.{rested-used, rested-masked, rest
 use Rattle.blocks.proofs.all.rest_a.Statement.{statement}
 use Rattle.blocks.proofs.all.rest_a.Tie as tie
 
-returns : tie.Need-returns
-returns c = rested-used (search needs) (search needs)
-
 returns-2 : tie.Need-returns-2
 returns-2 c = rested-in-columns (search needs) _ (search needs) (c .level .ensures .1)
 
@@ -19,5 +16,5 @@ returns-3 c = rested-masked (c .mask .ensures .0) _ _ (c .before .before .before
 
 pub rest-a-spec : {M : Type 1} → statement M
 rest-a-spec =
-    tie.close (tie.spec returns (λ c κs. search needs) returns-2 (λ c κs. search needs) (λ c. search needs)
-    mask-requires returns-3)
+    tie.close (tie.spec (λ c. rested-used (search needs) (search needs)) (λ c κs. search needs) returns-2
+    (λ c κs. search needs) (λ c. search needs) mask-requires returns-3)

@@ -4,26 +4,17 @@ use Rattle.blocks.proofs.BlockLaws.{far-lt, lies-of, block-is}
 use Rattle.blocks.proofs.one.one_block.Statement.{statement}
 use Rattle.blocks.proofs.one.one_block.Tie as tie
 
-made-requires : tie.Need-made-requires
-made-requires c κs = (c .before .before .before .before .before .before .before .before .before .pre .0, c .before .before .before .before .before .before .before .before .before .pre .2, c .before .before .before .before .before .before .before .before .before .pre .3)
-
 store-words-requires : tie.Need-store-words-requires
 store-words-requires c κs = rw (c .before .before .source .ensures) (lies-of (c .before .before .before .before .before .before .before .before .before .before .before .before .before .pre .0) (c .before .before .before .before .before .before .before .before .before .before .before .before .before .pre .0 .placed .d))
 
 pointers-on-requires : tie.Need-pointers-on-requires
 pointers-on-requires c κs =
     let fits = c .before .before .before .before .before .before .before .before .before .before .before .before .before .before .before .before .pre .0 in
-    let placed = fits .placed in (
-      placed .a .small,
-      placed .b .small,
-      placed .c .small,
-      placed .d .small,
-      far-lt fits (placed .a),
-      far-lt fits (placed .b),
-      far-lt fits (placed .c),
-      far-lt fits (placed .d),
-      fits .few,
-    )
+    let a = far-lt fits (fits .placed .a) in
+    let b = far-lt fits (fits .placed .b) in
+    let c = far-lt fits (fits .placed .c) in
+    let d = far-lt fits (fits .placed .d) in
+    search needs
 
 mul-counted : tie.Need-mul-counted
 mul-counted c = omega (arith, c .before .before .before .before .before .before .before .before .before .before .before .before .before .before .before .before .before .before .before .before .pre .0 .room)
@@ -37,5 +28,5 @@ returns c =
 
 pub one-block-spec : {M : Type 1} → statement M
 one-block-spec =
-    tie.close (tie.spec made-requires (λ c κs. search needs) store-words-requires pointers-on-requires mul-counted
-    counted-requires (λ c. search needs) returns)
+    tie.close (tie.spec (λ c κs. search needs) (λ c κs. search needs) store-words-requires pointers-on-requires
+    mul-counted counted-requires (λ c. search needs) returns)

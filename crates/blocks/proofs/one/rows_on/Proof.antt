@@ -18,8 +18,7 @@ returns : tie.Need-returns
 unfolding rowAt
 returns c = search (needs, if-when-true)
 
-returns-2 : tie.Need-returns-2
-returns-2 c = search (needs, if-when-false)
-
 pub rows-on-spec : {M : Type 1} → statement M
-rows-on-spec = tie.close (tie.spec (λ c. search needs) mul-t7 add-t8 (λ c. search needs) returns returns-2)
+rows-on-spec =
+    tie.close (tie.spec (λ c. search needs) mul-t7 add-t8 (λ c. search needs) returns
+    (λ c. search (needs, if-when-false)))

@@ -11,12 +11,6 @@ narrow-rows-requires c κs = (c .before .before .before .before .before .before 
 rows-requires : tie.Need-rows-requires
 rows-requires c κs = (c .before .before .before .before .before .before .before .pre .lies (c .before .before .before .if1 .taken), c .before .before .before .before .before .before .before .pre .rested .long)
 
-mask-requires : tie.Need-mask-requires
-mask-requires c κs = (c .before .before .before .before .before .before .before .before .before .before .before .pre .lies (c .before .before .before .before .before .before .before .if1 .taken) .some, c .before .before .before .before .before .before .before .before .before .before .before .pre .room, c .before .before .before .narrow-rows .ensures .0)
-
-mask-requires-2 : tie.Need-mask-requires-2
-mask-requires-2 c κs = (c .before .before .before .before .before .before .before .before .before .before .before .pre .lies (c .before .before .before .before .before .before .before .if1 .taken) .some, c .before .before .before .before .before .before .before .before .before .before .before .pre .room, c .before .before .before .rows .ensures .0)
-
 returns : tie.Need-returns
 unfolding maskedAt levelAt
 returns c = given-fetched _ (c .before .before .before .before .before .before .before .before .if1 .taken) (c .before .before .before .before .before .before .before .before .before .before .before .before .pre .some) (c .mask .ensures .0) (c .before .before .before .before .narrow-rows .ensures .1) (c .mask .ensures .1)
@@ -31,5 +25,5 @@ returns-3 c = given-idle (c .if1 .left) (c .before .before .before .before .pre 
 pub supplied-a-spec : {M : Type 1} → statement M
 supplied-a-spec =
     tie.close (tie.spec narrow-rows-requires (λ c. search needs) (λ c. search needs) (λ c. search needs)
-    (λ c. search needs) mask-requires returns rows-requires (λ c. search needs) (λ c. search needs) (λ c. search needs)
-    (λ c. search needs) mask-requires-2 returns-2 returns-3)
+    (λ c. search needs) (λ c κs. search needs) returns rows-requires (λ c. search needs) (λ c. search needs)
+    (λ c. search needs) (λ c. search needs) (λ c κs. search needs) returns-2 returns-3)

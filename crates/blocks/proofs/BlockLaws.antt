@@ -1,69 +1,74 @@
 -- One block is a blit of its rows: its words are those of the quiet blit.
-use Rattle.word.proofs.Base.{_≡_, refl, sym, ap, _∙_, ℕ, zero, suc, _+_, _-_, _*_, _<_, _≤_, sub-one, arith, Bool, true}
+use Rattle.word.proofs.Base.{_≡_, refl, sym, ap, _∙_, ℕ, zero, suc, _+_, _-_, _*_, _<_, _≤_, mul-le-mul-right, sub-one, arith, Bool, true}
 use Rattle.word.proofs.Base.{false, eqb, List, getD}
-use Rattle.word.specs.declared.types.Direction.{Direction}
-use Rattle.word.specs.declared.types.Pointer.{Pointer}
-use Rattle.word.specs.declared.types.Filled.{Filled}
 use Rattle.word.specs.Choice.{if_then_else_, every}
-use Rattle.word.specs.Pointer.{pointerEnd}
-use Rattle.area.specs.declared.types.Sources.{Sources}
-use Rattle.area.specs.declared.types.Earlier.{Earlier}
-use Rattle.area.specs.declared.types.Setup.{Setup}
-use Rattle.area.specs.declared.types.Flow.{Flow}
-use Rattle.area.specs.Flow.{state, nothing}
+use Rattle.area.specs.Flow.{state}
 use Rattle.area.specs.Fetch.{fetched}
 use Rattle.area.specs.Rows.{areaBlit}
-use Rattle.quiet.specs.Words.{wordBefore, maskedAt, mixedAt, resultAt, finalAt}
-use Rattle.quiet.specs.Stream.{standingAt, atA, atB, atC, atD, wordA, wordB, wordC, finals, finalWord, laidAt}
-use Rattle.quiet.specs.Quiet.{Unmet, Quiet, memoryAfter, flowAfter}
+use Rattle.quiet.specs.Words.{wordBefore}
+use Rattle.quiet.specs.Stream.{standing, standingAt, atD, wordA, wordB, wordC, finals, finalWord, laidAt}
+use Rattle.quiet.specs.Quiet.{Unmet, Quiet, flowAfter}
 use Rattle.quiet.proofs.QuietLaws.{quiet-blit}
-use Rattle.block.specs.Inner.Each.{at, Each, finalWordAt, nought}
-use Rattle.block.specs.Inner.Place.{rowAt, placeAt, Lies, fetchedAt}
+use Rattle.block.specs.Inner.Place.{placeAt, EvenRows}
 use Rattle.block.proofs.PlaceLaws.{laidAt-same}
-use Rattle.apart.specs.declared.types.Strides.{Strides}
-use Rattle.apart.specs.Inner.Placed.{Channel, Placed}
-use Rattle.apart.specs.Inner.Apart.{Apart, AllApart}
+use Rattle.apart.specs.Inner.Apart.{Apart}
 use Rattle.apart.proofs.PlacedLaws.{stride-lt, channel-place, channel-rows}
-use Rattle.blocks.specs.declared.types.Made.{Made}
-use Rattle.blocks.specs.declared.types.Source.{Source}
-use Rattle.blocks.specs.Inner.Rests.{suppliedAt, sourceOf, sourceA, sourceB, sourceC, Rests, AllRest, suppliedA, suppliedB, suppliedC, Supplied}
-use Rattle.blocks.specs.Inner.MadeOf.{MadeOf}
-use Rattle.blocks.proofs.SuppliedLaws.{supplied-idle}
-use Rattle.blocks.proofs.FinalsLaws.{shiftedAt-same, filledAt-same}
+use Rattle.blocks.specs.Inner.Block.{Pointer, Sources, Earlier, Pointers, Setup, Flow, Strides, Size, Made, pointerEnd, nothing}
+use Rattle.blocks.specs.Inner.Block.{Channel, maskedAt, at, Each, levelAt, finalWordAt, nought, Lies, fetchedAt}
+use Rattle.blocks.specs.Inner.Block.{suppliedAt, sourceOf, Rested, Asked, Fits, Stand, MadeOf, rowsOn, pointersOn}
 
-module _ (n : ℕ) (direction : Direction) (width rows modulo : ℕ) (used : Bool) (pointer : Pointer) (far : ℕ) (channel : Channel n direction width rows modulo used pointer far)
-    (most : n ≤ pointerEnd) (some : 1 ≤ width) (narrow : width ≤ 64) where
+module _ {n : ℕ} {setup : Setup} {size : Size} {flow : Flow} {far : Strides} (fits : Fits n setup size flow far)
+    {modulo : ℕ} {used : Bool} {pointer : Pointer} {gap : ℕ} (channel : Channel n (setup .direction) (size .width) (fits .left) modulo used pointer gap) where
+  pub far-lt : gap < pointerEnd
+  far-lt = stride-lt _ _ _ _ _ _ _ _ channel (fits .placed .most) (fits .placed .some) (fits .placed .narrow)
+
+  place-is : used ≡ true → (k : ℕ) → k < size .height * size .width
+      → standingAt (setup .direction) used (size .width) modulo pointer k .word ≡ placeAt (setup .direction) (size .width) gap (pointer .word) k
+  place-is uses k below =
+      channel-place _ _ _ _ _ _ _ _ channel (fits .placed .most) (fits .placed .some) (fits .placed .narrow) uses k (omega (arith, mul-le-mul-right (size .width) (fits .enough)))
+
+  rows-are : standing (setup .direction) used (size .width) modulo (size .height) 0 pointer ≡ rowsOn used gap (size .height) pointer
+  rows-are = channel-rows _ _ _ _ _ _ _ _ channel (fits .placed .most) (fits .placed .some) (fits .placed .narrow) (size .height)
+
   -- a channel's rows are a block's
-  pub lies-of : rows * width ≤ 64 → used ≡ true → Lies n direction far (pointer .word) (record { width = width; height = rows })
-  lies-of room uses =
-      record { inside = channel .inside uses; room = room; some = some; starts = channel .small; strides = stride-lt n direction width rows modulo used pointer far channel most some narrow }
+  pub lies-of : used ≡ true → Lies n (setup .direction) gap (pointer .word) size
+  unfolding EvenRows
+  lies-of uses =
+      record {
+        inside = λ row below. channel .inside uses row (omega (arith, fits .enough));
+        room = fits .room;
+        some = fits .placed .some;
+        starts = channel .small;
+        strides = far-lt;
+      }
 
-  -- what a source gives is what the blit fetches
-  supplied-fetched : (memory : List ℕ) (source k : ℕ) → k < rows * width
-      → suppliedAt direction width (sourceOf used pointer far source) memory k ≡ fetched used memory (standingAt direction used width modulo pointer k) source
+  -- what is asked of a source
+  pub asked : {word : ℕ} {over : (k word : ℕ) → ℕ} {words : List ℕ} → Rested used (size .width) over word words → Asked n (setup .direction) (sourceOf used pointer gap word) size over words
+  asked rested = record { lies = lies-of; wide = fits .placed .some; some = fits .some; room = fits .room; rested = rested }
+
+  -- what it gives is what the blit fetches
+  supplied-fetched : (memory : List ℕ) (word k : ℕ) → k < size .height * size .width
+      → suppliedAt (setup .direction) (size .width) (sourceOf used pointer gap word) memory k ≡ fetched used memory (standingAt (setup .direction) used (size .width) modulo pointer k) word
   unfolding suppliedAt fetched fetchedAt
-  supplied-fetched memory source k below = by used refl
+  supplied-fetched memory word k below = by used refl
     where
-      by : (is : Bool) → used ≡ is
-          → (if is then getD memory (placeAt direction width far (pointer .word) k) 0 else source) ≡ (if is then getD memory (standingAt direction used width modulo pointer k .word) 0 else source)
-      by true uses = ap (λ (place : ℕ). getD memory place 0) (sym (channel-place n direction width rows modulo used pointer far channel most some narrow uses k below))
+      by : (is : Bool) → used ≡ is → (if is then getD memory (placeAt (setup .direction) (size .width) gap (pointer .word) k) 0 else word)
+          ≡ (if is then getD memory (standingAt (setup .direction) used (size .width) modulo pointer k .word) 0 else word)
+      by true uses = ap (λ (place : ℕ). getD memory place 0) (sym (place-is uses k below))
       by false idle = refl
 
 -- no fetch meets a store of the same block
-unmet-apart : (stores used : Bool) (place fetches : ℕ → Pointer) (words : ℕ) → Apart stores used place fetches words words → Unmet stores used place fetches words
-unfolding Apart Unmet
-unmet-apart stores used place fetches words apart i j below early = apart i j below (omega arith) (omega arith)
-
-pub apart-quiet : (setup : Setup) (width words : ℕ) (flow : Flow) → AllApart setup width words words flow → Quiet setup width words flow
-unfolding Quiet
-apart-quiet setup width words flow apart = (
-  unmet-apart (setup .uses .d) (setup .uses .a) (atD setup width flow) (atA setup width flow) words (apart .a),
-  unmet-apart (setup .uses .d) (setup .uses .b) (atD setup width flow) (atB setup width flow) words (apart .b),
-  unmet-apart (setup .uses .d) (setup .uses .c) (atD setup width flow) (atC setup width flow) words (apart .c),
-)
+pub fits-quiet : {n : ℕ} {setup : Setup} {size : Size} {flow : Flow} {far : Strides} → Fits n setup size flow far → Quiet setup (size .width) (size .height * size .width) flow
+unfolding Quiet Apart Unmet
+fits-quiet {size = size} fits =
+    let all : size .height * size .width ≤ fits .left * size .width = mul-le-mul-right (size .width) (fits .enough) in (
+      λ i j below early. fits .apart .a i j (omega arith) (omega arith) (omega (arith, fits .within)),
+      λ i j below early. fits .apart .b i j (omega arith) (omega arith) (omega (arith, fits .within)),
+      λ i j below early. fits .apart .c i j (omega arith) (omega arith) (omega (arith, fits .within)),
+    )
 
 -- the last of some words
-pub before-last : (first : ℕ) (word : ℕ → ℕ) (n : ℕ) → 1 ≤ n → wordBefore first word n ≡ word (n - 1)
+before-last : (first : ℕ) (word : ℕ → ℕ) (n : ℕ) → 1 ≤ n → wordBefore first word n ≡ word (n - 1)
 unfolding wordBefore
 before-last first word zero none = absurd (omega arith)
 before-last first word (suc k) some = ap word (sym (sub-one (suc k)))
@@ -74,132 +79,69 @@ same-sources first second third = rw (first, second, third)
 pub same-earlier : {a b a′ b′ : ℕ} → a ≡ a′ → b ≡ b′ → _≡_ {A = Earlier} (record { a = a; b = b }) (record { a = a′; b = b′ })
 same-earlier first second = rw (first, second)
 
-module _ (n : ℕ) (setup : Setup) (width rows : ℕ) (far : Strides) (flow : Flow) (memory : List ℕ) (placed : Placed n setup width rows flow far) where
-  supplied-a : (k : ℕ) → k < rows * width → suppliedA setup width far flow memory k ≡ wordA setup width memory flow k
-  unfolding wordA
-  supplied-a = supplied-fetched n (setup .direction) width rows (setup .modulos .a) (setup .uses .a) (flow .pointers .a) (far .a) (placed .a) (placed .most) (placed .some) (placed .narrow) memory (flow .sources .a)
+module _ {n : ℕ} {setup : Setup} {size : Size} {far : Strides} {flow : Flow} {memory xa xb xc ya o : List ℕ} {end : Made} (fits : Fits n setup size flow far)
+    (finished : MadeOf setup size far flow memory xa xb xc ya o end) where
+  abbrev count : ℕ
+  count = size .height * size .width
 
-  supplied-b : (k : ℕ) → k < rows * width → suppliedB setup width far flow memory k ≡ wordB setup width memory flow k
-  unfolding wordB
-  supplied-b = supplied-fetched n (setup .direction) width rows (setup .modulos .b) (setup .uses .b) (flow .pointers .b) (far .b) (placed .b) (placed .most) (placed .some) (placed .narrow) memory (flow .sources .b)
+  -- the sources by what they fetch
+  stands : Stand setup (size .width) count xa xb xc (wordA setup (size .width) memory flow) (wordB setup (size .width) memory flow) (wordC setup (size .width) memory flow)
+  unfolding Each maskedAt levelAt wordA wordB wordC
+  stands =
+      record {
+        of-a = λ j below. finished .supplied .a .words j below ∙ rw (supplied-fetched fits (fits .placed .a) memory (flow .sources .a) j below);
+        of-b = λ j below. finished .supplied .b .words j below ∙ supplied-fetched fits (fits .placed .b) memory (flow .sources .b) j below;
+        of-c = λ j below. finished .supplied .c .words j below ∙ supplied-fetched fits (fits .placed .c) memory (flow .sources .c) j below;
+      }
 
-  supplied-c : (k : ℕ) → k < rows * width → suppliedC setup width far flow memory k ≡ wordC setup width memory flow k
-  unfolding wordC
-  supplied-c = supplied-fetched n (setup .direction) width rows (setup .modulos .c) (setup .uses .c) (flow .pointers .c) (far .c) (placed .c) (placed .most) (placed .some) (placed .narrow) memory (flow .sources .c)
+  -- so the final words are the blit's
+  final-here : (j : ℕ) → j < count → at o j ≡ finalWord setup (size .width) memory flow j
+  unfolding at Each finalWordAt
+  final-here = finished .words _ _ _ count (omega arith) stands
 
-  module _ (xa xb xc o after : List ℕ) (end : Made) (next : Flow) (some : 1 ≤ rows * width) (apart : AllApart setup width (rows * width) (rows * width) flow)
-      (finished : MadeOf setup width rows far flow memory xa xb xc o end)
-      (stores : after ≡ (if setup .uses .d then laidAt (placeAt (setup .direction) width (far .d) (flow .pointers .d .word)) (at o) (rows * width) memory else memory))
-      (is-next : next ≡ record {
-        pointers =
-            record {
-              a = if setup .uses .a then record { word = rowAt (far .a) (flow .pointers .a .word) rows } else flow .pointers .a;
-              b = if setup .uses .b then record { word = rowAt (far .b) (flow .pointers .b .word) rows } else flow .pointers .b;
-              c = if setup .uses .c then record { word = rowAt (far .c) (flow .pointers .c .word) rows } else flow .pointers .c;
-              d = if setup .uses .d then record { word = rowAt (far .d) (flow .pointers .d .word) rows } else flow .pointers .d;
-            };
-        sources = end .sources;
-        earlier = end .earlier;
-        carry = end .carry;
-        allzero = end .allzero;
-        stored = flow .stored + (if setup .uses .d then rows * width else 0);
-        pending = nothing;
-      }) where
-    -- the sources by what they fetch
-    masked-a : Each (rows * width) xa (maskedAt (setup .masks) width (wordA setup width memory flow))
-    unfolding Each maskedAt
-    masked-a j below = finished .supplied .a j below ∙ rw (supplied-a j below)
+  nought-after : (k : ℕ) → k ≤ count → nought k (at o) ≡ every (λ k. eqb (finalWord setup (size .width) memory flow k) 0) k
+  unfolding nought
+  nought-after zero below = refl
+  nought-after (suc k) below = rw (final-here k (omega arith), nought-after k (omega arith))
 
-    fetched-b : (j : ℕ) → j < rows * width → at xb j ≡ wordB setup width memory flow j
-    unfolding at Each
-    fetched-b j below = finished .supplied .b j below ∙ supplied-b j below
+  memory-after : (used : Bool) → setup .uses .d ≡ used
+      → (if used then laidAt (placeAt (setup .direction) (size .width) (far .d) (flow .pointers .d .word)) (at o) count memory else memory)
+      ≡ (if used then laidAt (λ k. atD setup (size .width) flow k .word) (finalWord setup (size .width) memory flow) count memory else memory)
+  memory-after true uses = laidAt-same _ _ _ _ count memory (λ i below. sym (place-is fits (fits .placed .d) uses i below)) final-here
+  memory-after false idle = refl
 
-    fetched-c : (j : ℕ) → j < rows * width → at xc j ≡ wordC setup width memory flow j
-    unfolding at Each
-    fetched-c j below = finished .supplied .c j below ∙ supplied-c j below
+  -- what is handed on
+  sources-after : end .sources ≡ flowAfter setup (size .width) memory flow (size .height) .sources
+  unfolding wordA wordB wordC
+  sources-after =
+      same-sources (finished .supplied .a .last ∙ supplied-fetched fits (fits .placed .a) memory (flow .sources .a) (count - 1) (omega (arith, fits .some)) ∙ sym (before-last _ _ count (fits .some)))
+      (finished .supplied .b .last ∙ supplied-fetched fits (fits .placed .b) memory (flow .sources .b) (count - 1) (omega (arith, fits .some)) ∙ sym (before-last _ _ count (fits .some)))
+      (finished .supplied .c .last ∙ supplied-fetched fits (fits .placed .c) memory (flow .sources .c) (count - 1) (omega (arith, fits .some)) ∙ sym (before-last _ _ count (fits .some)))
 
-    -- so the final words are the blit's
-    finals-same : (k : ℕ) → k < rows * width
-        → finalAt setup width (flow .earlier) (wordA setup width memory flow) (at xb) (at xc) k ≡ finals setup width memory flow k
-    unfolding resultAt mixedAt
-    finals-same =
-        filledAt-same (setup .fill) (setup .carry) width _ _ (rows * width)
-        (λ j below.
-        rw (shiftedAt-same (setup .direction) (setup .shifts .b) (flow .earlier .b) (at xb) (wordB setup width memory flow) (rows * width) fetched-b j below, fetched-c j below))
+  earlier-after : end .earlier ≡ flowAfter setup (size .width) memory flow (size .height) .earlier
+  unfolding Each
+  earlier-after =
+      finished .earlier
+      ∙ same-earlier (stands .of-a (count - 1) (omega (arith, fits .some)) ∙ sym (before-last _ _ count (fits .some))) (stands .of-b (count - 1) (omega (arith, fits .some)) ∙ sym (before-last _ _ count (fits .some)))
 
-    final-here : (j : ℕ) → j < rows * width → at o j ≡ finalWord setup width memory flow j
-    unfolding at Each finalWordAt
-    final-here j below = finished .words (wordA setup width memory flow) masked-a .0 j below ∙ ap (λ (made : Filled). made .word) (finals-same j below)
-
-    memory-after : after ≡ memoryAfter setup width memory flow (rows * width)
-    memory-after = stores ∙ by (setup .uses .d) refl
-      where
-        by : (used : Bool) → setup .uses .d ≡ used
-            → (if used then laidAt (placeAt (setup .direction) width (far .d) (flow .pointers .d .word)) (at o) (rows * width) memory else memory)
-            ≡ (if used then laidAt (λ k. atD setup width flow k .word) (finalWord setup width memory flow) (rows * width) memory else memory)
-        by true uses =
-            laidAt-same _ _ _ _ (rows * width) memory
-            (λ i below. sym (channel-place n (setup .direction) width rows (setup .modulos .d) (setup .uses .d) (flow .pointers .d) (far .d) (placed .d) (placed .most) (placed .some) (placed .narrow) uses i below))
-            final-here
-        by false idle = refl
-
-    nought-after : (k : ℕ) → k ≤ rows * width → nought k (at o) ≡ every (λ k. eqb (finalWord setup width memory flow k) 0) k
-    unfolding nought
-    nought-after zero below = refl
-    nought-after (suc k) below = rw (final-here k (omega arith), nought-after k (omega arith))
-
-    -- what is handed on
-    abbrev lastWord : ℕ
-    lastWord = rows * width - 1
-
-    sources-after : end .sources ≡ record { a = wordA setup width memory flow lastWord; b = wordB setup width memory flow lastWord; c = wordC setup width memory flow lastWord }
-    sources-after =
-        same-sources (finished .supplied .last-a ∙ supplied-a lastWord (omega arith)) (finished .supplied .last-b ∙ supplied-b lastWord (omega arith)) (finished .supplied .last-c ∙ supplied-c lastWord (omega arith))
-
-    earlier-after : end .earlier ≡ record { a = maskedAt (setup .masks) width (wordA setup width memory flow) lastWord; b = wordB setup width memory flow lastWord }
-    unfolding at Each
-    earlier-after = finished .earlier ∙ same-earlier (masked-a lastWord (omega arith)) (fetched-b lastWord (omega arith))
-
-    carry-after : end .carry ≡ finals setup width memory flow lastWord .carry
-    carry-after = finished .words (wordA setup width memory flow) masked-a .1 ∙ ap (λ (made : Filled). made .carry) (finals-same lastWord (omega arith))
-
-    flow-after : next ≡ flowAfter setup width memory flow rows
-    flow-after =
-        is-next
-        ∙ rw (
-          finished .zero,
-          channel-rows n (setup .direction) width rows (setup .modulos .a) (setup .uses .a) (flow .pointers .a) (far .a) (placed .a) (placed .most) (placed .some) (placed .narrow) rows,
-          channel-rows n (setup .direction) width rows (setup .modulos .b) (setup .uses .b) (flow .pointers .b) (far .b) (placed .b) (placed .most) (placed .some) (placed .narrow) rows,
-          channel-rows n (setup .direction) width rows (setup .modulos .c) (setup .uses .c) (flow .pointers .c) (far .c) (placed .c) (placed .most) (placed .some) (placed .narrow) rows,
-          channel-rows n (setup .direction) width rows (setup .modulos .d) (setup .uses .d) (flow .pointers .d) (far .d) (placed .d) (placed .most) (placed .some) (placed .narrow) rows,
-          before-last (flow .sources .a) (wordA setup width memory flow) (rows * width) some,
-          before-last (flow .sources .b) (wordB setup width memory flow) (rows * width) some,
-          before-last (flow .sources .c) (wordC setup width memory flow) (rows * width) some,
-          before-last (flow .earlier .a) (maskedAt (setup .masks) width (wordA setup width memory flow)) (rows * width) some,
-          before-last (flow .earlier .b) (wordB setup width memory flow) (rows * width) some,
-          before-last (flow .carry) (λ k. finals setup width memory flow k .carry) (rows * width) some,
-          ← sources-after,
-          ← earlier-after,
-          ← carry-after,
-          ← nought-after (rows * width) (omega arith),
-        )
-
-    pub block-is : state after next ≡ areaBlit setup width rows (state memory flow)
-    block-is =
-        rw (memory-after, flow-after)
-        (sym (quiet-blit setup width rows memory flow (placed .some) (placed .none) (apart-quiet setup width (rows * width) flow apart)))
-
--- a source at rest stays what it is
-source-rests : (direction : Direction) (width : ℕ) (source : Source) (memory : List ℕ) (last k : ℕ) → source .used ≡ false
-    → last ≡ suppliedAt direction width source memory k → source .word ≡ last
-source-rests direction width source memory last k idle is = supplied-idle direction source width memory k idle ∙ sym is
-
-pub rests-on : (setup : Setup) (width rows : ℕ) (far : Strides) (flow : Flow) (memory xa xb xc : List ℕ) (last : Sources)
-    → Supplied setup width rows far flow memory xa xb xc last → AllRest setup width (flow .sources) xa xb xc → AllRest setup width last xa xb xc
-unfolding Rests
-rests-on setup width rows far flow memory xa xb xc last supplied rests =
-    record {
-      a = λ idle. rw (← source-rests _ _ (sourceA setup far flow) _ _ _ idle (supplied .last-a)) (rests .a idle);
-      b = λ idle. rw (← source-rests _ _ (sourceB setup far flow) _ _ _ idle (supplied .last-b)) (rests .b idle);
-      c = λ idle. rw (← source-rests _ _ (sourceC setup far flow) _ _ _ idle (supplied .last-c)) (rests .c idle);
-    }
+  pub block-is : {after : List ℕ} {pointers : Pointers} {stored : ℕ}
+      → after ≡ (if setup .uses .d then laidAt (placeAt (setup .direction) (size .width) (far .d) (flow .pointers .d .word)) (at o) count memory else memory)
+      → pointers ≡ pointersOn setup far (size .height) (flow .pointers) → stored ≡ flow .stored + (if setup .uses .d then count else 0)
+      → state after (record { pointers = pointers; sources = end .sources; earlier = end .earlier; carry = end .carry; allzero = end .allzero; stored = stored; pending = nothing })
+      ≡ areaBlit setup (size .width) (size .height) (state memory flow)
+  block-is stores moves counts =
+      rw (
+        stores ∙ memory-after (setup .uses .d) refl,
+        moves,
+        counts,
+        sources-after,
+        earlier-after,
+        finished .zero,
+        nought-after count (omega arith),
+        finished .carry _ _ _ stands ∙ sym (before-last (flow .carry) (λ k. finals setup (size .width) memory flow k .carry) count (fits .some)),
+        ← rows-are fits (fits .placed .a),
+        ← rows-are fits (fits .placed .b),
+        ← rows-are fits (fits .placed .c),
+        ← rows-are fits (fits .placed .d),
+      )
+      (sym (quiet-blit setup (size .width) (size .height) memory flow (fits .placed .some) (fits .placed .none) (fits-quiet fits)))

@@ -1,4 +1,3 @@
 -- What only contracts speak of: no promise to a caller rests on it.
-pub mod Rests
-pub mod MadeOf
+pub mod Block
 pub mod Repeats

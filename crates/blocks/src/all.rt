@@ -5,11 +5,9 @@ ghost use Prim.Native.Nat.{_+_, _-_, _*_, _<_, _≤_};
 ghost use lib.ListN.{length};
 ghost use Rattle.area.specs.Flow.{state};
 ghost use Rattle.area.specs.Rows.{areaBlit};
-ghost use Rattle.quiet.specs.Words.{maskedAt};
-ghost use Rattle.block.specs.Inner.Each.{levelAt};
 ghost use Rattle.apart.specs.Inner.Placed.{Placed};
 ghost use Rattle.apart.specs.Inner.Apart.{AllApart};
-ghost use Rattle.blocks.specs.Inner.Rests.{Rests, AllRest};
+ghost use Rattle.blocks.specs.Inner.Block.{plain, masking, Rested, Arrays};
 ghost use Rattle.blocks.specs.Inner.Repeats.{Still};
 use apart::types::Strides;
 use area::types::Flow;
@@ -61,9 +59,7 @@ fn block_by_block(
 ) -> Flow
     requires { ⌜ Placed (length (now ram)) setup (size .width) (size .height) flow far × AllApart setup (size .width) (most * size .width) (size .height * size .width) flow
         × (1 ≤ most) × (most * size .width ≤ 64) × (2 ≤ most * size .width) × (size .height ≤ 1024) × (flow .stored + size .height * 64 < 4294967232)
-        × (length (now xa) ≡ 80) × (length (now xb) ≡ 80) × (length (now xc) ≡ 80)
-        × (length (now ya) ≡ 80) × (length (now o) ≡ 80)
-        × AllRest setup (size .width) (flow .sources) (now xa) (now xb) (now xc) ⌝ }
+        × Arrays setup (size .width) (flow .sources) (now xa) (now xb) (now xc) (now ya) (now o) ⌝ }
     ensures { λ end. ⌜
         state (now (ram .exit)) end
         ≡ areaBlit setup (size .width) (size .height) (state (now (ram .entry)) flow) ⌝ }
@@ -86,8 +82,7 @@ fn block_by_block(
 // The array of A at rest, masked. In rows of one word every word gets both masks.
 fn rest_a(used: bool, masks: Masks, width: usize, word: u16, x: &mut Words)
     requires { ⌜ (1 ≤ width) × (width ≤ 64) × (length (now x) ≡ 80) ⌝ }
-    ensures { λ _. ⌜ (length (now (x .exit)) ≡ 80)
-        × Rests used width (maskedAt masks width (levelAt word)) (now (x .exit)) ⌝ }
+    ensures { λ _. ⌜ Rested used width (masking masks width) word (now (x .exit)) ⌝ }
 {
     if used {
         return;
@@ -103,7 +98,7 @@ fn rest_a(used: bool, masks: Masks, width: usize, word: u16, x: &mut Words)
 // The array of B or C at rest.
 fn rest(used: bool, width: usize, word: u16, x: &mut Words)
     requires { ⌜ length (now x) ≡ 80 ⌝ }
-    ensures { λ _. ⌜ (length (now (x .exit)) ≡ 80) × Rests used width (levelAt word) (now (x .exit)) ⌝ }
+    ensures { λ _. ⌜ Rested used width plain word (now (x .exit)) ⌝ }
 {
     if used {
         return;

@@ -1,9 +1,8 @@
 // A block's final words from the words of its sources.
 ghost use mathlib.Core.Path.{_≡_};
-ghost use Prim.Native.Nat.{ℕ, _-_, _*_, _<_, _≤_};
+ghost use Prim.Native.Nat.{_*_, _<_, _≤_};
 ghost use lib.ListN.{length};
-ghost use Rattle.quiet.specs.Words.{maskedAt, finalAt};
-ghost use Rattle.block.specs.Inner.Each.{at, Each, finalWordAt};
+ghost use Rattle.blocks.specs.Inner.Block.{FinalWords, FinalCarry};
 use area::types::Earlier;
 use area::types::Setup;
 use block::types::Size;
@@ -25,9 +24,8 @@ pub fn finals(
         × (size .height * size .width ≤ 64) × (length (now xa) ≡ 80) × (length (now xb) ≡ 80)
         × (length (now ya) ≡ 80) × (length (now o) ≡ 80) ⌝ }
     ensures { λ carry. ⌜ (length (now (ya .exit)) ≡ 80) × (length (now (o .exit)) ≡ 80)
-        × ((a : ℕ → ℕ) → Each (size .height * size .width) (now (xa .entry)) (maskedAt (setup .masks) (size .width) a)
-        → Each (size .height * size .width) (now (o .exit)) (finalWordAt setup (size .width) earlier a (at (now (xb .entry))) (at (now (xc .entry))))
-        × (carry ≡ finalAt setup (size .width) earlier a (at (now (xb .entry))) (at (now (xc .entry))) (size .height * size .width - 1) .carry)) ⌝ }
+        × FinalWords setup (size .width) (size .height * size .width) earlier (now (xa .entry)) (now (xb .entry)) (now (xc .entry)) (now (o .exit))
+        × FinalCarry setup (size .width) (size .height * size .width) earlier (now (xa .entry)) (now (xb .entry)) (now (xc .entry)) carry ⌝ }
 {
     let direction = setup.direction;
     let fill = setup.fill;

@@ -4,18 +4,14 @@ ghost use mathlib.Core.Bool.{true, _&&_};
 ghost use Prim.Native.Nat.{_+_, _*_, _-_, _<_, _≤_};
 ghost use lib.ListN.{length, getD};
 ghost use Rattle.word.specs.Choice.{if_then_else_};
-ghost use Rattle.word.specs.Pointer.{pointerEnd};
-ghost use Rattle.area.specs.Flow.{state, nothing};
+ghost use Rattle.area.specs.Flow.{state};
 ghost use Rattle.area.specs.Rows.{areaBlit};
-ghost use Rattle.quiet.specs.Words.{maskedAt};
 ghost use Rattle.quiet.specs.Stream.{laidAt};
-ghost use Rattle.block.specs.Inner.Each.{at, Each, levelAt, nought};
-ghost use Rattle.block.specs.Inner.Place.{rowAt, placeAt, Lies};
-ghost use Rattle.apart.specs.Inner.Placed.{Placed};
-ghost use Rattle.apart.specs.Inner.Apart.{AllApart};
-ghost use Rattle.blocks.specs.Inner.Rests.{suppliedAt, Supplies, sourceOf, Rests, AllRest, Supplied};
-ghost use Rattle.blocks.specs.Inner.MadeOf.{MadeOf};
-ghost use Rattle.blocks.specs.Inner.Repeats.{Still, stillAt, Prepared};
+ghost use Rattle.block.specs.Inner.Place.{placeAt};
+ghost use Rattle.blocks.specs.Inner.Block.{pointerEnd, at, nought, Lies, masking, plain, sourceOf};
+ghost use Rattle.blocks.specs.Inner.Block.{Asked, Given, AllRest, Supplied, Arrays, Fits, MadeOf, handed};
+ghost use Rattle.blocks.specs.Inner.Block.{rowsOn, pointersOn};
+ghost use Rattle.blocks.specs.Inner.Repeats.{Prepared};
 use crate::types::Made;
 use crate::types::Source;
 use apart::types::Strides;
@@ -42,12 +38,9 @@ fn source(used: bool, pointer: Pointer, far: usize, word: u16) -> Source
 
 // A's words, masked. The answer is the last of them, unmasked.
 fn supplied_a(source: Source, setup: Setup, ram: &[u16], size: Size, x: &mut Words) -> u16
-    requires { ⌜ Supplies (length (now ram)) (setup .direction) source size × (1 ≤ size .height * size .width) × (length (now x) ≡ 80)
-        × Rests (source .used) (size .width) (maskedAt (setup .masks) (size .width) (levelAt (source .word))) (now x) ⌝ }
-    ensures { λ last. ⌜ (length (now (x .exit)) ≡ 80)
-        × Each (size .height * size .width) (now (x .exit)) (maskedAt (setup .masks) (size .width) (suppliedAt (setup .direction) (size .width) source (now (ram .entry))))
-        × (last ≡ suppliedAt (setup .direction) (size .width) source (now (ram .entry)) (size .height * size .width - 1))
-        × Rests (source .used) (size .width) (maskedAt (setup .masks) (size .width) (levelAt (source .word))) (now (x .exit)) ⌝ }
+    requires { ⌜ Asked (length (now ram)) (setup .direction) source size (masking (setup .masks) (size .width)) (now x) ⌝ }
+    ensures { λ last. ⌜
+        Given (setup .direction) source size (now (ram .entry)) (masking (setup .masks) (size .width)) (now (x .exit)) last ⌝ }
 {
     let direction = setup.direction;
     let masks = setup.masks;
@@ -69,12 +62,8 @@ fn supplied_a(source: Source, setup: Setup, ram: &[u16], size: Size, x: &mut Wor
 
 // The words of B, or of C.
 fn supplied(source: Source, direction: Direction, ram: &[u16], size: Size, x: &mut Words) -> u16
-    requires { ⌜ Supplies (length (now ram)) direction source size × (1 ≤ size .height * size .width) × (length (now x) ≡ 80)
-        × Rests (source .used) (size .width) (levelAt (source .word)) (now x) ⌝ }
-    ensures { λ last. ⌜ (length (now (x .exit)) ≡ 80)
-        × Each (size .height * size .width) (now (x .exit)) (suppliedAt direction (size .width) source (now (ram .entry)))
-        × (last ≡ suppliedAt direction (size .width) source (now (ram .entry)) (size .height * size .width - 1))
-        × Rests (source .used) (size .width) (levelAt (source .word)) (now (x .exit)) ⌝ }
+    requires { ⌜ Asked (length (now ram)) direction source size plain (now x) ⌝ }
+    ensures { λ last. ⌜ Given direction source size (now (ram .entry)) plain (now (x .exit)) last ⌝ }
 {
     let course = source.course;
     if source.used {
@@ -99,32 +88,19 @@ fn sources(
     xb: &mut Words,
     xc: &mut Words,
 ) -> Sources
-    requires { ⌜ Placed (length (now ram)) setup (size .width) (size .height) flow far × (size .height * size .width ≤ 64) × (1 ≤ size .height * size .width)
-        × (length (now xa) ≡ 80) × (length (now xb) ≡ 80) × (length (now xc) ≡ 80)
-        × AllRest setup (size .width) (flow .sources) (now xa) (now xb) (now xc) ⌝ }
-    ensures { λ last. ⌜ (length (now (xa .exit)) ≡ 80) × (length (now (xb .exit)) ≡ 80) × (length (now (xc .exit)) ≡ 80)
-        × Supplied setup (size .width) (size .height) far flow (now (ram .entry)) (now (xa .exit)) (now (xb .exit)) (now (xc .exit)) last
-        × AllRest setup (size .width) (flow .sources) (now (xa .exit)) (now (xb .exit)) (now (xc .exit)) ⌝ }
+    requires { ⌜ Fits (length (now ram)) setup size flow far × AllRest setup (size .width) (flow .sources) (now xa) (now xb) (now xc) ⌝ }
+    ensures { λ last. ⌜ Supplied setup size far flow (now (ram .entry)) (now (xa .exit)) (now (xb .exit)) (now (xc .exit)) last ⌝ }
 {
     let uses = setup.uses;
     let direction = setup.direction;
     let at = flow.pointers;
     let rest = flow.sources;
-    let a = supplied_a(source(uses.a, at.a, far.a, rest.a), setup, ram, size, xa);
-    let b = supplied(
-        source(uses.b, at.b, far.b, rest.b),
-        direction,
-        ram,
-        size,
-        xb,
-    );
-    let c = supplied(
-        source(uses.c, at.c, far.c, rest.c),
-        direction,
-        ram,
-        size,
-        xc,
-    );
+    let from_a = source(uses.a, at.a, far.a, rest.a);
+    let from_b = source(uses.b, at.b, far.b, rest.b);
+    let from_c = source(uses.c, at.c, far.c, rest.c);
+    let a = supplied_a(from_a, setup, ram, size, xa);
+    let b = supplied(from_b, direction, ram, size, xb);
+    let c = supplied(from_c, direction, ram, size, xc);
     Sources { a, b, c }
 }
 
@@ -161,7 +137,7 @@ fn still_nought(allzero: bool, n: usize, o: &Words) -> bool
 // Where a channel's pointer stands so many rows later.
 fn rows_on(used: bool, far: usize, rows: usize, pointer: Pointer) -> Pointer
     requires { ⌜ (pointer .word < pointerEnd) × (far < pointerEnd) × (rows ≤ 64) ⌝ }
-    ensures { λ next. ⌜ next ≡ (if used then record { word = rowAt far (pointer .word) rows } else pointer) ⌝ }
+    ensures { λ next. ⌜ next ≡ rowsOn used far rows pointer ⌝ }
 {
     if used {
         return Pointer {
@@ -171,30 +147,21 @@ fn rows_on(used: bool, far: usize, rows: usize, pointer: Pointer) -> Pointer
     pointer
 }
 
-fn pointers_on(setup: Setup, far: Strides, rows: usize, at: Pointers) -> Pointers
+pub fn pointers_on(setup: Setup, far: Strides, rows: usize, at: Pointers) -> Pointers
     requires { ⌜ (at .a .word < pointerEnd) × (at .b .word < pointerEnd) × (at .c .word < pointerEnd) × (at .d .word < pointerEnd)
         × (far .a < pointerEnd) × (far .b < pointerEnd) × (far .c < pointerEnd) × (far .d < pointerEnd) × (rows ≤ 64) ⌝ }
-    ensures { λ next. ⌜ next ≡ record {
-      a = if setup .uses .a then record { word = rowAt (far .a) (at .a .word) rows } else at .a;
-      b = if setup .uses .b then record { word = rowAt (far .b) (at .b .word) rows } else at .b;
-      c = if setup .uses .c then record { word = rowAt (far .c) (at .c .word) rows } else at .c;
-      d = if setup .uses .d then record { word = rowAt (far .d) (at .d .word) rows } else at .d;
-    } ⌝ }
+    ensures { λ next. ⌜ next ≡ pointersOn setup far rows at ⌝ }
 {
     let uses = setup.uses;
-    let from_a = at.a;
-    let from_b = at.b;
-    let from_c = at.c;
-    let from_d = at.d;
-    let a = rows_on(uses.a, far.a, rows, from_a);
-    let b = rows_on(uses.b, far.b, rows, from_b);
-    let c = rows_on(uses.c, far.c, rows, from_c);
-    let d = rows_on(uses.d, far.d, rows, from_d);
+    let a = rows_on(uses.a, far.a, rows, at.a);
+    let b = rows_on(uses.b, far.b, rows, at.b);
+    let c = rows_on(uses.c, far.c, rows, at.c);
+    let d = rows_on(uses.d, far.d, rows, at.d);
     Pointers { a, b, c, d }
 }
 
 // The count after so many words.
-fn counted(used: bool, stored: u32, words: usize) -> u32
+pub fn counted(used: bool, stored: u32, words: usize) -> u32
     requires { ⌜ (words ≤ 64) × (stored + 64 < 4294967296) ⌝ }
     ensures { λ count. ⌜ count ≡ stored + (if used then words else 0) ⌝ }
 {
@@ -228,15 +195,11 @@ fn made(
     ya: &mut Words,
     o: &mut Words,
 ) -> Made
-    requires { ⌜ Placed (length (now ram)) setup (size .width) (size .height) flow far × (size .height * size .width ≤ 64) × (1 ≤ size .height * size .width)
-        × (length (now xa) ≡ 80) × (length (now xb) ≡ 80) × (length (now xc) ≡ 80)
-        × (length (now ya) ≡ 80) × (length (now o) ≡ 80)
-        × AllRest setup (size .width) (flow .sources) (now xa) (now xb) (now xc)
-        × (ready ≡ true → Prepared setup (size .width) (size .height) flow (now o)) ⌝ }
-    ensures { λ end. ⌜ (length (now (xa .exit)) ≡ 80) × (length (now (xb .exit)) ≡ 80) × (length (now (xc .exit)) ≡ 80)
-        × (length (now (ya .exit)) ≡ 80) × (length (now (o .exit)) ≡ 80)
-        × AllRest setup (size .width) (end .sources) (now (xa .exit)) (now (xb .exit)) (now (xc .exit))
-        × MadeOf setup (size .width) (size .height) far flow (now (ram .entry)) (now (xa .exit)) (now (xb .exit)) (now (xc .exit)) (now (o .exit)) end ⌝ }
+    requires { ⌜ Fits (length (now ram)) setup size flow far
+        × Arrays setup (size .width) (flow .sources) (now xa) (now xb) (now xc) (now ya) (now o)
+        × (ready ≡ true → Prepared setup size flow (now xa) (now xb) (now xc) (now o)) ⌝ }
+    ensures { λ end. ⌜
+        MadeOf setup size far flow (now (ram .entry)) (now (xa .exit)) (now (xb .exit)) (now (xc .exit)) (now (ya .exit)) (now (o .exit)) end ⌝ }
 {
     let before = flow.earlier;
     if ready {
@@ -250,8 +213,9 @@ fn made(
     }
     let sources = sources(ram, setup, far, size, flow, xa, xb, xc);
     let carry = crate::finals::finals(setup, size, before, xa, xb, xc, ya, o);
-    let earlier = last_words(size.height * size.width, xa, xb);
-    let allzero = still_nought(flow.allzero, size.height * size.width, o);
+    let n = size.height * size.width;
+    let earlier = last_words(n, xa, xb);
+    let allzero = still_nought(flow.allzero, n, o);
     Made {
         sources,
         earlier,
@@ -274,17 +238,11 @@ pub fn one_block(
     ya: &mut Words,
     o: &mut Words,
 ) -> Flow
-    requires { ⌜ Placed (length (now ram)) setup (size .width) (size .height) flow far × AllApart setup (size .width) (size .height * size .width) (size .height * size .width) flow
-        × (size .height * size .width ≤ 64) × (1 ≤ size .height * size .width) × (size .height ≤ 64) × (flow .stored + 64 < 4294967296)
-        × (length (now xa) ≡ 80) × (length (now xb) ≡ 80) × (length (now xc) ≡ 80)
-        × (length (now ya) ≡ 80) × (length (now o) ≡ 80)
-        × AllRest setup (size .width) (flow .sources) (now xa) (now xb) (now xc)
-        × (ready ≡ true → Prepared setup (size .width) (size .height) flow (now o)) ⌝ }
-    ensures { λ next. ⌜ (length (now (xa .exit)) ≡ 80) × (length (now (xb .exit)) ≡ 80) × (length (now (xc .exit)) ≡ 80)
-        × (length (now (ya .exit)) ≡ 80) × (length (now (o .exit)) ≡ 80)
-        × AllRest setup (size .width) (next .sources) (now (xa .exit)) (now (xb .exit)) (now (xc .exit))
-        × (state (now (ram .exit)) next ≡ areaBlit setup (size .width) (size .height) (state (now (ram .entry)) flow))
-        × (Still setup → Each (size .height * size .width) (now (o .exit)) (stillAt setup (size .width) (flow .earlier) (flow .sources))) ⌝ }
+    requires { ⌜ Fits (length (now ram)) setup size flow far × (flow .stored + 64 < 4294967296)
+        × Arrays setup (size .width) (flow .sources) (now xa) (now xb) (now xc) (now ya) (now o)
+        × (ready ≡ true → Prepared setup size flow (now xa) (now xb) (now xc) (now o)) ⌝ }
+    ensures { λ next. ⌜ (state (now (ram .exit)) next ≡ areaBlit setup (size .width) (size .height) (state (now (ram .entry)) flow))
+        × MadeOf setup size far flow (now (ram .entry)) (now (xa .exit)) (now (xb .exit)) (now (xc .exit)) (now (ya .exit)) (now (o .exit)) (handed next) ⌝ }
 {
     let uses = setup.uses;
     let at = flow.pointers;

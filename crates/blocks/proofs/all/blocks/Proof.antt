@@ -3,15 +3,12 @@ use Rattle.word.proofs.Base.{refl, needs}
 use Rattle.blocks.proofs.all.blocks.Statement.{statement}
 use Rattle.blocks.proofs.all.blocks.Tie as tie
 
-rest-a-requires : tie.Need-rest-a-requires
-rest-a-requires c κs = (c .before .before .before .before .before .pre .0 .some, c .before .before .before .before .before .pre .0 .narrow, search needs)
-
 block-by-block-requires : tie.Need-block-by-block-requires
 block-by-block-requires c κs =
     let pre = c .before .before .before .before .before .before .before .before .before .before .before .before .before .before .before .before .pre in
-    (pre .0, pre .1, pre .2, pre .3, pre .4, pre .5, pre .6, c .before .before .before .before .before .before .before .before .before .before .rest-a .ensures .0, c .before .before .before .before .before .before .before .before .rest .ensures .0, c .before .before .before .before .before .before .rest2 .ensures .0, refl, refl, record { a = c .before .before .before .before .before .before .before .before .before .before .rest-a .ensures .1; b = c .before .before .before .before .before .before .before .before .rest .ensures .1; c = c .before .before .before .before .before .before .rest2 .ensures .1 })
+    (pre .0, pre .1, pre .2, pre .3, pre .4, pre .5, pre .6, record { rest = record { a = c .before .before .before .before .before .before .before .before .before .before .rest-a .ensures; b = c .before .before .before .before .before .before .before .before .rest .ensures; c = c .before .before .before .before .before .before .rest2 .ensures }; long-y = refl; long-o = refl })
 
 pub blocks-spec : {M : Type 1} → statement M
 blocks-spec =
-    tie.close (tie.spec rest-a-requires (λ c κs. search needs) (λ c κs. search needs) block-by-block-requires
+    tie.close (tie.spec (λ c κs. search needs) (λ c κs. search needs) (λ c κs. search needs) block-by-block-requires
     (λ c. search needs) (λ c. search needs))

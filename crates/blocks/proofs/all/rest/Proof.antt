@@ -1,14 +1,10 @@
 -- `blocks::all::rest` meets its contract: the word laid 64 times.
-use Rattle.blocks.proofs.SuppliedLaws.{rests-not, rests-level}
 use Rattle.word.proofs.Base.{needs}
+use Rattle.blocks.proofs.SuppliedLaws.{rested-used, rested-level}
 use Rattle.blocks.proofs.all.rest.Statement.{statement}
 use Rattle.blocks.proofs.all.rest.Tie as tie
 
-returns : tie.Need-returns
-returns c = (search needs, rests-not _ _ _ _ (search needs))
-
-returns-2 : tie.Need-returns-2
-returns-2 c = (search needs, rests-level _ _ _ _ (c .level .ensures .1))
-
 pub rest-spec : {M : Type 1} → statement M
-rest-spec = tie.close (tie.spec returns (λ c κs. search needs) returns-2)
+rest-spec =
+    tie.close (tie.spec (λ c. rested-used (search needs) (search needs)) (λ c κs. search needs)
+    (λ c. rested-level (c .level .ensures .0) (c .level .ensures .1)))

@@ -1,26 +1,18 @@
 -- `blocks::finals::finals` meets its contract: shifted where the function needs it, mixed, then filled.
 use Rattle.word.proofs.Base.{arith, needs}
-use Rattle.blocks.proofs.FinalsLaws.{results-are, finals-are, finals-carry}
+use Rattle.blocks.proofs.FinalsLaws.{finals-are}
 use Rattle.blocks.proofs.finals.finals.Statement.{statement}
 use Rattle.blocks.proofs.finals.finals.Tie as tie
 
 returns : tie.Need-returns
-returns c = (
-  search needs,
-  search needs,
-  λ a masks.
-      let results = results-are _ _ _ _ _ _ _ _ _ _ _ _ (omega arith) (c .before .before .before .before .before .before .before .before .before .before .needs .ensures) (λ _. c .before .before .before .before .before .unmoved .ensures _) (c .before .before .before .before .before .before .before .before .shift .ensures .1) (c .before .before .before .mix .ensures .1) a masks in
-      (finals-are _ _ _ _ _ a _ _ results _ (c .fill .ensures .2), finals-carry _ _ _ _ _ a _ _ results _ (c .before .before .before .before .before .before .before .before .before .before .before .before .pre .3) (c .fill .ensures .3)),
-)
+returns c =
+    let made = finals-are _ _ _ _ _ _ _ _ _ _ _ _ (omega arith) (c .before .before .before .before .before .before .before .before .before .before .needs .ensures) (λ _. c .before .before .before .before .before .unmoved .ensures _) (c .before .before .before .before .before .before .before .before .shift .ensures .1) (c .before .before .before .mix .ensures .1) _ _ (c .before .before .before .before .before .before .before .before .before .before .before .before .pre .3) (c .fill .ensures .2) (c .fill .ensures .3) in
+    (search needs, search needs, made .0, made .1)
 
 returns-2 : tie.Need-returns-2
-returns-2 c = (
-  search needs,
-  search needs,
-  λ a masks.
-      let results = results-are _ _ _ _ _ _ _ _ _ _ _ _ (omega arith) (c .before .before .before .before .before .before .before .before .before .before .before .before .needs .ensures) (c .before .before .before .before .before .before .shift2 .ensures .1) (c .before .before .before .before .before .before .before .before .before .before .shift .ensures .1) (c .before .before .before .mix2 .ensures .1) a masks in
-      (finals-are _ _ _ _ _ a _ _ results _ (c .fill2 .ensures .2), finals-carry _ _ _ _ _ a _ _ results _ (c .before .before .before .before .before .before .before .before .before .before .before .before .before .before .pre .3) (c .fill2 .ensures .3)),
-)
+returns-2 c =
+    let made = finals-are _ _ _ _ _ _ _ _ _ _ _ _ (omega arith) (c .before .before .before .before .before .before .before .before .before .before .before .before .needs .ensures) (c .before .before .before .before .before .before .shift2 .ensures .1) (c .before .before .before .before .before .before .before .before .before .before .shift .ensures .1) (c .before .before .before .mix2 .ensures .1) _ _ (c .before .before .before .before .before .before .before .before .before .before .before .before .before .before .pre .3) (c .fill2 .ensures .2) (c .fill2 .ensures .3) in
+    (search needs, search needs, made .0, made .1)
 
 pub finals-spec : {M : Type 1} → statement M
 finals-spec =

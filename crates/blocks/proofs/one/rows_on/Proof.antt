@@ -1,9 +1,12 @@
 -- `blocks::one::rows_on` meets its contract: so many strides on.
-use Rattle.word.proofs.Base.{arith, needs}
-use Rattle.word.proofs.ChoiceLaws.{if-when-false}
-use Rattle.blocks.proofs.SuppliedLaws.{rows-far, pointer-on}
+use Rattle.word.proofs.Base.{ℕ, _*_, _<_, _≤_, mul-le-mul, arith, needs}
+use Rattle.word.proofs.ChoiceLaws.{if-when-true, if-when-false}
+use Rattle.blocks.specs.Inner.Block.{pointerEnd, rowAt}
 use Rattle.blocks.proofs.one.rows_on.Statement.{statement}
 use Rattle.blocks.proofs.one.rows_on.Tie as tie
+
+rows-far : (rows far : ℕ) → rows ≤ 64 → far < pointerEnd → rows * far ≤ 64 * pointerEnd
+rows-far rows far few short = mul-le-mul {m₂ = pointerEnd} few (omega arith)
 
 mul-t7 : tie.Need-mul-t7
 mul-t7 c = omega (arith, rows-far _ _ (c .before .before .pre .2) (c .before .before .pre .1))
@@ -12,10 +15,10 @@ add-t8 : tie.Need-add-t8
 add-t8 c = omega (arith, rows-far _ _ (c .before .before .pre .2) (c .before .before .pre .1))
 
 returns : tie.Need-returns
-returns c = search (needs, pointer-on)
-
-returns-2 : tie.Need-returns-2
-returns-2 c = search (needs, if-when-false)
+unfolding rowAt
+returns c = search (needs, if-when-true)
 
 pub rows-on-spec : {M : Type 1} → statement M
-rows-on-spec = tie.close (tie.spec (λ c. search needs) mul-t7 add-t8 (λ c. search needs) returns returns-2)
+rows-on-spec =
+    tie.close (tie.spec (λ c. search needs) mul-t7 add-t8 (λ c. search needs) returns
+    (λ c. search (needs, if-when-false)))

@@ -11,7 +11,7 @@ use crate::types::Terms;
 use crate::types::Words;
 
 // Bit i of the function, spread over a word, is what the sources' setting i gives.
-fn terms(function: u16) -> Terms
+pub fn terms(function: u16) -> Terms
     ensures { λ by. ⌜ by ≡ terms function ⌝ }
 {
     let m0 = function % 2 * 65535;

@@ -38,27 +38,16 @@ unfolding carryTo filled
 carryTo-inclusive start width zero word = refl
 carryTo-inclusive start width (suc k) word = rw (carryTo-inclusive start width k word)
 
-module _ (fill : Fill) (start width n : ℕ) (words : List ℕ) (is : fill ≡ Inclusive) where
-  pub carry-of-inclusive : (carry : ℕ) → carry ≡ filledAt Exclusive start width (at words) (n - 1) .carry → carry ≡ filledAt fill start width (at words) (n - 1) .carry
-  unfolding filledAt filled
-  carry-of-inclusive carry same = rw is (same ∙ rw (carryTo-inclusive start width (n - 1) (at words)))
+pub carry-of-inclusive : (start width k : ℕ) (word : ℕ → ℕ) → filledAt Exclusive start width word k .carry ≡ filledAt Inclusive start width word k .carry
+unfolding filledAt filled
+carry-of-inclusive start width k word = rw (carryTo-inclusive start width k word)
 
-  pub fill-of-inclusive : (filled′ out : List ℕ) → ((j : ℕ) → getD words j 0 < 65536) → Each n filled′ (filledWordAt Exclusive start width (at words))
-      → Each n out (eitherAt (at filled′) (at words)) → Each n out (filledWordAt fill start width (at words))
-  unfolding filledWordAt filledAt filled eitherAt at Each
-  fill-of-inclusive filled′ out small filling all j below =
-      all j below
-      ∙ ap (λ (word : ℕ). bitOr word (getD words j 0)) (filling j below)
-      ∙ rw (is, carryTo-inclusive start width j (at words)) (inclusive-is-or (carryTo Inclusive start width (at words) j) (getD words j 0) (small j))
-
-module _ (fill : Fill) (start width n : ℕ) (words : List ℕ) (is : fill ≡ Exclusive) where
-  pub carry-of-exclusive : (carry : ℕ) → carry ≡ filledAt Exclusive start width (at words) (n - 1) .carry → carry ≡ filledAt fill start width (at words) (n - 1) .carry
-  carry-of-exclusive carry same = rw is same
-
-  pub fill-of-exclusive : (filled′ out : List ℕ) → Each n filled′ (filledWordAt Exclusive start width (at words)) → Each n out (at filled′)
-      → Each n out (filledWordAt fill start width (at words))
-  unfolding Each at
-  fill-of-exclusive filled′ out filling all j below = rw is (all j below ∙ filling j below)
+pub fill-of-inclusive : (start width n : ℕ) (words filled′ out : List ℕ) → ((j : ℕ) → getD words j 0 < 65536) → Each n filled′ (filledWordAt Exclusive start width (at words))
+    → Each n out (eitherAt (at filled′) (at words)) → Each n out (filledWordAt Inclusive start width (at words))
+unfolding filledWordAt filledAt filled eitherAt at Each
+fill-of-inclusive start width n words filled′ out small filling all j below =
+    all j below
+    ∙ rw (filling j below, carryTo-inclusive start width j (at words)) (inclusive-is-or (carryTo Inclusive start width (at words) j) (getD words j 0) (small j))
 
 -- a carry turns a prefix over
 exclusive-carried : (start this : ℕ) → this < 65536 → bitXor (exclusive 0 this) (start % 2 * 65535) ≡ exclusive start this

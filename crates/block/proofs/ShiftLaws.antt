@@ -45,21 +45,13 @@ pair-bits n earlier this few before now =
     below (λ (n : ℕ). this / 2 ^ n + earlier % 2 ^ n * 2 ^ (16 - n) ≡ shifted Ascending n earlier this)
     16 n few ((((((((((((((((tt, omega arith), omega arith), omega arith), omega arith), omega arith), omega arith), omega arith), omega arith), omega arith), omega arith), omega arith), omega arith), omega arith), omega arith), omega arith), omega arith)
 
-pub drawn-up-is : (n earlier this : ℕ) → n < 16 → earlier < 65536 → this < 65536
+pub drawn-up : (n earlier this : ℕ) → n < 16 → earlier < 65536 → this < 65536
     → this / 2 ^ n + earlier * 2 ^ 1 % 2 ^ 16 * 2 ^ (15 - n) % 2 ^ 16 ≡ shifted Ascending n earlier this
-drawn-up-is n earlier this few before now =
+drawn-up n earlier this few before now =
     ap (λ (bits : ℕ). this / 2 ^ n + bits) (low-bits n earlier few before) ∙ pair-bits n earlier this few before now
 
-pub drawn-down-is : (n earlier this : ℕ) → n < 16 → earlier < 65536 → this < 65536
+pub drawn-down : (n earlier this : ℕ) → n < 16 → earlier < 65536 → this < 65536
     → this * 2 ^ n % 2 ^ 16 + earlier / 2 ^ 1 / 2 ^ (15 - n) ≡ shifted Descending n earlier this
-drawn-down-is n earlier this few before now =
+drawn-down n earlier this few before now =
     below (λ (n : ℕ). this * 2 ^ n % 2 ^ 16 + earlier / 2 ^ 1 / 2 ^ (15 - n) ≡ shifted Descending n earlier this)
     16 n few ((((((((((((((((tt, omega arith), omega arith), omega arith), omega arith), omega arith), omega arith), omega arith), omega arith), omega arith), omega arith), omega arith), omega arith), omega arith), omega arith), omega arith), omega arith)
-
--- by the direction
-module _ (direction : Direction) (n earlier this : ℕ) (few : n < 16) (before : earlier < 65536) (now : this < 65536) where
-  pub drawn-up : direction ≡ Ascending → this / 2 ^ n + earlier * 2 ^ 1 % 2 ^ 16 * 2 ^ (15 - n) % 2 ^ 16 ≡ shifted direction n earlier this
-  drawn-up way = rw way (drawn-up-is n earlier this few before now)
-
-  pub drawn-down : direction ≡ Descending → this * 2 ^ n % 2 ^ 16 + earlier / 2 ^ 1 / 2 ^ (15 - n) ≡ shifted direction n earlier this
-  drawn-down way = rw way (drawn-down-is n earlier this few before now)

@@ -1,7 +1,7 @@
 -- Laws of arrays word by word: turns of the loops that set the next word.
-use Rattle.word.proofs.Base.{_≡_, refl, sym, ap, subst, _∙_, ℕ, zero, suc, _+_, _-_, _*_, _<_, _≤_, suc-mul}
+use Rattle.word.proofs.Base.{_≡_, refl, sym, ap, subst, _∙_, ℕ, zero, suc, _+_, _*_, _<_, _≤_, suc-mul}
 use Rattle.word.proofs.Base.{mul-le-mul-right, add-one, decLt, arith, Bool, true, false, _&&_, T, eqb, List, length}
-use Rattle.word.proofs.Base.{getD, set, getD-set-same, getD-set-other, bitOr}
+use Rattle.word.proofs.Base.{getD, set, getD-set-same, getD-set-other, length-set, add-zero, bitOr}
 use native.Mathlib.Nat.{add-assoc}
 use lib.Bits.{or-zero-l, or-add-and, and-le-r}
 use lib.Dec.{eqb·suc-zero}
@@ -21,9 +21,7 @@ each-turn i here words word inside is all j below = by (decLt j i)
   where
     by : Dec (j < i) → getD (set words i here) j 0 ≡ word j
     by (yes earlier) = getD-set-other words i j here 0 (λ same. absurd (omega arith)) ∙ all j earlier
-    by (no later) =
-        let same : j ≡ i = omega arith in
-        ap (λ (j : ℕ). getD (set words i here) j 0) same ∙ getD-set-same words i here 0 inside ∙ is ∙ ap word (sym same)
+    by (no later) = let same : j ≡ i = omega arith in rw same (getD-set-same words i here 0 inside ∙ is)
 
 pub each-fewer : (i n : ℕ) (words : List ℕ) (word : ℕ → ℕ) → n ≤ i → Each i words word → Each n words word
 unfolding Each
@@ -42,7 +40,7 @@ pub each-same : (n : ℕ) (words : List ℕ) (word same : ℕ → ℕ) → ((j :
 unfolding Each
 each-same n words word same is all j below = all j below ∙ is j below
 
--- a loop that sets words in place
+-- from some word on all are as they were
 pub kept-all : (i : ℕ) (words : List ℕ) → Kept i words words
 unfolding Kept
 kept-all i words j past = refl
@@ -51,56 +49,49 @@ pub kept-turn : (i here : ℕ) (words before : List ℕ) → Kept i words before
 unfolding Kept
 kept-turn i here words before kept j past = getD-set-other words i j here 0 (λ same. absurd (omega arith)) ∙ kept j (omega arith)
 
-pub kept-next : (s i here : ℕ) (words before : List ℕ) → Kept (s + i) words before → Kept (s + (i + 1)) (set words (s + i) here) before
-kept-next s i here words before kept = rw (← add-assoc s i 1) (kept-turn (s + i) here words before kept)
+-- a loop has set the first i of n words
+pub record SetTo (n i : ℕ) (words : List ℕ) (word : ℕ → ℕ) : Type 0 where
+  pub most : i ≤ n
+  pub long : length words ≡ 80
+  pub each : Each i words word
 
-pub kept-fewer : (i n : ℕ) (words before : List ℕ) → i ≤ n → Kept i words before → Kept n words before
-unfolding Kept
-kept-fewer i n words before most kept j past = kept j (omega arith)
+pub set-none : {n : ℕ} {words : List ℕ} {word : ℕ → ℕ} → length words ≡ 80 → SetTo n 0 words word
+set-none long = record { most = omega arith; long = long; each = each-none _ _ }
 
-pub kept-over : (s n : ℕ) (words before after : List ℕ) → Kept (s + n) after words → Kept s words before → Kept (s + n) after before
-unfolding Kept
-kept-over s n words before after later kept j past = later j past ∙ kept j (omega arith)
+pub set-turn : {n i here : ℕ} {words : List ℕ} {word : ℕ → ℕ} → i < n → n ≤ 80 → here ≡ word i → SetTo n i words word → SetTo n (i + 1) (set words i here) word
+set-turn {i = i} {here = here} {words = words} below room is so-far =
+    record { most = omega arith; long = length-set words i here ∙ so-far .long; each = each-turn i here words _ (omega arith) is (so-far .each) }
 
-pub kept-here : (i : ℕ) (words before : List ℕ) → Kept i words before → getD words i 0 ≡ getD before i 0
+pub set-done : {n i : ℕ} {words : List ℕ} {word : ℕ → ℕ} → n ≤ i → SetTo n i words word → (length words ≡ 80) × Each n words word
+set-done all so-far = (so-far .long, each-fewer _ _ _ _ all (so-far .each))
+
+-- and the others are as they were
+pub record PutTo (n i : ℕ) (words before : List ℕ) (word : ℕ → ℕ) : Type 0 where
+  pub sets : SetTo n i words word
+  pub kept : Kept i words before
+
+pub put-none : {n : ℕ} {words : List ℕ} {word : ℕ → ℕ} → length words ≡ 80 → PutTo n 0 words words word
+put-none long = record { sets = set-none long; kept = kept-all _ _ }
+
+pub put-turn : {n i here : ℕ} {words before : List ℕ} {word : ℕ → ℕ} → i < n → n ≤ 80 → (getD words i 0 ≡ getD before i 0 → here ≡ word i)
+    → PutTo n i words before word → PutTo n (i + 1) (set words i here) before word
 unfolding Kept
-kept-here i words before kept = kept i (omega arith)
+put-turn {i = i} {here = here} {words = words} {before = before} below room is so-far =
+    record { sets = set-turn below room (is (so-far .kept i (omega arith))) (so-far .sets); kept = kept-turn i here words before (so-far .kept) }
 
 -- a row laid to its place in an array
-pub laid-none : (s : ℕ) (words : List ℕ) (word : ℕ → ℕ) → Laid s 0 words words word
+pub laid-none : (s : ℕ) (words : List ℕ) (row : ℕ → ℕ) → Laid s 0 words words row
 unfolding Laid
-laid-none s words word = (λ j below. refl, λ i below. absurd (omega arith))
+laid-none s words row word all is = rw (add-zero s) all
 
-pub laid-turn : (s i here : ℕ) (words before : List ℕ) (word : ℕ → ℕ) → s + i < length words → here ≡ word i
-    → Laid s i words before word → Laid s (i + 1) (set words (s + i) here) before word
+pub laid-turn : (s i here : ℕ) (words before : List ℕ) (row : ℕ → ℕ) → s + i < length words → here ≡ row i
+    → Laid s i words before row → Laid s (i + 1) (set words (s + i) here) before row
 unfolding Laid
-laid-turn s i here words before word inside is all = (
-  λ j below. getD-set-other words (s + i) j here 0 (λ same. absurd (omega arith)) ∙ all .0 j below,
-  λ j below. by j below (decLt j i),
-)
-  where
-    by : (j : ℕ) → j < i + 1 → Dec (j < i) → getD (set words (s + i) here) (s + j) 0 ≡ word j
-    by j below (yes earlier) = getD-set-other words (s + i) (s + j) here 0 (λ same. absurd (omega arith)) ∙ all .1 j earlier
-    by j below (no later) =
-        let same : j ≡ i = omega arith in
-        ap (λ (j : ℕ). getD (set words (s + i) here) (s + j) 0) same ∙ getD-set-same words (s + i) here 0 inside ∙ is ∙ ap word (sym same)
+laid-turn s i this words before row inside here so-far word all is =
+    rw (← add-assoc s i 1) (each-turn (s + i) this words word inside (here ∙ is i (omega arith)) (so-far word all (λ j below. is j (omega arith))))
 
-pub laid-fewer : (s i n : ℕ) (words before : List ℕ) (word : ℕ → ℕ) → n ≤ i → Laid s i words before word → Laid s n words before word
-unfolding Laid
-laid-fewer s i n words before word most all = (all .0, λ j below. all .1 j (omega arith))
-
--- a sequence up to s, and a row from there on
-pub each-of-laid : (s n : ℕ) (words before : List ℕ) (word row : ℕ → ℕ) → ((i : ℕ) → i < n → row i ≡ word (s + i))
-    → Each s before word → Laid s n words before row → Each (s + n) words word
-unfolding Each Laid
-each-of-laid s n words before word row is all laid j below = by (decLt j s)
-  where
-    by : Dec (j < s) → getD words j 0 ≡ word j
-    by (yes early) = laid .0 j early ∙ all j early
-    by (no late) = split (j - s) (omega arith)
-      where
-        split : (i : ℕ) → j ≡ s + i → getD words j 0 ≡ word j
-        split i this = ap (λ (j : ℕ). getD words j 0) this ∙ laid .1 i (omega arith) ∙ is i (omega arith) ∙ ap word (sym this)
+pub laid-done : (s i n : ℕ) (words before : List ℕ) (row : ℕ → ℕ) → i ≤ n → n ≤ i → Laid s i words before row → Laid s n words before row
+laid-done s i n words before row most least so-far = let end : i ≡ n = omega arith in rw end at so-far
 
 -- nought, as long as every word is
 or-nought : (any word : ℕ) → (eqb any 0 && eqb word 0) ≡ eqb (bitOr any word) 0
@@ -130,19 +121,23 @@ nought-turn all i words so-far = rw add-one (sym (or-nought all (getD words i 0)
 pub nought-done : (all i n : ℕ) (words : List ℕ) → i ≤ n → n ≤ i → eqb all 0 ≡ nought i (at words) → eqb all 0 ≡ nought n (at words)
 nought-done all i n words most least told = let is : i ≡ n = omega arith in told ∙ ap (λ (n : ℕ). nought n (at words)) is
 
--- the numbers of the next row
-pub s-next : (width row s : ℕ) → s ≡ row * width → s + width ≡ (row + 1) * width
-s-next width row s is = rw (add-one row, suc-mul row width) (ap (λ (s : ℕ). s + width) is)
+-- a loop has come to a row, which starts at word s
+pub record Reached (width rows row s : ℕ) : Type 0 where
+  pub most : row ≤ rows
+  pub room : rows * width ≤ 64
+  pub here : s ≡ row * width
 
-pub s-room : (width rows row s : ℕ) → rows * width ≤ 64 → row < rows → s ≡ row * width → s + width ≤ 64
-s-room width rows row s room below is =
-    let fits : suc row * width ≤ rows * width = mul-le-mul-right width below in
-    omega (arith, suc-mul row width)
+pub reached-none : {width rows : ℕ} → rows * width ≤ 64 → Reached width rows 0 0
+reached-none room = record { most = omega arith; room = room; here = omega arith }
 
-pub s-most : (width rows row s : ℕ) → row < rows → s ≡ row * width → s + width ≤ rows * width
-s-most width rows row s below is =
-    let fits : suc row * width ≤ rows * width = mul-le-mul-right width below in
-    omega (arith, suc-mul row width)
+module _ {width rows row s : ℕ} (reached : Reached width rows row s) where
+  pub reached-fits : row < rows → s + width ≤ rows * width
+  reached-fits below =
+      let fits : suc row * width ≤ rows * width = mul-le-mul-right width below in
+      omega (arith, suc-mul row width)
 
-pub s-done : (width rows row s : ℕ) → row ≤ rows → rows ≤ row → s ≡ row * width → s ≡ rows * width
-s-done width rows row s most least is = let end : row ≡ rows = omega arith in is ∙ ap (λ (row : ℕ). row * width) end
+  pub reached-turn : row < rows → Reached width rows (row + 1) (s + width)
+  reached-turn below = record { most = omega arith; room = reached .room; here = rw (add-one row) (omega (arith, suc-mul row width)) }
+
+  pub reached-done : rows ≤ row → s ≡ rows * width
+  reached-done least = let end : row ≡ rows = omega arith in rw end at (reached .here)

@@ -5,6 +5,5 @@ pub mod ShiftLaws
 pub mod IgnoresLaws
 pub mod TermsLaws
 pub mod MixLaws
-pub mod CarryLaws
 pub mod FillLaws
 pub mod PlaceLaws

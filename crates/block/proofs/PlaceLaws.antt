@@ -11,7 +11,7 @@ use Rattle.quiet.proofs.StreamLaws.{row-of, word-of}
 use Rattle.block.specs.declared.types.Size.{Size}
 use Rattle.block.specs.Inner.Each.{at, fromAt, Each, Laid}
 use Rattle.block.specs.Inner.Place.{rowAt, placeIn, Reaches, placeAt, EvenRows, Lies, fetchedIn, fetchedAt}
-use Rattle.block.proofs.EachLaws.{laid-turn, each-of-laid}
+use Rattle.block.proofs.EachLaws.{laid-turn, Reached, reached-none, reached-turn}
 
 -- rows start evenly
 pub rowAt-first : (far from : ℕ) → from < pointerEnd → from ≡ rowAt far from 0
@@ -38,11 +38,25 @@ pub rowAt-lt : (far from row : ℕ) → rowAt far from row < pointerEnd
 unfolding rowAt
 rowAt-lt far from row = omega arith
 
--- a row of them
-pub even-row : (n length : ℕ) (direction : Direction) (width far from rows row start : ℕ) → length ≡ n → EvenRows n direction width far from rows → row < rows
-    → start ≡ rowAt far from row → RowInside length direction width (record { word = start })
-unfolding EvenRows
-even-row n length direction width far from rows row start kept inside below is = rw (kept, is) (inside row below)
+-- a loop has come to a row of them
+pub record Walks (size : Size) (far from start s number : ℕ) : Type 0 where
+  pub rows : Reached (size .width) (size .height) number s
+  pub small : start < pointerEnd
+  pub starts : start ≡ rowAt far from number
+
+module _ {n : ℕ} {direction : Direction} {far from : ℕ} {size : Size} (lies : Lies n direction far from size) where
+  pub walks-none : Walks size far from from 0 0
+  walks-none = record { rows = reached-none (lies .room); small = lies .starts; starts = rowAt-first far from (lies .starts) }
+
+  pub walks-inside : {length start s number : ℕ} → length ≡ n → number < size .height → Walks size far from start s number
+      → RowInside length direction (size .width) (record { word = start })
+  unfolding EvenRows
+  walks-inside kept below walks = rw (kept, walks .starts) (lies .inside _ below)
+
+pub walks-turn : {size : Size} {far from start s number : ℕ} → number < size .height → Walks size far from start s number
+    → Walks size far from ((start + far) % pointerEnd) (s + size .width) (number + 1)
+walks-turn below walks =
+    record { rows = reached-turn (walks .rows) below; small = omega arith; starts = rowAt-next _ _ _ _ (walks .starts) }
 
 -- a word of a row
 pub place-reaches : (n width start word : ℕ) (direction : Direction) → RowInside n direction width (record { word = start }) → word < width → n < 18446744073709551616
@@ -94,41 +108,34 @@ unfolding laidAt fromAt
 store-turn memory before words direction start s i place at is = rw (add-one, is, at)
 
 -- and row by row
-module _ (direction : Direction) (width far from row start : ℕ) (is : start ≡ rowAt far from row) where
-  placeAt-here : (i s : ℕ) → i < width → s ≡ row * width → placeAt direction width far from (s + i) ≡ placeIn direction start i
-  unfolding placeAt
-  placeAt-here i s short at-s =
-      rw (row-of width row i (s + i) short (ap (λ (s : ℕ). s + i) at-s), word-of width row i (s + i) short (ap (λ (s : ℕ). s + i) at-s), is)
+placeAt-here : {size : Size} {far from start s number : ℕ} (direction : Direction) (i : ℕ) → i < size .width → Walks size far from start s number
+    → placeAt direction (size .width) far from (s + i) ≡ placeIn direction start i
+unfolding placeAt
+placeAt-here {size = size} {s = s} {number = number} direction i short walks =
+    rw (row-of (size .width) number i (s + i) short (omega arith), word-of (size .width) number i (s + i) short (omega arith), walks .starts)
 
-  pub fetch-rows-turn : (s : ℕ) (words before memory : List ℕ) → s ≡ row * width
-      → Each s before (fetchedAt direction width far from memory) → Laid s width words before (fetchedIn direction memory start)
-      → Each (s + width) words (fetchedAt direction width far from memory)
-  unfolding fetchedIn fetchedAt
-  fetch-rows-turn s words before memory at-s all laid =
-      each-of-laid s width words before _ _ (λ i short. ap (λ (place : ℕ). getD memory place 0) (sym (placeAt-here i s short at-s))) all laid
+module _ {size : Size} {far from start s number : ℕ} (direction : Direction) (words before : List ℕ) where
+  pub fetch-rows-turn : (memory : List ℕ) → Walks size far from start s number
+      → Each s before (fetchedAt direction (size .width) far from memory) → Laid s (size .width) words before (fetchedIn direction memory start)
+      → Each (s + size .width) words (fetchedAt direction (size .width) far from memory)
+  unfolding fetchedIn fetchedAt Laid
+  fetch-rows-turn memory walks all laid =
+      laid _ all (λ i short. ap (λ (place : ℕ). getD memory place 0) (sym (placeAt-here direction i short walks)))
 
-  pub store-rows-turn : (s : ℕ) (words memory before after : List ℕ) → s ≡ row * width
-      → memory ≡ laidAt (placeAt direction width far from) (at words) s before
-      → after ≡ laidAt (placeIn direction start) (fromAt s words) width memory
-      → after ≡ laidAt (placeAt direction width far from) (at words) (s + width) before
+  pub store-rows-turn : (memory after : List ℕ) → Walks size far from start s number
+      → memory ≡ laidAt (placeAt direction (size .width) far from) (at words) s before
+      → after ≡ laidAt (placeIn direction start) (fromAt s words) (size .width) memory
+      → after ≡ laidAt (placeAt direction (size .width) far from) (at words) (s + size .width) before
   unfolding at fromAt
-  store-rows-turn s words memory before after at-s so-far puts =
+  store-rows-turn memory after walks so-far puts =
       puts
-      ∙ ap (laidAt (placeIn direction start) (fromAt s words) width) so-far
-      ∙ laidAt-same (placeIn direction start) (λ i. placeAt direction width far from (s + i)) (fromAt s words) (λ i. at words (s + i)) width _
-      (λ i short. sym (placeAt-here i s short at-s)) (λ i short. refl)
-      ∙ sym (laidAt-more (placeAt direction width far from) (at words) s width before)
+      ∙ ap (laidAt (placeIn direction start) (fromAt s words) (size .width)) so-far
+      ∙ laidAt-same (placeIn direction start) (λ i. placeAt direction (size .width) far from (s + i)) (fromAt s words) (λ i. at words (s + i)) (size .width) _
+      (λ i short. sym (placeAt-here direction i short walks)) (λ i short. refl)
+      ∙ sym (laidAt-more (placeAt direction (size .width) far from) (at words) s (size .width) before)
 
 -- a width that is known
-module _ (size : Size) (known : ℕ) (is : size .width ≡ known) (direction : Direction) (far from : ℕ) where
-  pub lies-when : (n : ℕ) → Lies n direction far from size → Lies n direction far from (record { width = known; height = size .height })
-  lies-when n lies =
-      record { inside = rw is at (lies .inside); room = rw is at (lies .room); some = rw is at (lies .some); starts = lies .starts; strides = lies .strides }
-
-  pub fetch-rows-when : (words memory : List ℕ) → Each (size .height * known) words (fetchedAt direction known far from memory)
-      → Each (size .height * size .width) words (fetchedAt direction (size .width) far from memory)
-  fetch-rows-when words memory all = rw is all
-
-  pub store-rows-when : (word : ℕ → ℕ) (after before : List ℕ) → after ≡ laidAt (placeAt direction known far from) word (size .height * known) before
-      → after ≡ laidAt (placeAt direction (size .width) far from) word (size .height * size .width) before
-  store-rows-when word after before all = rw is all
+pub lies-when : {n : ℕ} {direction : Direction} {far from known : ℕ} {size : Size} → size .width ≡ known → Lies n direction far from size
+    → Lies n direction far from (record { width = known; height = size .height })
+lies-when is lies =
+    record { inside = rw is at (lies .inside); room = rw is at (lies .room); some = rw is at (lies .some); starts = lies .starts; strides = lies .strides }

@@ -1,29 +1,13 @@
 -- Laws of the shift of an array's words.
-use Rattle.word.proofs.Base.{_≡_, sym, ap, _∙_, ℕ, zero, suc, _+_, _-_, _*_, _/_, _%_, _^_, _<_, add-one, arith}
-use Rattle.word.proofs.Base.{subst, decLt, List, length, getD, set}
+use Rattle.word.proofs.Base.{_≡_, sym, ap, _∙_, ℕ, zero, suc, _+_, _-_, _*_, _/_, _%_, _^_, _<_, arith}
+use Rattle.word.proofs.Base.{subst, decLt, List, getD}
 use Rattle.word.specs.declared.types.Direction.{Direction}
 use Rattle.word.specs.declared.types.Direction.the-variants.{Ascending, Descending}
 use Rattle.word.specs.Shift.{shifted}
 use Rattle.word.proofs.ShiftLaws.{shifted-by-zero}
 use Rattle.quiet.specs.Words.{wordBefore, shiftedAt}
 use Rattle.block.specs.Inner.Each.{at, Each}
-use Rattle.block.proofs.EachLaws.{each-none, each-turn, each-same}
-
--- the first word with the one before the block, each other with the one before it
-module _ (direction : Direction) (by earlier here : ℕ) (words shifts : List ℕ) where
-  pub shift-first : 0 < length shifts → here ≡ shifted direction by earlier (getD words 0 0)
-      → Each 1 (set shifts 0 here) (shiftedAt direction by earlier (at words))
-  unfolding wordBefore shiftedAt at
-  shift-first inside is = each-turn 0 here shifts _ inside is (each-none shifts _)
-
-  pub shift-turn : (i : ℕ) → i + 1 < length shifts → here ≡ shifted direction by (getD words i 0) (getD words (i + 1) 0)
-      → Each (i + 1) shifts (shiftedAt direction by earlier (at words))
-      → Each (i + 1 + 1) (set shifts (i + 1) here) (shiftedAt direction by earlier (at words))
-  unfolding wordBefore shiftedAt at
-  shift-turn i inside is all = each-turn (i + 1) here shifts _ inside (is ∙ rw (before-next i)) all
-    where
-      before-next : (i : ℕ) → wordBefore earlier (at words) (i + 1) ≡ getD words i 0
-      before-next i = rw add-one
+use Rattle.block.proofs.EachLaws.{each-same}
 
 -- a shift by nought
 pub shift-of-nought : (direction : Direction) (by earlier n : ℕ) (words shifts : List ℕ) → by ≡ 0 → earlier < 65536 → ((j : ℕ) → getD words j 0 < 65536)
@@ -61,21 +45,13 @@ pair-bits n earlier this few before now =
     below (λ (n : ℕ). this / 2 ^ n + earlier % 2 ^ n * 2 ^ (16 - n) ≡ shifted Ascending n earlier this)
     16 n few ((((((((((((((((tt, omega arith), omega arith), omega arith), omega arith), omega arith), omega arith), omega arith), omega arith), omega arith), omega arith), omega arith), omega arith), omega arith), omega arith), omega arith), omega arith)
 
-pub drawn-up-is : (n earlier this : ℕ) → n < 16 → earlier < 65536 → this < 65536
+pub drawn-up : (n earlier this : ℕ) → n < 16 → earlier < 65536 → this < 65536
     → this / 2 ^ n + earlier * 2 ^ 1 % 2 ^ 16 * 2 ^ (15 - n) % 2 ^ 16 ≡ shifted Ascending n earlier this
-drawn-up-is n earlier this few before now =
+drawn-up n earlier this few before now =
     ap (λ (bits : ℕ). this / 2 ^ n + bits) (low-bits n earlier few before) ∙ pair-bits n earlier this few before now
 
-pub drawn-down-is : (n earlier this : ℕ) → n < 16 → earlier < 65536 → this < 65536
+pub drawn-down : (n earlier this : ℕ) → n < 16 → earlier < 65536 → this < 65536
     → this * 2 ^ n % 2 ^ 16 + earlier / 2 ^ 1 / 2 ^ (15 - n) ≡ shifted Descending n earlier this
-drawn-down-is n earlier this few before now =
+drawn-down n earlier this few before now =
     below (λ (n : ℕ). this * 2 ^ n % 2 ^ 16 + earlier / 2 ^ 1 / 2 ^ (15 - n) ≡ shifted Descending n earlier this)
     16 n few ((((((((((((((((tt, omega arith), omega arith), omega arith), omega arith), omega arith), omega arith), omega arith), omega arith), omega arith), omega arith), omega arith), omega arith), omega arith), omega arith), omega arith), omega arith)
-
--- by the direction
-module _ (direction : Direction) (n earlier this : ℕ) (few : n < 16) (before : earlier < 65536) (now : this < 65536) where
-  pub drawn-up : direction ≡ Ascending → this / 2 ^ n + earlier * 2 ^ 1 % 2 ^ 16 * 2 ^ (15 - n) % 2 ^ 16 ≡ shifted direction n earlier this
-  drawn-up way = rw way (drawn-up-is n earlier this few before now)
-
-  pub drawn-down : direction ≡ Descending → this * 2 ^ n % 2 ^ 16 + earlier / 2 ^ 1 / 2 ^ (15 - n) ≡ shifted direction n earlier this
-  drawn-down way = rw way (drawn-down-is n earlier this few before now)

@@ -11,30 +11,15 @@ ghost use Rattle.block.specs.Inner.Carry.{RowFilled, RowsFilled};
 use crate::types::Words;
 use word::types::Fill;
 
-// Its promise tells the loop that what it read is a word.
-fn prefix(this: u16) -> u16
-    ensures { λ word. ⌜ (word ≡ exclusive 0 this) × (this < 65536) ⌝ }
-{
-    let made = word::fill::filled(Fill::Exclusive, 0, this);
-    made.word
-}
-
 fn prefixes(n: usize, o: &Words, q: &mut Words)
     requires { ⌜ (n ≤ 80) × (length (now q) ≡ 80) ⌝ }
     ensures { λ _. ⌜ (length (now (q .exit)) ≡ 80) × Each n (now (q .exit)) (prefixAt (at (now (o .entry)))) ⌝ }
 {
     let mut i: usize = 0;
     while i < n {
-        q[i] = prefix(o[i]);
+        q[i] = word::fill::filled(Fill::Exclusive, 0, o[i]).word;
         i = i + 1;
     }
-}
-
-// A carry turns a whole word over.
-fn turned(word: u16, over: u16) -> u16
-    ensures { λ made. ⌜ made ≡ bitXor word over ⌝ }
-{
-    word ^ over
 }
 
 // The next word's carry is the top bit.
@@ -44,15 +29,15 @@ fn spread(word: u16) -> u16
     word / 32768 * 65535
 }
 
+// A carry turns a whole word over.
 fn carry_row(start: u16, width: usize, s: usize, q: &mut Words) -> u16
     requires { ⌜ (s + width ≤ 80) × (length (now q) ≡ 80) ⌝ }
-    ensures { λ over. ⌜ (length (now (q .exit)) ≡ 80) × Kept (s + width) (now (q .exit)) (now (q .entry))
-        × RowFilled start width s width over (now (q .exit)) (now (q .entry)) ⌝ }
+    ensures { λ over. ⌜ RowFilled start width s width over (now (q .exit)) (now (q .entry)) ⌝ }
 {
     let mut over = start % 2 * 65535;
     let mut i: usize = 0;
     while i < width {
-        let word = turned(q[s + i], over);
+        let word = q[s + i] ^ over;
         q[s + i] = word;
         over = spread(word);
         i = i + 1;
@@ -63,8 +48,7 @@ fn carry_row(start: u16, width: usize, s: usize, q: &mut Words) -> u16
 // Each row's carry starts at carry-in.
 fn carry_rows(start: u16, width: usize, rows: usize, q: &mut Words) -> u16
     requires { ⌜ (1 ≤ width) × (rows * width ≤ 64) × (length (now q) ≡ 80) ⌝ }
-    ensures { λ over. ⌜ (length (now (q .exit)) ≡ 80)
-        × RowsFilled start width (rows * width) (rows * width) over (now (q .exit)) (now (q .entry)) ⌝ }
+    ensures { λ over. ⌜ RowsFilled start width (rows * width) (rows * width) over (now (q .exit)) (now (q .entry)) ⌝ }
 {
     let mut over = 0;
     let mut s: usize = 0;

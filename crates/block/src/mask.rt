@@ -26,20 +26,6 @@ fn mask_row(masks: Masks, s: usize, width: usize, x: &mut Words)
     x[last] = x[last] & masks.last;
 }
 
-fn mask_rows(masks: Masks, width: usize, rows: usize, x: &mut Words)
-    requires { ⌜ (1 ≤ width) × (rows * width ≤ 64) × (length (now x) ≡ 80) ⌝ }
-    ensures { λ _. ⌜ (length (now (x .exit)) ≡ 80)
-        × Each (rows * width) (now (x .exit)) (maskedAt masks width (at (now (x .entry)))) ⌝ }
-{
-    let mut s: usize = 0;
-    let mut row: usize = 0;
-    while row < rows {
-        mask_row(masks, s, width, x);
-        s = s + width;
-        row = row + 1;
-    }
-}
-
 // Masks of all ones leave A as it is.
 pub fn mask(masks: Masks, width: usize, rows: usize, x: &mut Words)
     requires { ⌜ (1 ≤ width) × (rows * width ≤ 64) × (length (now x) ≡ 80) ⌝ }
@@ -50,5 +36,11 @@ pub fn mask(masks: Masks, width: usize, rows: usize, x: &mut Words)
         first_word(x);
         return;
     }
-    mask_rows(masks, width, rows, x);
+    let mut s: usize = 0;
+    let mut row: usize = 0;
+    while row < rows {
+        mask_row(masks, s, width, x);
+        s = s + width;
+        row = row + 1;
+    }
 }

@@ -49,35 +49,13 @@ pub fn narrow_rows(direction: Direction, ram: &mut [u16], course: Course, size: 
         now (ram .exit)
         ≡ laidAt (placeAt direction (size .width) (course .far) (course .from)) (at (now (x .entry))) (size .height * size .width) (now (ram .entry)) ⌝ }
 {
+    let from = course.from;
+    let far = course.far;
     let height = size.height;
-    if size.width == 1 {
-        rows(
-            direction,
-            ram,
-            course.from,
-            course.far,
-            Size { width: 1, height },
-            x,
-        );
-        return;
+    let width = size.width;
+    match width {
+        1 => rows(direction, ram, from, far, Size { width: 1, height }, x),
+        2 => rows(direction, ram, from, far, Size { width: 2, height }, x),
+        _ => rows(direction, ram, from, far, Size { width: 3, height }, x),
     }
-    if size.width == 2 {
-        rows(
-            direction,
-            ram,
-            course.from,
-            course.far,
-            Size { width: 2, height },
-            x,
-        );
-        return;
-    }
-    rows(
-        direction,
-        ram,
-        course.from,
-        course.far,
-        Size { width: 3, height },
-        x,
-    );
 }

@@ -5,9 +5,11 @@ use Rattle.word.proofs.Base.{getD-set-other}
 use native.Mathlib.Nat.{mul-add-div-right, mul-add-mod-self-right, div-eq-of-lt}
 use Rattle.word.specs.declared.types.Direction.{Direction}
 use Rattle.word.specs.declared.types.Pointer.{Pointer}
+use Rattle.word.specs.declared.types.Fill.{Fill}
 use Rattle.word.specs.Repeat.{repeated}
 use Rattle.word.specs.Pointer.{moved, nextRow}
 use Rattle.area.specs.Move.{stepped, turned}
+use Rattle.quiet.specs.Words.{carryTo, filledAt}
 use Rattle.quiet.specs.Stream.{standing, laidAt}
 
 -- one step more comes last as well as first
@@ -30,6 +32,16 @@ word-of width row word k short is =
     ap (λ (k : ℕ). k % width) is
     ∙ mul-add-mod-self-right row width word
     ∙ mod-eq-of-lt short
+
+-- the carry that comes to the first word of a row, and to another
+pub carryTo-first : (fill : Fill) (start width k : ℕ) (word : ℕ → ℕ) → k % width ≡ 0 → carryTo fill start width word k ≡ start
+unfolding carryTo
+carryTo-first fill start width zero word first = refl
+carryTo-first fill start width (suc k) word first = rw (eq-eqb (suc k % width) 0 first)
+
+pub carryTo-next : (fill : Fill) (start width k : ℕ) (word : ℕ → ℕ) → (suc k % width ≡ 0 → ⊥) → carryTo fill start width word (suc k) ≡ filledAt fill start width word k .carry
+unfolding carryTo filledAt
+carryTo-next fill start width k word on = rw (ne-eqb (suc k % width) 0 on)
 
 -- a word on, and a row on
 module _ (direction : Direction) (width modulo row : ℕ) (pointer : Pointer) where

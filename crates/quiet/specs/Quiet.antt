@@ -14,7 +14,7 @@ use Rattle.area.specs.Fetch.{fetched}
 use Rattle.area.specs.Flow.{state, nothing}
 use Rattle.area.specs.Rows.{areaBlit}
 use Rattle.quiet.specs.Words.{wordBefore, maskedAt, finalAt}
-use Rattle.quiet.specs.Stream.{standing, atA, atB, atC, atD, wordA, wordB, wordC, finals, finalWord, laidAt}
+use Rattle.quiet.specs.Stream.{standing, atA, atB, atC, atD, wordA, wordB, wordC, laidAt}
 
 -- of the first so many words a used source fetches none where D stored an earlier one, but for the word before
 unfoldable pub Unmet : (stores used : Bool) → (place fetches : ℕ → Pointer) → (words : ℕ) → Type 0

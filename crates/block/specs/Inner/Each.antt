@@ -29,11 +29,10 @@ Each n words word = (j : ℕ) → j < n → getD words j 0 ≡ word j
 unfoldable pub Kept : (i : ℕ) → (words before : List ℕ) → Type 0
 Kept i words before = (j : ℕ) → i ≤ j → getD words j 0 ≡ getD before j 0
 
--- the first s are as they were, and the next n those of a sequence
-unfoldable pub Laid : (s n : ℕ) → (words before : List ℕ) → (word : ℕ → ℕ) → Type 0
-Laid s n words before word =
-    ((j : ℕ) → j < s → getD words j 0 ≡ getD before j 0)
-    × ((i : ℕ) → i < n → getD words (s + i) 0 ≡ word i)
+-- where the first s were those of a sequence whose next n are a row's, the first s + n are
+unfoldable pub Laid : (s n : ℕ) → (words before : List ℕ) → (row : ℕ → ℕ) → Type 0
+Laid s n words before row =
+    (word : ℕ → ℕ) → Each s before word → ((i : ℕ) → i < n → row i ≡ word (s + i)) → Each (s + n) words word
 
 -- the same word all along
 unfoldable pub levelAt : (word j : ℕ) → ℕ

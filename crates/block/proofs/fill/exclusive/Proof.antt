@@ -5,17 +5,8 @@ use Rattle.block.proofs.FillLaws.{exclusive-words, exclusive-carry}
 use Rattle.block.proofs.fill.exclusive.Statement.{statement}
 use Rattle.block.proofs.fill.exclusive.Tie as tie
 
-returns : tie.Need-returns
-returns c =
-    let some = c .before .before .before .before .before .before .pre .1 in
-    let small = c .before .before .before .before .first-word .ensures in (
-      search needs,
-      exclusive-words _ _ _ _ _ _ _ some small (each-fewer _ _ _ _ (omega arith) (c .before .before .prefixes .ensures .1)) (c .carry-rows .ensures .1),
-      exclusive-carry _ _ _ _ _ _ _ some small (each-fewer _ _ _ _ (omega arith) (c .before .before .prefixes .ensures .1)) (c .carry-rows .ensures .1),
-      small,
-    )
-
 pub exclusive-spec : {M : Type 1} → statement M
 exclusive-spec =
     tie.close (tie.spec (λ c κs. search needs) (λ c. search needs) (λ c. search needs) (λ c. search needs)
-    (λ c κs. search needs) (λ c κs. search needs) returns)
+    (λ c κs. search needs) (λ c κs. search needs)
+    (λ c. let some = c .before .before .before .before .before .before .pre .1 in let small = c .before .before .before .before .first-word .ensures in let all = each-fewer _ _ _ _ (omega arith) (c .before .before .prefixes .ensures .1) in (search needs, exclusive-words _ _ _ _ _ _ _ some small all (c .carry-rows .ensures), exclusive-carry _ _ _ _ _ _ _ some small all (c .carry-rows .ensures), small)))

@@ -1,27 +1,17 @@
 -- `block::fill::prefixes` meets its contract: each turn fills one word more.
-use Rattle.word.proofs.Base.{_≡_, _-_, _≤_, needs, length}
-use Rattle.block.specs.Inner.Each.{Each, prefixAt, at}
-use Rattle.block.proofs.EachLaws.{each-turn, each-none, each-fewer}
+use Rattle.word.proofs.Base.{ap, _-_, needs}
+use Rattle.word.specs.declared.types.Filled.{Filled}
+use Rattle.word.specs.Fill.{filled}
+use Rattle.block.specs.Inner.Each.{at, prefixAt}
+use Rattle.block.proofs.EachLaws.{SetTo, set-none, set-turn, set-done}
 use Rattle.block.proofs.fill.prefixes.Statement.{statement}
 use Rattle.block.proofs.fill.prefixes.Tie as tie
 
-abbrev Inv-loop : tie.InvT-loop
-Inv-loop n o q₀ i₀ q i = (i ≤ n) × (length q ≡ 80) × Each i q (prefixAt (at o))
-
-abbrev μ-loop : tie.MeasureT-loop
-μ-loop n o q₀ i₀ q i = n - i
-
-loop-holds : tie.Need-loop-holds Inv-loop μ-loop
-loop-holds c = (search needs, search needs, each-none _ _)
-
-loop-again : tie.Need-loop-again Inv-loop μ-loop
-unfolding prefixAt at
-loop-again c = (search needs, search needs, each-turn _ _ _ _ (search needs) (c .prefix .ensures .0) (c .before .before .before .loop .inv .2))
-
-returns : tie.Need-returns Inv-loop μ-loop
-returns c = (search needs, search (needs, each-fewer))
-
 pub prefixes-spec : {M : Type 1} → statement M
+unfolding prefixAt at filled
 prefixes-spec =
-    tie.close (tie.spec Inv-loop μ-loop loop-holds (λ c. search needs) (λ c. search needs) (λ c κs. search needs)
-    (λ c. search needs) (λ c. search needs) (λ c. search needs) (λ c. search needs) loop-again returns)
+    tie.close (tie.spec (λ n o q₀ i₀ q i. SetTo n i q (prefixAt (at o))) (λ n o q₀ i₀ q i. n - i)
+    (λ c. set-none (search needs)) (λ c. search needs) (λ c. search needs) (λ c κs. search needs) (λ c. search needs)
+    (λ c. search needs) (λ c. search needs) (λ c. search needs)
+    (λ c. set-turn (search needs) (search needs) (ap (λ (made : Filled). made .word) (c .filled .ensures)) (c .before .before .before .loop .inv))
+    (λ c. set-done (search needs) (c .before .loop .inv)))

@@ -3,8 +3,5 @@ use Rattle.word.proofs.Base.{arith, needs}
 use Rattle.block.proofs.mask.first_word.Statement.{statement}
 use Rattle.block.proofs.mask.first_word.Tie as tie
 
-returns : tie.Need-returns
-returns c = λ j. omega (arith, c .shared-slice-known .given j)
-
 pub first-word-spec : {M : Type 1} → statement M
-first-word-spec = tie.close (tie.spec (λ c. search needs) returns)
+first-word-spec = tie.close (tie.spec (λ c. search needs) (λ c. λ j. omega (arith, c .shared-slice-known .given j)))

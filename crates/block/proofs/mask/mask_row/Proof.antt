@@ -4,12 +4,9 @@ use Rattle.block.specs.Inner.Each.{maskedIn}
 use Rattle.block.proofs.mask.mask_row.Statement.{statement}
 use Rattle.block.proofs.mask.mask_row.Tie as tie
 
-returns : tie.Need-returns
-unfolding maskedIn
-returns c = (search needs, refl)
-
 pub mask-row-spec : {M : Type 1} → statement M
+unfolding maskedIn
 mask-row-spec =
     tie.close (tie.spec (λ c. search needs) (λ c. search needs) (λ c. search needs) (λ c. search needs)
     (λ c. search needs) (λ c. search needs) (λ c. search needs) (λ c. search needs) (λ c. search needs)
-    (λ c. search needs) returns)
+    (λ c. search needs) (λ c. (search needs, refl)))

@@ -4,11 +4,8 @@ use Rattle.block.specs.Inner.Terms.{terms}
 use Rattle.block.proofs.mix.terms.Statement.{statement}
 use Rattle.block.proofs.mix.terms.Tie as tie
 
-returns : tie.Need-returns
-unfolding terms
-returns c = refl
-
 pub terms-spec : {M : Type 1} → statement M
+unfolding terms
 terms-spec =
     tie.close (tie.spec (λ c. search needs) (λ c. search needs) (λ c. search needs) (λ c. search needs)
-    (λ c. search needs) (λ c. search needs) (λ c. search needs) (λ c. search needs) returns)
+    (λ c. search needs) (λ c. search needs) (λ c. search needs) (λ c. search needs) (λ c. refl))

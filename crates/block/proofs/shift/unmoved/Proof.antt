@@ -5,8 +5,7 @@ use Rattle.block.proofs.ShiftLaws.{shift-of-nought}
 use Rattle.block.proofs.shift.unmoved.Statement.{statement}
 use Rattle.block.proofs.shift.unmoved.Tie as tie
 
-returns : tie.Need-returns
-returns c = λ n. shift-of-nought _ _ _ n _ _ (search needs) (search needs) (c .first-word .ensures) (each-self n _)
-
 pub unmoved-spec : {M : Type 1} → statement M
-unmoved-spec = tie.close (tie.spec (λ c κs. search needs) returns)
+unmoved-spec =
+    tie.close (tie.spec (λ c κs. search needs)
+    (λ c. λ n. shift-of-nought _ _ _ n _ _ (search needs) (search needs) (c .first-word .ensures) (each-self n _)))

@@ -1,36 +1,23 @@
 -- `block::store::rows` meets its contract, row by row.
-use Rattle.word.proofs.Base.{_≡_, _-_, _*_, _<_, _≤_, arith, needs, length}
-use Rattle.word.specs.Pointer.{pointerEnd}
+use Rattle.word.proofs.Base.{_≡_, _-_, arith, needs, length}
 use Rattle.quiet.specs.Stream.{laidAt}
 use Rattle.block.specs.Inner.Each.{at}
-use Rattle.block.specs.Inner.Place.{rowAt, placeAt}
-use Rattle.block.proofs.EachLaws.{s-room, s-next, s-done}
-use Rattle.block.proofs.PlaceLaws.{rowAt-first, laidAt-none, even-row, rowAt-next, store-rows-turn, laidAt-done}
+use Rattle.block.specs.Inner.Place.{placeAt}
+use Rattle.block.proofs.EachLaws.{reached-fits, reached-done}
+use Rattle.block.proofs.PlaceLaws.{Walks, walks-none, walks-inside, walks-turn, laidAt-none, store-rows-turn, laidAt-done}
 use Rattle.block.proofs.store.rows.Statement.{statement}
 use Rattle.block.proofs.store.rows.Tie as tie
 
-abbrev Inv-loop : tie.InvT-loop
-Inv-loop direction ram₀ from far size x start₀ s₀ number₀ ram start s number = (number ≤ size .height) × (start < pointerEnd) × (s ≤ 64) × (s ≡ number * size .width) × (start ≡ rowAt far from number) × (length ram ≡ length ram₀) × (ram ≡ laidAt (placeAt direction (size .width) far from) (at x) s ram₀)
-
-abbrev μ-loop : tie.MeasureT-loop
-μ-loop direction ram₀ from far size x start₀ s₀ number₀ ram start s number = size .height - number
-
-loop-holds : tie.Need-loop-holds Inv-loop μ-loop
-loop-holds c = (search needs, search needs, search needs, omega arith, rowAt-first _ _ (search needs), search needs, laidAt-none _ _ _)
-
-row-requires : tie.Need-row-requires Inv-loop μ-loop
-row-requires c κs = (even-row _ _ _ _ _ _ _ (c .before .before .before .loop .number) _ (c .before .before .before .loop .inv .5) (c .before .before .before .before .before .pre .inside) (search needs) (c .before .before .before .loop .inv .4), omega (arith, s-room _ _ (c .before .before .before .loop .number) _ (c .before .before .before .before .before .pre .room) (c .before .if1 .taken) (c .before .before .before .loop .inv .3)))
-
-add-s : tie.Need-add-s Inv-loop μ-loop
-add-s c = omega (arith, s-room _ _ (c .before .before .before .before .before .before .before .loop .number) _ (c .before .before .before .before .before .before .before .before .before .pre .room) (c .before .before .before .before .before .if1 .taken) (c .before .before .before .before .before .before .before .loop .inv .3))
-
-loop-again : tie.Need-loop-again Inv-loop μ-loop
-loop-again c = (search needs, search needs, s-room _ _ (c .before .before .before .before .before .before .before .loop .number) _ (c .before .before .before .before .before .before .before .before .before .pre .room) (c .before .before .before .before .before .if1 .taken) (c .before .before .before .before .before .before .before .loop .inv .3), s-next _ _ _ (c .before .before .before .before .before .before .before .loop .inv .3), rowAt-next _ _ _ _ (c .before .before .before .before .before .before .before .loop .inv .4), search needs, store-rows-turn _ _ _ _ _ _ (c .before .before .before .before .before .before .before .loop .inv .4) _ _ _ _ _ (c .before .before .before .before .before .before .before .loop .inv .3) (c .before .before .before .before .before .before .before .loop .inv .6) (c .before .before .before .row .ensures))
-
-returns : tie.Need-returns Inv-loop μ-loop
-returns c = laidAt-done _ _ _ _ _ _ (omega (arith, s-done _ _ _ _ (c .before .before .loop .inv .0) (omega arith) (c .before .before .loop .inv .3))) (omega (arith, s-done _ _ _ _ (c .before .before .loop .inv .0) (omega arith) (c .before .before .loop .inv .3))) (c .before .before .loop .inv .6)
-
 pub rows-spec : {M : Type 1} → statement M
 rows-spec =
-    tie.close (tie.spec Inv-loop μ-loop loop-holds row-requires (λ c. search needs) add-s (λ c. search needs)
-    (λ c. search needs) loop-again (λ c. search needs) returns)
+    tie.close (tie.spec
+    (λ direction ram₀ from far size x start₀ s₀ number₀ ram start s number. Walks size far from start s number × (length ram ≡ length ram₀) × (ram ≡ laidAt (placeAt direction (size .width) far from) (at x) s ram₀))
+    (λ direction ram₀ from far size x start₀ s₀ number₀ ram start s number. size .height - number)
+    (λ c. (walks-none (c .before .pre), search needs, laidAt-none _ _ _))
+    (λ c κs. (walks-inside (c .before .before .before .before .before .pre) (c .before .before .before .loop .inv .1) (search needs) (c .before .before .before .loop .inv .0), omega (arith, reached-fits (c .before .before .before .loop .inv .0 .rows) (search needs))))
+    (λ c. search needs)
+    (λ c. omega (arith, reached-fits (c .before .before .before .before .before .before .before .loop .inv .0 .rows) (search needs)))
+    (λ c. search needs) (λ c. search needs)
+    (λ c. (walks-turn (search needs) (c .before .before .before .before .before .before .before .loop .inv .0), search needs, store-rows-turn _ _ _ _ _ (c .before .before .before .before .before .before .before .loop .inv .0) (c .before .before .before .before .before .before .before .loop .inv .2) (c .before .before .before .row .ensures)))
+    (λ c. search needs)
+    (λ c. let end = reached-done (c .before .before .loop .inv .0 .rows) (omega arith) in laidAt-done _ _ _ _ _ _ (omega arith) (omega arith) (c .before .before .loop .inv .2)))

@@ -17,12 +17,14 @@ use Rattle.blocks.specs.Inner.Block.{Pointer, Sources, Earlier, Pointers
 use Rattle.blocks.specs.Inner.Block.{Channel, maskedAt, at, Each, levelAt, finalWordAt, nought, Lies, fetchedAt}
 use Rattle.blocks.specs.Inner.Block.{suppliedAt, sourceOf, Rested, Asked, Fits, Stand, MadeOf, rowsOn, pointersOn}
 
+-- a choice where the ways that may be taken are the same
 if-same : {Answer : Type 0} (test : Bool) (this that other : Answer) → (test ≡ true → this ≡ that) → (if test then this else other) ≡ (if test then that else other)
 if-same true this that other same = same refl
 if-same false this that other same = refl
 
 module _ {n : ℕ} {setup : Setup} {size : Size} {flow : Flow} {far : Strides} (fits : Fits n setup size flow far)
     {modulo : ℕ} {used : Bool} {pointer : Pointer} {gap : ℕ} (channel : Channel n (setup .direction) (size .width) (fits .left) modulo used pointer gap) where
+  -- how far its rows are apart, where its words lie, and where it stands after the block
   pub far-lt : gap < pointerEnd
   far-lt = stride-lt _ _ _ _ _ _ _ _ channel (fits .placed .most) (fits .placed .some) (fits .placed .narrow)
 

@@ -97,6 +97,7 @@ module _ {n : ℕ} {setup : Setup} {width : ℕ} {far : Strides} {most left : �
         λ uses same. running .apart .c (rows * width) (rows * width - 1) next (omega arith) (omega arith) stores uses (rw (row, word) same),
       )
 
+  -- a block more
   pub running-on : {after : List ℕ} {next : Flow} {rest : ℕ} → most * width ≤ 64 → 2 ≤ most * width → state after next ≡ areaBlit setup width rows (state ram here)
       → rest ≡ left - rows → Running n setup width far most rest (state after next) end
   running-on small two does less =

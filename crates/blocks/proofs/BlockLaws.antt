@@ -6,7 +6,7 @@ use Rattle.area.specs.Flow.{state}
 use Rattle.area.specs.Fetch.{fetched}
 use Rattle.area.specs.Rows.{areaBlit}
 use Rattle.quiet.specs.Words.{wordBefore}
-use Rattle.quiet.specs.Stream.{standing, standingAt, atD, wordA, wordB, wordC, finals, finalWord, laidAt}
+use Rattle.quiet.specs.Stream.{standing, standingAt, wordA, wordB, wordC, finals, finalWord, laidAt}
 use Rattle.quiet.specs.Quiet.{Unmet, Quiet, flowAfter}
 use Rattle.quiet.proofs.QuietLaws.{quiet-blit}
 use Rattle.block.specs.Inner.Place.{placeAt, EvenRows}
@@ -17,8 +17,14 @@ use Rattle.blocks.specs.Inner.Block.{Pointer, Sources, Earlier, Pointers
 use Rattle.blocks.specs.Inner.Block.{Channel, maskedAt, at, Each, levelAt, finalWordAt, nought, Lies, fetchedAt}
 use Rattle.blocks.specs.Inner.Block.{suppliedAt, sourceOf, Rested, Asked, Fits, Stand, MadeOf, rowsOn, pointersOn}
 
+-- a choice where the ways that may be taken are the same
+if-same : {Answer : Type 0} (test : Bool) (this that other : Answer) → (test ≡ true → this ≡ that) → (if test then this else other) ≡ (if test then that else other)
+if-same true this that other same = same refl
+if-same false this that other same = refl
+
 module _ {n : ℕ} {setup : Setup} {size : Size} {flow : Flow} {far : Strides} (fits : Fits n setup size flow far)
     {modulo : ℕ} {used : Bool} {pointer : Pointer} {gap : ℕ} (channel : Channel n (setup .direction) (size .width) (fits .left) modulo used pointer gap) where
+  -- how far its rows are apart, where its words lie, and where it stands after the block
   pub far-lt : gap < pointerEnd
   far-lt = stride-lt _ _ _ _ _ _ _ _ channel (fits .placed .most) (fits .placed .some) (fits .placed .narrow)
 
@@ -50,12 +56,7 @@ module _ {n : ℕ} {setup : Setup} {size : Size} {flow : Flow} {far : Strides} (
   supplied-fetched : (memory : List ℕ) (word k : ℕ) → k < size .height * size .width
       → suppliedAt (setup .direction) (size .width) (sourceOf used pointer gap word) memory k ≡ fetched used memory (standingAt (setup .direction) used (size .width) modulo pointer k) word
   unfolding suppliedAt fetched fetchedAt
-  supplied-fetched memory word k below = by used refl
-    where
-      by : (is : Bool) → used ≡ is → (if is then getD memory (placeAt (setup .direction) (size .width) gap (pointer .word) k) 0 else word)
-          ≡ (if is then getD memory (standingAt (setup .direction) used (size .width) modulo pointer k .word) 0 else word)
-      by true uses = ap (λ (place : ℕ). getD memory place 0) (sym (place-is uses k below))
-      by false idle = refl
+  supplied-fetched memory word k below = if-same used _ _ word (λ uses. ap (λ (place : ℕ). getD memory place 0) (sym (place-is uses k below)))
 
 -- no fetch meets a store of the same block
 pub fits-quiet : {n : ℕ} {setup : Setup} {size : Size} {flow : Flow} {far : Strides} → Fits n setup size flow far → Quiet setup (size .width) (size .height * size .width) flow
@@ -104,12 +105,6 @@ module _ {n : ℕ} {setup : Setup} {size : Size} {far : Strides} {flow : Flow} {
   nought-after zero below = refl
   nought-after (suc k) below = rw (final-here k (omega arith), nought-after k (omega arith))
 
-  memory-after : (used : Bool) → setup .uses .d ≡ used
-      → (if used then laidAt (placeAt (setup .direction) (size .width) (far .d) (flow .pointers .d .word)) (at o) count memory else memory)
-      ≡ (if used then laidAt (λ k. atD setup (size .width) flow k .word) (finalWord setup (size .width) memory flow) count memory else memory)
-  memory-after true uses = laidAt-same _ _ _ _ count memory (λ i below. sym (place-is fits (fits .placed .d) uses i below)) final-here
-  memory-after false idle = refl
-
   -- what is handed on
   sources-after : end .sources ≡ flowAfter setup (size .width) memory flow (size .height) .sources
   unfolding wordA wordB wordC
@@ -131,7 +126,7 @@ module _ {n : ℕ} {setup : Setup} {size : Size} {far : Strides} {flow : Flow} {
       ≡ areaBlit setup (size .width) (size .height) (state memory flow)
   block-is stores moves counts =
       rw (
-        stores ∙ memory-after (setup .uses .d) refl,
+        stores ∙ if-same (setup .uses .d) _ _ memory (λ uses. laidAt-same _ _ _ _ count memory (λ i below. sym (place-is fits (fits .placed .d) uses i below)) final-here),
         moves,
         counts,
         sources-after,

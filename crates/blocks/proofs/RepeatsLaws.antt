@@ -3,7 +3,8 @@
 use Rattle.word.proofs.Base.{_≡_, refl, sym, ap, _∙_, ℕ, zero, suc, _+_, _-_, _*_, _<_, _≤_, suc-mul, mul-le-mul-right}
 use Rattle.word.proofs.Base.{decLt, arith, Bool, true, false, _&&_, eqb, List, getD}
 use native.Mathlib.Nat.{zero-mul}
-use Rattle.word.proofs.ChoiceLaws.{and-right}
+use Rattle.word.specs.Choice.{every}
+use Rattle.word.proofs.ChoiceLaws.{and-right, every-of-sum}
 use Rattle.quiet.proofs.StreamLaws.{word-of}
 use Rattle.block.proofs.FillLaws.{carry-of-off}
 use Rattle.blocks.specs.Inner.Block.{Masks, Sources, Setup, Flow, Strides, Size, Made, maskedAt, at, Each, levelAt, nought}
@@ -58,12 +59,10 @@ arrays-of made =
 
 nought-fewer : (n few : ℕ) (words : List ℕ) → few ≤ n → nought n (at words) ≡ true → nought few (at words) ≡ true
 unfolding nought
-nought-fewer zero few words most all = let none : few ≡ 0 = omega arith in ap (λ (k : ℕ). nought k (at words)) none ∙ all
-nought-fewer (suc n) few words most all = by (λ less. nought-fewer n few words less (and-right (eqb (at words n) 0) (nought n (at words)) all)) (decLt few (suc n))
-  where
-    by : (few ≤ n → nought few (at words) ≡ true) → Dec (few < suc n) → nought few (at words) ≡ true
-    by below (yes less) = below (omega arith)
-    by below (no same) = let is : few ≡ suc n = omega arith in ap (λ (k : ℕ). nought k (at words)) is ∙ all
+nought-fewer n few words most all =
+    let cut : few + (n - few) ≡ n = omega arith in
+    and-right (every (λ k. eqb (at words (few + k)) 0) (n - few)) (nought few (at words))
+    (every-of-sum (λ k. eqb (at words k) 0) few (n - few) ∙ ap (every (λ k. eqb (at words k) 0)) cut ∙ all)
 
 -- what such a block hands on
 module _ (next : Flow) {setup : Setup} {size : Size} {far : Strides} {here : Flow} {memory xa xb xc ya o : List ℕ} (made : MadeOf setup size far here memory xa xb xc ya o (handed next)) (still : Still setup)
@@ -92,9 +91,6 @@ module _ (next : Flow) {setup : Setup} {size : Size} {far : Strides} {here : Flo
         words = rw (earlier-next ∙ ap (lastWords setup (size .width)) sources-kept ∙ sym before) (made .words);
         zero = λ told. and-right (here .allzero) _ (sym (made .zero) ∙ told);
       }
-
-pub repeating-starts : (setup : Setup) (width most height : ℕ) (flow : Flow) (xa xb xc o : List ℕ) → Repeating setup width most height 0 flow xa xb xc o
-repeating-starts setup width most height flow xa xb xc o = record { one = λ still past. absurd (omega arith); two = λ still past. absurd (omega arith) }
 
 pub repeating-on : {setup : Setup} {width most height row rows : ℕ} {far : Strides} {here next : Flow} {memory xa xb xc ya o xa′ xb′ xc′ o′ : List ℕ}
     → MadeOf setup (record { width = width; height = rows }) far here memory xa xb xc ya o (handed next) → 1 ≤ width → 1 ≤ rows * width → rows * width ≤ 64

@@ -2,7 +2,7 @@
 use Rattle.word.proofs.Base.{_≡_, refl, sym, ap, _∙_, ℕ, zero, suc, _+_, _-_, _*_, _/_, _%_, _<_, _≤_, add-mul}
 use Rattle.word.proofs.Base.{mul-le-mul, mul-le-mul-right, arith, Bool, true, false, List, length, needs}
 use native.Mathlib.Nat.{mul-add-div-right, mul-add-mod-self-right}
-use Rattle.word.specs.Choice.{if_then_else_}
+use Rattle.word.proofs.ChoiceLaws.{if-either}
 use Rattle.word.specs.Repeat.{repeated}
 use Rattle.word.specs.Pointer.{moved, nextRow}
 use Rattle.area.specs.Flow.{State, state}
@@ -65,13 +65,7 @@ module _ {n : ℕ} {setup : Setup} {width : ℕ} {far : Strides} {most left : �
 
   -- and those after it
   placed-on : Placed n setup width (left - rows) (flowAfter setup width ram here rows) far
-  placed-on =
-      let placed = running .placed in
-      let a = on (placed .a) in
-      let b = on (placed .b) in
-      let c = on (placed .c) in
-      let d = on (placed .d) in
-      search needs
+  placed-on = search (needs, on)
     where
       on : {modulo : ℕ} {used : Bool} {pointer : Pointer} {gap : ℕ} → Channel n (setup .direction) width left modulo used pointer gap
           → Channel n (setup .direction) width (left - rows) modulo used (standing (setup .direction) used width modulo rows 0 pointer) gap
@@ -103,6 +97,7 @@ module _ {n : ℕ} {setup : Setup} {width : ℕ} {far : Strides} {most left : �
         λ uses same. running .apart .c (rows * width) (rows * width - 1) next (omega arith) (omega arith) stores uses (rw (row, word) same),
       )
 
+  -- a block more
   pub running-on : {after : List ℕ} {next : Flow} {rest : ℕ} → most * width ≤ 64 → 2 ≤ most * width → state after next ≡ areaBlit setup width rows (state ram here)
       → rest ≡ left - rows → Running n setup width far most rest (state after next) end
   running-on small two does less =
@@ -114,17 +109,13 @@ module _ {n : ℕ} {setup : Setup} {width : ℕ} {far : Strides} {most left : �
         long = ap (λ (end : State). length (end .memory)) (sym is) ∙ areaBlit-keeps-length setup width rows (state ram here) ∙ running .long;
         placed = placed-on;
         apart = apart-on;
-        room = counted (setup .uses .d);
+        room = if-either (λ (more : ℕ). here .stored + more + (left - rows) * 64 < 4294967232) (setup .uses .d) (rows * width) 0 (omega (arith, running .room, mul-le-mul-right width few)) (omega (arith, running .room));
         goes =
             ap (areaBlit setup width (left - rows)) (sym is)
             ∙ quiet-cut setup width rows (left - rows) ram here wide (omega (arith, mul-le-mul some wide)) (running .placed .none) quiet (seam two)
             ∙ ap (λ (all : ℕ). areaBlit setup width all (state ram here)) (omega arith)
             ∙ running .goes;
       })
-    where
-      counted : (used : Bool) → here .stored + (if used then rows * width else 0) + (left - rows) * 64 < 4294967232
-      counted true = omega (arith, running .room, mul-le-mul-right width few)
-      counted false = omega (arith, running .room)
 
 pub running-done : {n : ℕ} {setup : Setup} {width : ℕ} {far : Strides} {most left : ℕ} {ram : List ℕ} {here : Flow} {end : State} → left ≡ 0
     → Running n setup width far most left (state ram here) end → state ram here ≡ end

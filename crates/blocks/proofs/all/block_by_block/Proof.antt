@@ -4,7 +4,7 @@ use Rattle.area.specs.Flow.{state}
 use Rattle.area.specs.Rows.{areaBlit}
 use Rattle.blocks.specs.Inner.Block.{Arrays}
 use Rattle.blocks.specs.Inner.Repeats.{Repeating}
-use Rattle.blocks.proofs.RepeatsLaws.{arrays-of, repeating-starts, repeating-on, ready-of}
+use Rattle.blocks.proofs.RepeatsLaws.{arrays-of, repeating-on, ready-of}
 use Rattle.blocks.proofs.RunningLaws.{Running, running-starts, block-fits, running-on, running-done}
 use Rattle.blocks.proofs.all.block_by_block.Statement.{statement}
 use Rattle.blocks.proofs.all.block_by_block.Tie as tie
@@ -20,7 +20,7 @@ abbrev μ-loop : tie.MeasureT-loop
 μ-loop ram₀ setup far size most xa₀ xb₀ xc₀ ya₀ o₀ here₀ row₀ ram xa xb xc ya o here row = size .height - row
 
 loop-holds : tie.Need-loop-holds Inv-loop μ-loop
-loop-holds c = let pre = c .before .pre in (omega arith, running-starts (pre .0) (pre .1) (pre .6), pre .7, repeating-starts _ _ _ _ _ _ _ _ _)
+loop-holds c = let pre = c .before .pre in (omega arith, running-starts (pre .0) (pre .1) (pre .6), pre .7, record { one = λ still past. absurd (omega arith); two = λ still past. absurd (omega arith) })
 
 one-block-requires : tie.Need-one-block-requires Inv-loop μ-loop
 one-block-requires c κs =

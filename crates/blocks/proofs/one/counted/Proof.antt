@@ -3,11 +3,7 @@ use Rattle.word.proofs.Base.{arith, needs}
 use Rattle.blocks.proofs.one.counted.Statement.{statement}
 use Rattle.blocks.proofs.one.counted.Tie as tie
 
-returns : tie.Need-returns
-returns c = rw (c .if1 .taken)
-
-returns-2 : tie.Need-returns-2
-returns-2 c = rw (c .if1 .left) (omega arith)
-
 pub counted-spec : {M : Type 1} → statement M
-counted-spec = tie.close (tie.spec (λ c. search needs) (λ c. search needs) returns returns-2)
+counted-spec =
+    tie.close (tie.spec (λ c. search needs) (λ c. search needs) (λ c. rw (c .if1 .taken))
+    (λ c. rw (c .if1 .left) (omega arith)))

@@ -3,11 +3,7 @@ use Rattle.word.proofs.Base.{needs}
 use Rattle.blocks.proofs.one.still_nought.Statement.{statement}
 use Rattle.blocks.proofs.one.still_nought.Tie as tie
 
-returns : tie.Need-returns
-returns c = rw (c .before .if1 .taken) (c .any .ensures)
-
-returns-2 : tie.Need-returns-2
-returns-2 c = rw (c .if1 .left)
-
 pub still-nought-spec : {M : Type 1} → statement M
-still-nought-spec = tie.close (tie.spec (λ c κs. search needs) returns returns-2)
+still-nought-spec =
+    tie.close (tie.spec (λ c κs. search needs) (λ c. rw (c .before .if1 .taken) (c .any .ensures))
+    (λ c. rw (c .if1 .left)))

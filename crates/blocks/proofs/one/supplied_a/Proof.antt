@@ -1,6 +1,6 @@
 -- `blocks::one::supplied_a` meets its contract: fetched and masked, or at rest.
 use Rattle.word.proofs.Base.{needs}
-use Rattle.blocks.specs.Inner.Block.{maskedAt, levelAt}
+use Rattle.blocks.specs.Inner.Block.{maskedAt, Each, levelAt}
 use Rattle.blocks.proofs.SuppliedLaws.{given-idle, given-fetched}
 use Rattle.blocks.proofs.one.supplied_a.Statement.{statement}
 use Rattle.blocks.proofs.one.supplied_a.Tie as tie
@@ -11,19 +11,10 @@ narrow-rows-requires c κs = (c .before .before .before .before .before .before 
 rows-requires : tie.Need-rows-requires
 rows-requires c κs = (c .before .before .before .before .before .before .before .pre .lies (c .before .before .before .if1 .taken), c .before .before .before .before .before .before .before .pre .rested .long)
 
-returns : tie.Need-returns
-unfolding maskedAt levelAt
-returns c = given-fetched _ (c .before .before .before .before .before .before .before .before .if1 .taken) (c .before .before .before .before .before .before .before .before .before .before .before .before .pre .some) (c .mask .ensures .0) (c .before .before .before .before .narrow-rows .ensures .1) (c .mask .ensures .1)
-
-returns-2 : tie.Need-returns-2
-unfolding maskedAt levelAt
-returns-2 c = given-fetched _ (c .before .before .before .before .before .before .before .before .if1 .taken) (c .before .before .before .before .before .before .before .before .before .before .before .before .pre .some) (c .mask2 .ensures .0) (c .before .before .before .before .rows .ensures .1) (c .mask2 .ensures .1)
-
-returns-3 : tie.Need-returns-3
-returns-3 c = given-idle (c .if1 .left) (c .before .before .before .before .pre .room) (c .before .before .before .before .pre .rested)
-
 pub supplied-a-spec : {M : Type 1} → statement M
+unfolding Each maskedAt levelAt
 supplied-a-spec =
     tie.close (tie.spec narrow-rows-requires (λ c. search needs) (λ c. search needs) (λ c. search needs)
-    (λ c. search needs) (λ c κs. search needs) returns rows-requires (λ c. search needs) (λ c. search needs)
-    (λ c. search needs) (λ c. search needs) (λ c κs. search needs) returns-2 returns-3)
+    (λ c. search needs) (λ c κs. search needs) (λ c. search (needs, given-fetched)) rows-requires (λ c. search needs)
+    (λ c. search needs) (λ c. search needs) (λ c. search needs) (λ c κs. search needs)
+    (λ c. search (needs, given-fetched)) (λ c. search (needs, given-idle)))

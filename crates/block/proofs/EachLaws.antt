@@ -5,6 +5,7 @@ use Rattle.word.proofs.Base.{getD, set, getD-set-same, getD-set-other, length-s
 use native.Mathlib.Nat.{add-assoc}
 use lib.Bits.{or-zero-l, or-add-and, and-le-r}
 use lib.Dec.{eqb·suc-zero}
+use mathlib.Core.Bool.{and-comm}
 use Rattle.block.specs.Inner.Each.{at, Each, Kept, Laid, nought}
 
 -- what is told of a test that failed
@@ -27,18 +28,9 @@ pub each-fewer : (i n : ℕ) (words : List ℕ) (word : ℕ → ℕ) → n ≤ i
 unfolding Each
 each-fewer i n words word most all j below = all j (omega arith)
 
-pub each-self : (n : ℕ) (words : List ℕ) → Each n words (at words)
-unfolding Each at
-each-self n words j below = refl
-
 pub each-copied : (n : ℕ) (words copies : List ℕ) (word : ℕ → ℕ) → Each n words word → Each n copies (at words) → Each n copies word
 unfolding Each at
 each-copied n words copies word all same j below = same j below ∙ all j below
-
--- equal sequences
-pub each-same : (n : ℕ) (words : List ℕ) (word same : ℕ → ℕ) → ((j : ℕ) → j < n → word j ≡ same j) → Each n words word → Each n words same
-unfolding Each
-each-same n words word same is all j below = all j below ∙ is j below
 
 -- from some word on all are as they were
 pub kept-all : (i : ℕ) (words : List ℕ) → Kept i words words
@@ -110,13 +102,7 @@ nought-none words = refl
 
 pub nought-turn : (all i : ℕ) (words : List ℕ) → eqb all 0 ≡ nought i (at words) → eqb (bitOr all (getD words i 0)) 0 ≡ nought (i + 1) (at words)
 unfolding nought at
-nought-turn all i words so-far = rw add-one (sym (or-nought all (getD words i 0)) ∙ swapped (eqb all 0) (eqb (getD words i 0) 0) ∙ rw so-far)
-  where
-    swapped : (a b : Bool) → (a && b) ≡ (b && a)
-    swapped true true = refl
-    swapped true false = refl
-    swapped false true = refl
-    swapped false false = refl
+nought-turn all i words so-far = rw add-one (sym (or-nought all (getD words i 0)) ∙ and-comm (eqb all 0) (eqb (getD words i 0) 0) ∙ rw so-far)
 
 pub nought-done : (all i n : ℕ) (words : List ℕ) → i ≤ n → n ≤ i → eqb all 0 ≡ nought i (at words) → eqb all 0 ≡ nought n (at words)
 nought-done all i n words most least told = let is : i ≡ n = omega arith in told ∙ ap (λ (n : ℕ). nought n (at words)) is

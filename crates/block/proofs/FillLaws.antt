@@ -1,6 +1,6 @@
 -- Laws of the fill of a block's rows: a carry turns a prefix over, and either way of filling goes by the carries.
 use Rattle.word.proofs.Base.{_≡_, refl, sym, ap, _∙_, ℕ, zero, suc, _+_, _-_, _*_, _/_, _%_, _<_, _≤_, add-zero}
-use Rattle.word.proofs.Base.{add-suc, add-one, arith, Bool, true, false, eqb, List, length, getD, set, length-set, bitOr, bitXor}
+use Rattle.word.proofs.Base.{add-suc, add-one, arith, Bool, true, false, eqb, List, length, getD, set, length-set, bitXor}
 use native.Mathlib.Nat.{add-assoc}
 use lib.Bits.{xor-zero-r}
 use Rattle.word.specs.declared.types.Fill.{Fill}

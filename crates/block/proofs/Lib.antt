@@ -2,8 +2,6 @@
 pub mod EachLaws
 pub mod MaskLaws
 pub mod ShiftLaws
-pub mod IgnoresLaws
-pub mod TermsLaws
 pub mod MixLaws
 pub mod FillLaws
 pub mod PlaceLaws

@@ -7,15 +7,13 @@ use Rattle.word.specs.Shift.{shifted}
 use Rattle.word.proofs.ShiftLaws.{shifted-by-zero}
 use Rattle.quiet.specs.Words.{wordBefore, shiftedAt}
 use Rattle.block.specs.Inner.Each.{at, Each}
-use Rattle.block.proofs.EachLaws.{each-same}
 
 -- a shift by nought
-pub shift-of-nought : (direction : Direction) (by earlier n : ℕ) (words shifts : List ℕ) → by ≡ 0 → earlier < 65536 → ((j : ℕ) → getD words j 0 < 65536)
-    → Each n shifts (at words) → Each n shifts (shiftedAt direction by earlier (at words))
-unfolding shiftedAt at wordBefore
-shift-of-nought direction by earlier n words shifts none before small all =
-    each-same n shifts (at words) (shiftedAt direction by earlier (at words))
-    (λ j below. rw none (sym (shifted-by-zero direction (wordBefore earlier (at words) j) (getD words j 0) (first j) (small j)))) all
+pub shift-of-nought : (direction : Direction) (by earlier n : ℕ) (words : List ℕ) → by ≡ 0 → earlier < 65536 → ((j : ℕ) → getD words j 0 < 65536)
+    → Each n words (shiftedAt direction by earlier (at words))
+unfolding Each shiftedAt at wordBefore
+shift-of-nought direction by earlier n words none before small j below =
+    rw none (sym (shifted-by-zero direction (wordBefore earlier (at words) j) (getD words j 0) (first j) (small j)))
   where
     first : (j : ℕ) → wordBefore earlier (at words) j < 65536
     first zero = before
@@ -38,12 +36,12 @@ below Holds (suc most) n small all = by (decLt n most) (λ earlier. below Holds 
 low-bits : (n earlier : ℕ) → n < 16 → earlier < 65536 → earlier * 2 ^ 1 % 2 ^ 16 * 2 ^ (15 - n) % 2 ^ 16 ≡ earlier % 2 ^ n * 2 ^ (16 - n)
 low-bits n earlier few before =
     below (λ (n : ℕ). earlier * 2 ^ 1 % 2 ^ 16 * 2 ^ (15 - n) % 2 ^ 16 ≡ earlier % 2 ^ n * 2 ^ (16 - n))
-    16 n few ((((((((((((((((tt, omega arith), omega arith), omega arith), omega arith), omega arith), omega arith), omega arith), omega arith), omega arith), omega arith), omega arith), omega arith), omega arith), omega arith), omega arith), omega arith)
+    16 n few (search arith depth 20)
 
 pair-bits : (n earlier this : ℕ) → n < 16 → earlier < 65536 → this < 65536 → this / 2 ^ n + earlier % 2 ^ n * 2 ^ (16 - n) ≡ shifted Ascending n earlier this
 pair-bits n earlier this few before now =
     below (λ (n : ℕ). this / 2 ^ n + earlier % 2 ^ n * 2 ^ (16 - n) ≡ shifted Ascending n earlier this)
-    16 n few ((((((((((((((((tt, omega arith), omega arith), omega arith), omega arith), omega arith), omega arith), omega arith), omega arith), omega arith), omega arith), omega arith), omega arith), omega arith), omega arith), omega arith), omega arith)
+    16 n few (search arith depth 20)
 
 pub drawn-up : (n earlier this : ℕ) → n < 16 → earlier < 65536 → this < 65536
     → this / 2 ^ n + earlier * 2 ^ 1 % 2 ^ 16 * 2 ^ (15 - n) % 2 ^ 16 ≡ shifted Ascending n earlier this
@@ -54,4 +52,4 @@ pub drawn-down : (n earlier this : ℕ) → n < 16 → earlier < 65536 → this 
     → this * 2 ^ n % 2 ^ 16 + earlier / 2 ^ 1 / 2 ^ (15 - n) ≡ shifted Descending n earlier this
 drawn-down n earlier this few before now =
     below (λ (n : ℕ). this * 2 ^ n % 2 ^ 16 + earlier / 2 ^ 1 / 2 ^ (15 - n) ≡ shifted Descending n earlier this)
-    16 n few ((((((((((((((((tt, omega arith), omega arith), omega arith), omega arith), omega arith), omega arith), omega arith), omega arith), omega arith), omega arith), omega arith), omega arith), omega arith), omega arith), omega arith), omega arith)
+    16 n few (search arith depth 20)

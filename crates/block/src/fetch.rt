@@ -49,10 +49,13 @@ pub fn narrow_rows(direction: Direction, ram: &[u16], course: Course, size: Size
     let from = course.from;
     let far = course.far;
     let height = size.height;
-    let width = size.width;
-    match width {
-        1 => rows(direction, ram, from, far, Size { width: 1, height }, x),
-        2 => rows(direction, ram, from, far, Size { width: 2, height }, x),
-        _ => rows(direction, ram, from, far, Size { width: 3, height }, x),
+    if size.width == 1 {
+        rows(direction, ram, from, far, Size { width: 1, height }, x);
+        return;
     }
+    if size.width == 2 {
+        rows(direction, ram, from, far, Size { width: 2, height }, x);
+        return;
+    }
+    rows(direction, ram, from, far, Size { width: 3, height }, x);
 }

@@ -8,7 +8,6 @@ use Rattle.word.specs.declared.types.Pointer.{Pointer}
 use Rattle.word.specs.declared.types.Fill.{Fill}
 use Rattle.word.specs.declared.types.Fill.the-variants.{Off}
 use Rattle.word.specs.Word.{SixteenBits}
-use Rattle.word.specs.Mask.{masked}
 use Rattle.word.specs.Shift.{shifted}
 use Rattle.word.specs.Logic.{logic}
 use Rattle.word.specs.Fill.{filled}
@@ -37,16 +36,7 @@ pub record Copying (setup : Setup) : Type 0 where
   pub first : setup .masks .first ≡ 0xFFFF
   pub last : setup .masks .last ≡ 0xFFFF
 
--- the parts of a copied word, over plain numbers
-fetched-of-used : (used : Bool) (memory : List ℕ) (pointer : Pointer) (source : ℕ) → used ≡ true
-    → fetched used memory pointer source ≡ getD memory (pointer .word) 0
-unfolding fetched
-fetched-of-used used memory pointer source uses = rw uses
-
-masked-copies : (first last : Bool) (afwm alwm source word : ℕ) → afwm ≡ 0xFFFF → alwm ≡ 0xFFFF → source ≡ word → word < 65536
-    → masked first last afwm alwm source ≡ word
-masked-copies first last afwm alwm source word ones all same small = rw (ones, all, same) (masked-by-ones first last word small)
-
+-- a copied word, over plain numbers
 filled-copies : (fill : Fill) (direction : Direction) (carry function n earlier this b c word : ℕ)
     → fill ≡ Off → function ≡ 0xF0 → n ≡ 0 → this ≡ word → word < 65536 → earlier < 65536
     → filled fill carry (logic function (shifted direction n earlier this) b c) .word ≡ word
@@ -62,10 +52,8 @@ Unmet-of-unused stores used place fetches words idle i j below early storing fet
 module _ (setup : Setup) (copying : Copying setup) (width : ℕ) (memory : List ℕ) (flow : Flow) (all : SixteenBits memory) (earlier : flow .earlier .a < 65536) where
   -- A as masked, and the final word, are the word at A's pointer
   maskedAt-copies : (k : ℕ) → maskedAt (setup .masks) width (wordA setup width memory flow) k ≡ getD memory (atA setup width flow k .word) 0
-  unfolding maskedAt wordA
-  maskedAt-copies k =
-      masked-copies _ _ (setup .masks .first) (setup .masks .last) _ _ (copying .first) (copying .last)
-      (fetched-of-used (setup .uses .a) memory (atA setup width flow k) (flow .sources .a) (copying .a)) (all (atA setup width flow k .word))
+  unfolding maskedAt wordA fetched
+  maskedAt-copies k = rw (copying .first, copying .last, copying .a) (masked-by-ones _ _ _ (all _))
 
   before-lt : (k : ℕ) → wordBefore (flow .earlier .a) (maskedAt (setup .masks) width (wordA setup width memory flow)) k < 65536
   unfolding wordBefore

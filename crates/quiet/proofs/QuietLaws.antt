@@ -1,11 +1,12 @@
 -- A quiet blit's words are those of the sequence: the definition's own steps lead from each to the next.
 use Rattle.word.proofs.Base.{_≡_, refl, sym, ap, _∙_, ℕ, zero, suc, _+_, _-_, _*_, _/_, _%_, _<_, _≤_, suc-mul}
-use Rattle.word.proofs.Base.{mul-le-mul-right, sub-one, arith, Bool, true, false, _&&_, eqb, eq-eqb, ne-eqb, List, getD}
-use Rattle.word.proofs.Base.{set, getD-set-other}
+use Rattle.word.proofs.Base.{mul-le-mul-right, sub-one, arith, Bool, true, false, _&&_, eqb, List}
+use mathlib.Core.Bool.{and-true, and-assoc, and-comm}
 use Rattle.word.specs.declared.types.Pointer.{Pointer}
 use Rattle.word.specs.declared.types.Filled.{Filled}
 use Rattle.word.specs.Choice.{if_then_else_, every}
 use Rattle.word.specs.Repeat.{repeated}
+use Rattle.word.proofs.ChoiceLaws.{if-either}
 use Rattle.area.specs.declared.types.Pending.{Pending}
 use Rattle.area.specs.declared.types.Pointers.{Pointers}
 use Rattle.area.specs.declared.types.Setup.{Setup}
@@ -14,246 +15,172 @@ use Rattle.area.specs.Flow.{State, state, nothing}
 use Rattle.area.specs.Fetch.{fetched, fetch}
 use Rattle.area.specs.Finish.{maskedA, result, final as finishedFinal, finish}
 use Rattle.area.specs.Store.{wait, memoryWith, countWith, storePending}
-use Rattle.area.specs.Move.{stepped, moveOn, rowEnd}
-use Rattle.area.proofs.StoreLaws.{memoryWith-of-used, memoryWith-of-unused}
+use Rattle.area.specs.Move.{moveOn, rowEnd}
 use Rattle.area.specs.Rows.{finishedWord, storedBefore, oneWord, words, rowStart, oneRow, rows, areaBlit}
 use Rattle.quiet.specs.Words.{wordBefore, maskedAt, shiftedAt, mixedAt, resultAt, carryTo, filledAt, finalAt}
 use Rattle.quiet.specs.Stream.{atA, atB, atC, atD, wordA, wordB, wordC, finalWord, laidAt}
-use Rattle.quiet.specs.Quiet.{Unmet, Quiet, pointersIn, memoryOf, flowOf, Found, QuietBlit}
-use Rattle.quiet.proofs.StreamLaws.{row-of, word-of, standing-steps, standing-turns, standing-starts, is-first, is-last}
+use Rattle.quiet.specs.Quiet.{Unmet, Quiet, pointersIn, memoryOf, sourcesTo, earlierTo, flowOf, Found, QuietBlit}
+use Rattle.quiet.proofs.StreamLaws.{row-of, word-of, carryTo-first, carryTo-next, standing-steps, standing-turns, standing-starts, is-first, is-last, laidAt-elsewhere}
 
--- a store elsewhere
-memoryWith-elsewhere : (used : Bool) (at word place : ℕ) (memory : List ℕ) → (used ≡ true → at ≡ place → ⊥)
-    → getD (memoryWith (record { waits = used; place = at; word = word }) memory) place 0 ≡ getD memory place 0
-unfolding memoryWith
-memoryWith-elsewhere true at word place memory apart = getD-set-other memory at place word 0 (λ same. apart refl (sym same))
-memoryWith-elsewhere false at word place memory apart = refl
+-- with one word more stored
+memory-more : (used : Bool) (place word : ℕ → ℕ) (k : ℕ) (memory : List ℕ)
+    → memoryWith (record { waits = used; place = place k; word = word k }) (if used then laidAt place word k memory else memory)
+    ≡ (if used then laidAt place word (suc k) memory else memory)
+unfolding memoryWith laidAt
+memory-more true place word k memory = refl
+memory-more false place word k memory = refl
 
-countWith-by : (used known : Bool) (place word stored : ℕ) → used ≡ known
-    → countWith (record { waits = used; place = place; word = word }) stored ≡ (if known then stored + 1 else stored)
+count-more : (used : Bool) (place word k stored : ℕ)
+    → countWith (record { waits = used; place = place; word = word }) (stored + (if used then k else 0)) ≡ stored + (if used then suc k else 0)
 unfolding countWith
-countWith-by used known place word stored uses = rw uses
+count-more true place word k stored = omega arith
+count-more false place word k stored = refl
 
--- a source at rest gives what it gave before
-wordBefore-rests : (used : Bool) (memory : List ℕ) (fetches : ℕ → Pointer) (source k : ℕ) → used ≡ false
-    → wordBefore source (λ k. fetched used memory (fetches k) source) k ≡ source
-unfolding wordBefore fetched
-wordBefore-rests used memory fetches source zero idle = refl
-wordBefore-rests used memory fetches source (suc k) idle = rw idle
+-- what a source fetches is as it was, where D hasn't stored there; a source at rest gives what it gave before
+fetched-unmet : (stores used : Bool) (place fetches : ℕ → Pointer) (word : ℕ → ℕ) (memory : List ℕ) (source k n : ℕ) → k < n → Unmet stores used place fetches n
+    → fetched used (if stores then laidAt (λ k. place k .word) word (k - 1) memory else memory) (fetches k) (wordBefore source (λ k. fetched used memory (fetches k) source) k)
+    ≡ fetched used memory (fetches k) source
+unfolding fetched Unmet wordBefore
+fetched-unmet true true place fetches word memory source k n below unmet =
+    laidAt-elsewhere (λ k. place k .word) word (k - 1) memory (fetches k .word) (λ j early. unmet k j below (omega arith) refl refl)
+fetched-unmet false true place fetches word memory source k n below unmet = refl
+fetched-unmet stores false place fetches word memory source zero n below unmet = refl
+fetched-unmet stores false place fetches word memory source (suc k) n below unmet = refl
+
+-- how many of the words before word k are stored when it comes: the one before it waits
+unfoldable held : (k : ℕ) → ℕ
+held zero = 0
+held (suc k) = k
+
+held-is : (k : ℕ) → k - 1 ≡ held k
+unfolding held
+held-is zero = refl
+held-is (suc k) = sub-one (suc k)
 
 module _ (setup : Setup) (width : ℕ) (memory : List ℕ) (flow : Flow) (a b c : ℕ → ℕ) where
-  -- the final words of three sources
+  -- the final words of three sources, word k on its way to D, and the carry after so many
   abbrev final : (k : ℕ) → Filled
   final = finalAt setup width (flow .earlier) a b c
 
-  -- word k on its way to D, and memory, count and flag with the first k words stored
-  abbrev pub waiting : (k : ℕ) → Pending
+  abbrev waiting : (k : ℕ) → Pending
   waiting k = record { waits = setup .uses .d; place = atD setup width flow k .word; word = final k .word }
 
-  unfoldable memoryWords : (k : ℕ) → List ℕ
-  memoryWords zero = memory
-  memoryWords (suc k) = memoryWith (waiting k) (memoryWords k)
-
-  unfoldable countWords : (k : ℕ) → ℕ
-  countWords zero = flow .stored
-  countWords (suc k) = countWith (waiting k) (countWords k)
-
-  unfoldable zeroWords : (k : ℕ) → Bool
-  zeroWords zero = flow .allzero
-  zeroWords (suc k) = zeroWords k && eqb (final k .word) 0
-
-  -- memory, count and pending word as word k finds them: the one before it waits
-  unfoldable memoryTo : (k : ℕ) → List ℕ
-  memoryTo zero = memory
-  memoryTo (suc k) = memoryWords k
-
-  unfoldable countTo : (k : ℕ) → ℕ
-  countTo zero = flow .stored
-  countTo (suc k) = countWords k
+  abbrev lastCarry : (k : ℕ) → ℕ
+  lastCarry = wordBefore (flow .carry) (λ k. final k .carry)
 
   unfoldable pendingTo : (k : ℕ) → Pending
   pendingTo zero = nothing
   pendingTo (suc k) = waiting k
 
+  unfoldable zeroTo : (k : ℕ) → Bool
+  zeroTo zero = flow .allzero
+  zeroTo (suc k) = zeroTo k && eqb (final k .word) 0
+
+  -- memory and flow as word k finds them
+  unfoldable memoryTo : (k : ℕ) → List ℕ
+  memoryTo k = memoryOf setup width flow a b c memory (held k)
+
+  unfoldable countTo : (k : ℕ) → ℕ
+  countTo k = flow .stored + (if setup .uses .d then held k else 0)
+
   unfoldable flowTo : Pointers → (carry k : ℕ) → Flow
   flowTo pointers carry k =
       record {
         pointers = pointers;
-        sources =
-            record {
-              a = wordBefore (flow .sources .a) a k;
-              b = wordBefore (flow .sources .b) b k;
-              c = wordBefore (flow .sources .c) c k;
-            };
-        earlier =
-            record {
-              a = wordBefore (flow .earlier .a) (maskedAt (setup .masks) width a) k;
-              b = wordBefore (flow .earlier .b) b k;
-            };
+        sources = sourcesTo setup width flow a b c k;
+        earlier = earlierTo setup width flow a b c k;
         carry = carry;
-        allzero = zeroWords k;
+        allzero = zeroTo k;
         stored = countTo k;
         pending = pendingTo k;
       }
 
-  memoryTo-stored : (k : ℕ) → memoryWith (pendingTo k) (memoryTo k) ≡ memoryWords k
-  unfolding pendingTo memoryTo memoryWords memoryWith
+  abbrev stateIn : (row word carry k : ℕ) → State
+  stateIn row word carry k = state (memoryTo k) (flowTo (pointersIn setup width row word (flow .pointers)) carry k)
+
+  memoryTo-stored : (k : ℕ) → memoryWith (pendingTo k) (memoryTo k) ≡ memoryOf setup width flow a b c memory k
+  unfolding pendingTo memoryTo held memoryWith
   memoryTo-stored zero = refl
-  memoryTo-stored (suc k) = refl
+  memoryTo-stored (suc k) = memory-more (setup .uses .d) (λ k. atD setup width flow k .word) (λ k. final k .word) k memory
 
-  countTo-stored : (k : ℕ) → countWith (pendingTo k) (countTo k) ≡ countWords k
-  unfolding pendingTo countTo countWords countWith
+  countTo-stored : (k : ℕ) → countWith (pendingTo k) (countTo k) ≡ flow .stored + (if setup .uses .d then k else 0)
+  unfolding pendingTo countTo held countWith
   countTo-stored zero = refl
-  countTo-stored (suc k) = refl
+  countTo-stored (suc k) = count-more (setup .uses .d) (atD setup width flow k .word) (final k .word) k (flow .stored)
 
-  -- a word, its sources given
-  module _ (remaining k : ℕ) (pointers : Pointers) (carry : ℕ)
-      (gives-a : fetched (setup .uses .a) (memoryTo k) (pointers .a) (wordBefore (flow .sources .a) a k) ≡ a k)
-      (gives-b : fetched (setup .uses .b) (memoryTo k) (pointers .b) (wordBefore (flow .sources .b) b k) ≡ b k)
-      (gives-c : fetched (setup .uses .c) (memoryTo k) (pointers .c) (wordBefore (flow .sources .c) c k) ≡ c k)
-      (comes : carry ≡ carryTo (setup .fill) (setup .carry) width (resultAt setup width (flow .earlier) a b c) k)
-      (first : eqb (remaining + 1) width ≡ eqb (k % width) 0)
-      (last : eqb remaining 0 ≡ eqb (k % width + 1) width)
-      (stores : pointers .d .word ≡ atD setup width flow k .word) where
-    abbrev moves : Pointers
-    moves =
-        record {
-          a = stepped (setup .direction) (setup .uses .a) (pointers .a);
-          b = stepped (setup .direction) (setup .uses .b) (pointers .b);
-          c = stepped (setup .direction) (setup .uses .c) (pointers .c);
-          d = stepped (setup .direction) (setup .uses .d) (pointers .d);
-        }
+  pendingTo-last : (k : ℕ) → 1 ≤ k → pendingTo k ≡ waiting (k - 1)
+  unfolding pendingTo
+  pendingTo-last zero none = absurd (omega arith)
+  pendingTo-last (suc k) more = ap waiting (sym (sub-one (suc k)))
 
-    oneWord-turns : oneWord setup width remaining (state (memoryTo k) (flowTo pointers carry k))
-        ≡ state (memoryTo (suc k)) (flowTo moves (final k .carry) (suc k))
-    unfolding oneWord storedBefore storePending finishedWord wait moveOn finish finishedFinal result maskedA fetch flowTo memoryTo countTo pendingTo zeroWords wordBefore filledAt resultAt mixedAt shiftedAt maskedAt
-    oneWord-turns = rw (gives-a, gives-b, gives-c, comes, first, last, stores, ← memoryTo-stored k, ← countTo-stored k)
+  zeroTo-every : (k : ℕ) → zeroTo k ≡ (flow .allzero && every (λ k. eqb (final k .word) 0) k)
+  unfolding zeroTo
+  zeroTo-every zero = sym (and-true (flow .allzero))
+  zeroTo-every (suc k) =
+      rw (zeroTo-every k)
+      (and-assoc (flow .allzero) (every (λ k. eqb (final k .word) 0) k) (eqb (final k .word) 0)
+      ∙ ap (λ (rest : Bool). flow .allzero && rest) (and-comm (every (λ k. eqb (final k .word) 0) k) (eqb (final k .word) 0)))
 
-  -- memory as the theorem has it
-  memoryWords-laid : (used : Bool) (k : ℕ) → setup .uses .d ≡ used
-      → memoryWords k ≡ (if used then laidAt (λ k. atD setup width flow k .word) (λ k. final k .word) k memory else memory)
-  unfolding memoryWords laidAt
-  memoryWords-laid true zero uses = refl
-  memoryWords-laid false zero uses = refl
-  memoryWords-laid true (suc k) uses =
-      memoryWith-of-used (setup .uses .d) (atD setup width flow k .word) (final k .word) (memoryWords k) uses
-      ∙ ap (λ (before : List ℕ). set before (atD setup width flow k .word) (final k .word)) (memoryWords-laid true k uses)
-  memoryWords-laid false (suc k) uses =
-      memoryWith-of-unused (setup .uses .d) (atD setup width flow k .word) (final k .word) (memoryWords k) uses
-      ∙ memoryWords-laid false k uses
-
-  memoryTo-laid : (k : ℕ) → memoryOf setup width flow a b c memory (k - 1) ≡ memoryTo k
-  unfolding memoryTo memoryWords
-  memoryTo-laid zero = sym (memoryWords-laid (setup .uses .d) 0 refl)
-  memoryTo-laid (suc k) = ap (memoryOf setup width flow a b c memory) (sub-one (suc k)) ∙ sym (memoryWords-laid (setup .uses .d) k refl)
-
-  -- a place that no earlier word was stored at is as it was
-  memoryWords-elsewhere : (k place : ℕ) → ((j : ℕ) → j < k → setup .uses .d ≡ true → atD setup width flow j .word ≡ place → ⊥)
-      → getD (memoryWords k) place 0 ≡ getD memory place 0
-  unfolding memoryWords
-  memoryWords-elsewhere zero place apart = refl
-  memoryWords-elsewhere (suc k) place apart =
-      memoryWith-elsewhere (setup .uses .d) (atD setup width flow k .word) (final k .word) place (memoryWords k) (apart k (omega arith))
-      ∙ memoryWords-elsewhere k place (λ j below. apart j (omega arith))
-
-  memoryTo-elsewhere : (k place : ℕ) → ((j : ℕ) → j + 1 < k → setup .uses .d ≡ true → atD setup width flow j .word ≡ place → ⊥)
-      → getD (memoryTo k) place 0 ≡ getD memory place 0
-  unfolding memoryTo
-  memoryTo-elsewhere zero place apart = refl
-  memoryTo-elsewhere (suc k) place apart = memoryWords-elsewhere k place (λ j below. apart j (omega arith))
-
-  fetched-unmet : (used : Bool) (k n source : ℕ) (here : Pointer) (fetches : ℕ → Pointer) → here ≡ fetches k → k < n
-      → Unmet (setup .uses .d) used (atD setup width flow) fetches n
-      → fetched used (memoryTo k) here (wordBefore source (λ k. fetched used memory (fetches k) source) k) ≡ fetched used memory (fetches k) source
-  unfolding fetched Unmet
-  fetched-unmet true k n source here fetches is below unmet =
-      rw is (memoryTo-elsewhere k (fetches k .word) (λ j early uses. unmet k j below early uses refl))
-  fetched-unmet false k n source here fetches is below unmet = wordBefore-rests false memory fetches source k refl
-
-  -- the carry in a row: carry-in before its first word
-  unfoldable carryIn : (word k : ℕ) → ℕ
-  carryIn zero k = setup .carry
-  carryIn (suc word) zero = setup .carry
-  carryIn (suc word) (suc k) = final k .carry
-
-  carryIn-comes : (row word k : ℕ) → word < width → k ≡ row * width + word
-      → carryIn word k
-      ≡ carryTo (setup .fill) (setup .carry) width (resultAt setup width (flow .earlier) a b c) k
-  unfolding carryIn carryTo filledAt
-  carryIn-comes row zero zero short is = refl
-  carryIn-comes row zero (suc k) short is = rw (eq-eqb (suc k % width) 0 (word-of width row zero (suc k) short is))
-  carryIn-comes row (suc word) zero short is = refl
-  carryIn-comes row (suc word) (suc k) short is =
-      rw (ne-eqb (suc k % width) 0 (λ none. absurd (omega (arith, word-of width row (suc word) (suc k) short is))))
-
-  abbrev stateIn : (row word k : ℕ) → State
-  stateIn row word k = state (memoryTo k) (flowTo (pointersIn setup width row word (flow .pointers)) (carryIn word k) k)
+  flowTo-starts : flow .pending ≡ nothing → state memory flow ≡ stateIn 0 0 (flow .carry) 0
+  unfolding flowTo memoryTo countTo held wordBefore zeroTo pendingTo laidAt
+  flowTo-starts none =
+      rw (
+        ← none,
+        if-either (λ (all : List ℕ). all ≡ memory) (setup .uses .d) memory memory refl refl,
+        if-either (λ (more : ℕ). flow .stored + more ≡ flow .stored) (setup .uses .d) 0 0 (omega arith) (omega arith),
+      )
+      (simp standing-starts)
 
   module _ (n : ℕ) (found : Found setup width flow a b c memory n) where
-    oneWord-goes : (row word remaining k : ℕ) → remaining + 1 + word ≡ width → k ≡ row * width + word → k < n
-        → oneWord setup width remaining (stateIn row word k) ≡ stateIn row (suc word) (suc k)
-    unfolding carryIn
-    oneWord-goes row word remaining k all is below =
+    oneWord-goes : (row word remaining k carry : ℕ) → remaining + 1 + word ≡ width → k ≡ row * width + word → k < n
+        → carry ≡ carryTo (setup .fill) (setup .carry) width (resultAt setup width (flow .earlier) a b c) k
+        → oneWord setup width remaining (stateIn row word carry k) ≡ stateIn row (suc word) (final k .carry) (suc k)
+    unfolding oneWord storedBefore storePending finishedWord wait moveOn finish finishedFinal result maskedA fetch flowTo memoryTo countTo held pendingTo zeroTo wordBefore filledAt resultAt mixedAt shiftedAt maskedAt
+    oneWord-goes row word remaining k carry all is below comes =
         let short : word < width = omega arith in
         let row-is : k / width ≡ row = row-of width row word k short is in
         let word-is : k % width ≡ word = word-of width row word k short is in
-        oneWord-turns remaining k (pointersIn setup width row word (flow .pointers)) (carryIn word k)
-        (rw (row-is, word-is, memoryTo-laid k) at (found .of-a k below))
-        (rw (row-is, word-is, memoryTo-laid k) at (found .of-b k below))
-        (rw (row-is, word-is, memoryTo-laid k) at (found .of-c k below))
-        (carryIn-comes row word k short is)
-        (is-first remaining word width all ∙ rw word-is)
-        (is-last remaining word width all ∙ rw word-is)
-        (rw (row-is, word-is))
-        ∙ rw (
-          standing-steps (setup .direction) width (setup .modulos .a) row (flow .pointers .a) (setup .uses .a) word,
-          standing-steps (setup .direction) width (setup .modulos .b) row (flow .pointers .b) (setup .uses .b) word,
-          standing-steps (setup .direction) width (setup .modulos .c) row (flow .pointers .c) (setup .uses .c) word,
-          standing-steps (setup .direction) width (setup .modulos .d) row (flow .pointers .d) (setup .uses .d) word,
+        rw (
+          ← memoryTo-stored k,
+          ← countTo-stored k,
+          row-is,
+          word-is,
+          rw (row-is, word-is, held-is k) at (found .of-a k below),
+          rw (row-is, word-is, held-is k) at (found .of-b k below),
+          rw (row-is, word-is, held-is k) at (found .of-c k below),
+          comes,
+          is-first remaining word width all,
+          is-last remaining word width all,
         )
+        (simp standing-steps)
 
-    words-go : (remaining row word k : ℕ) → remaining + word ≡ width → k ≡ row * width + word → k + remaining ≤ n
-        → words setup width remaining (stateIn row word k) ≡ stateIn row width (row * width + width)
-    unfolding repeated
-    words-go zero row word k all is below =
-        let word-is : word ≡ width = omega arith in
-        ap (λ (k : ℕ). stateIn row word k) is ∙ ap (λ (word : ℕ). stateIn row word (row * width + word)) word-is
-    words-go (suc remaining) row word k all is below =
-        ap (words setup width remaining) (oneWord-goes row word remaining k (omega arith) is (omega arith))
-        ∙ words-go remaining row (suc word) (suc k) (omega arith) (omega arith) (omega arith)
-
-    -- at a row's end the carry is the last word's
-    abbrev lastCarry : (k : ℕ) → ℕ
-    lastCarry k = wordBefore (flow .carry) (λ k. final k .carry) k
-
-    carryIn-last : (word k : ℕ) → 1 ≤ word → 1 ≤ k → carryIn word k ≡ lastCarry k
-    unfolding carryIn wordBefore
-    carryIn-last zero k some more = absurd (omega arith)
-    carryIn-last (suc word) zero some more = absurd (omega arith)
-    carryIn-last (suc word) (suc k) some more = refl
+    -- the carry that comes to a row's next word is the one before it; at the row's end it is the last word's
+    words-go : (remaining row word k carry : ℕ) → remaining + suc word ≡ width → k ≡ row * width + word → k + remaining < n
+        → carry ≡ carryTo (setup .fill) (setup .carry) width (resultAt setup width (flow .earlier) a b c) k
+        → words setup width (suc remaining) (stateIn row word carry k) ≡ stateIn row width (lastCarry (row * width + width)) (row * width + width)
+    unfolding repeated wordBefore
+    words-go zero row word k carry all is below comes =
+        let word-is : suc word ≡ width = omega arith in
+        let k-is : suc k ≡ row * width + width = omega arith in
+        oneWord-goes row word 0 k carry (omega arith) is (omega arith) comes
+        ∙ ap (λ (word : ℕ). stateIn row word (lastCarry (suc k)) (suc k)) word-is
+        ∙ ap (λ (k : ℕ). stateIn row width (lastCarry k) k) k-is
+    words-go (suc remaining) row word k carry all is below comes =
+        ap (words setup width (suc remaining)) (oneWord-goes row word (suc remaining) k carry (omega arith) is (omega arith) comes)
+        ∙ words-go remaining row (suc word) (suc k) (final k .carry) (omega arith) (omega arith) (omega arith)
+        (sym (carryTo-next _ _ width k _ (λ none. absurd (omega (arith, word-of width row (suc word) (suc k) (omega arith) (omega arith))))))
 
     abbrev stateRow : (row k : ℕ) → State
-    stateRow row k = state (memoryTo k) (flowTo (pointersIn setup width row 0 (flow .pointers)) (lastCarry k) k)
-
-    rowStart-goes : (row k : ℕ) → rowStart setup (stateRow row k) ≡ stateIn row 0 k
-    unfolding rowStart flowTo carryIn
-    rowStart-goes row k = refl
+    stateRow row k = stateIn row 0 (lastCarry k) k
 
     oneRow-goes : (row : ℕ) → 1 ≤ width → row * width + width ≤ n
         → oneRow setup width (stateRow row (row * width)) ≡ stateRow (suc row) (row * width + width)
-    unfolding oneRow rowEnd flowTo
+    unfolding oneRow rowStart rowEnd flowTo
     oneRow-goes row some below =
-        let does : words setup width width (stateIn row 0 (row * width)) ≡ stateIn row width (row * width + width) =
-        words-go width row 0 (row * width) (omega arith) (omega arith) below in
-        rw (
-          rowStart-goes row (row * width),
-          does,
-          standing-turns (setup .direction) width (setup .modulos .a) row (flow .pointers .a) (setup .uses .a),
-          standing-turns (setup .direction) width (setup .modulos .b) row (flow .pointers .b) (setup .uses .b),
-          standing-turns (setup .direction) width (setup .modulos .c) row (flow .pointers .c) (setup .uses .c),
-          standing-turns (setup .direction) width (setup .modulos .d) row (flow .pointers .d) (setup .uses .d),
-          carryIn-last width (row * width + width) some (omega arith),
-        )
+        let all : suc (width - 1) ≡ width = omega arith in
+        let does : words setup width width (stateIn row 0 (setup .carry) (row * width)) ≡ stateIn row width (lastCarry (row * width + width)) (row * width + width) =
+        rw all at (words-go (width - 1) row 0 (row * width) (setup .carry) (omega arith) (omega arith) (omega arith) (sym (carryTo-first _ _ width (row * width) _ (word-of width row 0 (row * width) some (omega arith))))) in
+        rw does (simp standing-turns)
 
     rows-go : (remaining row height k : ℕ) → 1 ≤ width → remaining + row ≡ height → k ≡ row * width → height * width ≤ n
         → rows setup width remaining (stateRow row k) ≡ stateRow height (height * width)
@@ -268,67 +195,14 @@ module _ (setup : Setup) (width : ℕ) (memory : List ℕ) (flow : Flow) (a b c 
         ∙ ap (rows setup width remaining) (oneRow-goes row some (omega arith))
         ∙ rows-go remaining (suc row) height (row * width + width) some (omega arith) (sym on) below
 
-  flowTo-starts : flow .pending ≡ nothing → flow ≡ flowTo (pointersIn setup width 0 0 (flow .pointers)) (flow .carry) 0
-  unfolding flowTo wordBefore zeroWords countTo pendingTo
-  flowTo-starts none =
-      rw (
-        ← none,
-        standing-starts (setup .direction) (setup .uses .a) width (setup .modulos .a) (flow .pointers .a),
-        standing-starts (setup .direction) (setup .uses .b) width (setup .modulos .b) (flow .pointers .b),
-        standing-starts (setup .direction) (setup .uses .c) width (setup .modulos .c) (flow .pointers .c),
-        standing-starts (setup .direction) (setup .uses .d) width (setup .modulos .d) (flow .pointers .d),
-      )
-
-  -- flag and count as the theorem has them
-  countWords-sum : (used : Bool) (k : ℕ) → setup .uses .d ≡ used → countWords k ≡ flow .stored + (if used then k else 0)
-  unfolding countWords
-  countWords-sum true zero uses = omega arith
-  countWords-sum false zero uses = omega arith
-  countWords-sum true (suc k) uses =
-      countWith-by (setup .uses .d) true (atD setup width flow k .word) (final k .word) (countWords k) uses
-      ∙ omega (arith, countWords-sum true k uses)
-  countWords-sum false (suc k) uses =
-      countWith-by (setup .uses .d) false (atD setup width flow k .word) (final k .word) (countWords k) uses
-      ∙ countWords-sum false k uses
-
-  zeroWords-every : (k : ℕ) → zeroWords k ≡ (flow .allzero && every (λ k. eqb (final k .word) 0) k)
-  unfolding zeroWords
-  zeroWords-every zero = and-true (flow .allzero)
-    where
-      and-true : (test : Bool) → test ≡ (test && true)
-      and-true true = refl
-      and-true false = refl
-  zeroWords-every (suc k) =
-      rw (zeroWords-every k)
-      (turned (flow .allzero) (every (λ k. eqb (final k .word) 0) k) (eqb (final k .word) 0))
-    where
-      turned : (a b c : Bool) → ((a && b) && c) ≡ (a && (c && b))
-      turned true true true = refl
-      turned true true false = refl
-      turned true false true = refl
-      turned true false false = refl
-      turned false b c = refl
-
 -- all rows, the last word waiting
 module _ (setup : Setup) (width height : ℕ) (memory : List ℕ) (flow : Flow) (a b c : ℕ → ℕ) (some : 1 ≤ width) (none : flow .pending ≡ nothing)
     (found : Found setup width flow a b c memory (height * width)) where
   rows-are : rows setup width height (state memory flow) ≡ stateRow setup width memory flow a b c (height * width) found height (height * width)
-  unfolding memoryTo wordBefore
+  unfolding wordBefore
   rows-are =
-      ap (rows setup width height) (ap (state memory) (flowTo-starts setup width memory flow a b c none))
+      ap (rows setup width height) (flowTo-starts setup width memory flow a b c none)
       ∙ rows-go setup width memory flow a b c (height * width) found height 0 height 0 some (omega arith) (omega arith) (omega arith)
-
-  pub found-pointers : rows setup width height (state memory flow) .flow .pointers ≡ pointersIn setup width height 0 (flow .pointers)
-  unfolding flowTo
-  found-pointers = ap (λ (end : State). end .flow .pointers) rows-are
-
-  pub found-pending : 1 ≤ height * width → rows setup width height (state memory flow) .flow .pending ≡ waiting setup width memory flow a b c (height * width - 1)
-  unfolding flowTo pendingTo
-  found-pending more = ap (λ (end : State). end .flow .pending) rows-are ∙ last (height * width) more
-    where
-      last : (n : ℕ) → 1 ≤ n → pendingTo setup width memory flow a b c n ≡ waiting setup width memory flow a b c (n - 1)
-      last zero none = absurd (omega arith)
-      last (suc k) more = ap (waiting setup width memory flow a b c) (sym (sub-one (suc k)))
 
   -- its words laid in order, and what it hands on
   pub found-blit : areaBlit setup width height (state memory flow) ≡ state (memoryOf setup width flow a b c memory (height * width)) (flowOf setup width flow a b c height)
@@ -338,37 +212,28 @@ module _ (setup : Setup) (width height : ℕ) (memory : List ℕ) (flow : Flow) 
       ∙ rw (
         memoryTo-stored setup width memory flow a b c (height * width),
         countTo-stored setup width memory flow a b c (height * width),
-        memoryWords-laid setup width memory flow a b c (setup .uses .d) (height * width) refl,
-        countWords-sum setup width memory flow a b c (setup .uses .d) (height * width) refl,
-        zeroWords-every setup width memory flow a b c (height * width),
+        zeroTo-every setup width memory flow a b c (height * width),
       )
 
 -- a quiet blit's sources find what the blit found
 module _ (setup : Setup) (width height : ℕ) (memory : List ℕ) (flow : Flow) (some : 1 ≤ width) (none : flow .pending ≡ nothing) (quiet : Quiet setup width (height * width) flow) where
-  abbrev a : (k : ℕ) → ℕ
-  a = wordA setup width memory flow
-
-  abbrev b : (k : ℕ) → ℕ
-  b = wordB setup width memory flow
-
-  abbrev c : (k : ℕ) → ℕ
-  c = wordC setup width memory flow
-
-  found : Found setup width flow a b c memory (height * width)
+  found : Found setup width flow (wordA setup width memory flow) (wordB setup width memory flow) (wordC setup width memory flow) memory (height * width)
   unfolding Quiet wordA wordB wordC
   found =
       record {
-        of-a = λ k below. rw (memoryTo-laid setup width memory flow a b c k) (fetched-unmet setup width memory flow a b c (setup .uses .a) k (height * width) (flow .sources .a) _ (atA setup width flow) refl below (quiet .0));
-        of-b = λ k below. rw (memoryTo-laid setup width memory flow a b c k) (fetched-unmet setup width memory flow a b c (setup .uses .b) k (height * width) (flow .sources .b) _ (atB setup width flow) refl below (quiet .1));
-        of-c = λ k below. rw (memoryTo-laid setup width memory flow a b c k) (fetched-unmet setup width memory flow a b c (setup .uses .c) k (height * width) (flow .sources .c) _ (atC setup width flow) refl below (quiet .2));
+        of-a = λ k below. fetched-unmet _ _ (atD setup width flow) (atA setup width flow) _ memory _ k _ below (quiet .0);
+        of-b = λ k below. fetched-unmet _ _ (atD setup width flow) (atB setup width flow) _ memory _ k _ below (quiet .1);
+        of-c = λ k below. fetched-unmet _ _ (atD setup width flow) (atC setup width flow) _ memory _ k _ below (quiet .2);
       }
 
   pub rows-pointers : rows setup width height (state memory flow) .flow .pointers ≡ pointersIn setup width height 0 (flow .pointers)
-  rows-pointers = found-pointers setup width height memory flow a b c some none found
+  unfolding flowTo
+  rows-pointers = ap (λ (end : State). end .flow .pointers) (rows-are setup width height memory flow _ _ _ some none found)
 
   pub rows-pending : 1 ≤ height * width → rows setup width height (state memory flow) .flow .pending
       ≡ record { waits = setup .uses .d; place = atD setup width flow (height * width - 1) .word; word = finalWord setup width memory flow (height * width - 1) }
-  rows-pending more = found-pending setup width height memory flow a b c some none found more
+  unfolding flowTo
+  rows-pending more = ap (λ (end : State). end .flow .pending) (rows-are setup width height memory flow _ _ _ some none found) ∙ pendingTo-last setup width memory flow _ _ _ (height * width) more
 
 pub quiet-blit : QuietBlit
 quiet-blit setup width height memory flow some none quiet =

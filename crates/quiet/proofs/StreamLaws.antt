@@ -76,6 +76,15 @@ is-last zero word width all = sym (eq-eqb (word + 1) width (omega arith))
 is-last (suc remaining) word width all =
     ne-eqb (suc remaining) 0 (λ same. absurd (omega arith)) ∙ sym (ne-eqb (word + 1) width (λ same. absurd (omega arith)))
 
+-- where no word was laid, memory is as it was
+pub laidAt-elsewhere : (place word : ℕ → ℕ) (n : ℕ) (memory : List ℕ) (at : ℕ) → ((j : ℕ) → j < n → place j ≡ at → ⊥)
+    → getD (laidAt place word n memory) at 0 ≡ getD memory at 0
+unfolding laidAt
+laidAt-elsewhere place word zero memory at apart = refl
+laidAt-elsewhere place word (suc n) memory at apart =
+    getD-set-other (laidAt place word n memory) (place n) at (word n) 0 (λ same. apart n (omega arith) (sym same))
+    ∙ laidAt-elsewhere place word n memory at (λ j below. apart j (omega arith))
+
 -- words laid at different places inside memory are found there
 laidAt-keeps-length : (place word : ℕ → ℕ) (n : ℕ) (memory : List ℕ) → length (laidAt place word n memory) ≡ length memory
 unfolding laidAt

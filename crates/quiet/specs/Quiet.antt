@@ -8,6 +8,8 @@ use lib.Dec.{eqb}
 use Rattle.word.specs.declared.types.Pointer.{Pointer}
 use Rattle.word.specs.Choice.{if_then_else_, every}
 use Rattle.area.specs.declared.types.Pointers.{Pointers}
+use Rattle.area.specs.declared.types.Sources.{Sources}
+use Rattle.area.specs.declared.types.Earlier.{Earlier}
 use Rattle.area.specs.declared.types.Setup.{Setup}
 use Rattle.area.specs.declared.types.Flow.{Flow}
 use Rattle.area.specs.Fetch.{fetched}
@@ -44,21 +46,21 @@ module _ (setup : Setup) (width : ℕ) (flow : Flow) (a b c : ℕ → ℕ) where
       if setup .uses .d then laidAt (λ k. atD setup width flow k .word) (λ k. finalAt setup width (flow .earlier) a b c k .word) words memory else
       memory
 
+  -- the data registers and the earlier words after k words
+  abbrev pub sourcesTo : (k : ℕ) → Sources
+  sourcesTo k =
+      record { a = wordBefore (flow .sources .a) a k; b = wordBefore (flow .sources .b) b k; c = wordBefore (flow .sources .c) c k }
+
+  abbrev pub earlierTo : (k : ℕ) → Earlier
+  earlierTo k =
+      record { a = wordBefore (flow .earlier .a) (maskedAt (setup .masks) width a) k; b = wordBefore (flow .earlier .b) b k }
+
   abbrev pub flowOf : (rows : ℕ) → Flow
   flowOf rows =
       record {
         pointers = pointersIn setup width rows 0 (flow .pointers);
-        sources =
-            record {
-              a = wordBefore (flow .sources .a) a (rows * width);
-              b = wordBefore (flow .sources .b) b (rows * width);
-              c = wordBefore (flow .sources .c) c (rows * width);
-            };
-        earlier =
-            record {
-              a = wordBefore (flow .earlier .a) (maskedAt (setup .masks) width a) (rows * width);
-              b = wordBefore (flow .earlier .b) b (rows * width);
-            };
+        sources = sourcesTo (rows * width);
+        earlier = earlierTo (rows * width);
         carry = wordBefore (flow .carry) (λ k. finalAt setup width (flow .earlier) a b c k .carry) (rows * width);
         allzero = flow .allzero && every (λ k. eqb (finalAt setup width (flow .earlier) a b c k .word) 0) (rows * width);
         stored = flow .stored + (if setup .uses .d then rows * width else 0);

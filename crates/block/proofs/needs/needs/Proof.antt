@@ -1,6 +1,6 @@
 -- `block::needs::needs` meets its contract, source by source.
 use Rattle.word.proofs.Base.{needs}
-use Rattle.block.proofs.IgnoresLaws.{ignores-a, ignores-b, ignores-c}
+use Rattle.block.proofs.MixLaws.{ignores-a, ignores-b, ignores-c}
 use Rattle.block.proofs.needs.needs.Statement.{statement}
 use Rattle.block.proofs.needs.needs.Tie as tie
 

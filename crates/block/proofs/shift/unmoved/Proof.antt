@@ -1,6 +1,5 @@
 -- `block::shift::unmoved` meets its contract: a shift by nought is none.
 use Rattle.word.proofs.Base.{needs}
-use Rattle.block.proofs.EachLaws.{each-self}
 use Rattle.block.proofs.ShiftLaws.{shift-of-nought}
 use Rattle.block.proofs.shift.unmoved.Statement.{statement}
 use Rattle.block.proofs.shift.unmoved.Tie as tie
@@ -8,4 +7,4 @@ use Rattle.block.proofs.shift.unmoved.Tie as tie
 pub unmoved-spec : {M : Type 1} → statement M
 unmoved-spec =
     tie.close (tie.spec (λ c κs. search needs)
-    (λ c. λ n. shift-of-nought _ _ _ n _ _ (search needs) (search needs) (c .first-word .ensures) (each-self n _)))
+    (λ c. λ n. shift-of-nought _ _ _ n _ (search needs) (search needs) (c .first-word .ensures)))

@@ -28,6 +28,10 @@ pub each-fewer : (i n : ℕ) (words : List ℕ) (word : ℕ → ℕ) → n ≤ i
 unfolding Each
 each-fewer i n words word most all j below = all j (omega arith)
 
+pub each-self : (n : ℕ) (words : List ℕ) → Each n words (at words)
+unfolding Each at
+each-self n words j below = refl
+
 pub each-copied : (n : ℕ) (words copies : List ℕ) (word : ℕ → ℕ) → Each n words word → Each n copies (at words) → Each n copies word
 unfolding Each at
 each-copied n words copies word all same j below = same j below ∙ all j below

@@ -33,7 +33,7 @@ use Rattle.block.specs.declared.types.Size.{Size}
 use Rattle.block.specs.Inner.Ignores.{Ignores}
 use Rattle.block.specs.Inner.Place.{rowAt, placeIn, placeAt, EvenRows}
 use Rattle.block.specs.Inner.Terms.{terms}
-use Rattle.block.proofs.TermsLaws.{joined-is-logic, joined-of-a}
+use Rattle.block.proofs.MixLaws.{joined-is-logic, joined-of-a}
 use Rattle.block.proofs.FillLaws.{carry-of-off}
 use Rattle.apart.specs.Inner.Placed.{Channel}
 use Rattle.apart.specs.Inner.Spans.{Known}

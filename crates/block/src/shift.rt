@@ -11,7 +11,7 @@ use word::types::Direction;
 
 // The pair's sixteen bits from two words: ascending, this one's high bits, and above them the earlier one's low bits. By
 // nought the earlier word gives none, for it goes up sixteen places in two steps. Descending the same the other way.
-pub fn drawn(direction: Direction, by: u32, earlier: u16, this: u16) -> u16
+fn drawn(direction: Direction, by: u32, earlier: u16, this: u16) -> u16
     requires { ⌜ by < 16 ⌝ }
     ensures { λ kept. ⌜ kept ≡ shifted direction by earlier this ⌝ }
 {

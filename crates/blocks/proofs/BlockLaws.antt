@@ -15,7 +15,8 @@ use Rattle.apart.specs.Inner.Apart.{Apart}
 use Rattle.apart.proofs.PlacedLaws.{stride-lt, channel-place, channel-rows}
 use Rattle.blocks.specs.Inner.Block.{Pointer, Sources, Earlier, Pointers, Setup, Flow, Strides, Size, Made, pointerEnd, nothing}
 use Rattle.blocks.specs.Inner.Block.{Channel, maskedAt, at, Each, levelAt, finalWordAt, nought, Lies, fetchedAt}
-use Rattle.blocks.specs.Inner.Block.{suppliedAt, sourceOf, Rested, Asked, Fits, Stand, MadeOf, rowsOn, pointersOn}
+use Rattle.blocks.specs.Inner.Block.{suppliedAt, sourceOf, Rested, Asked, Fits}
+use Rattle.blocks.specs.Inner.MadeOf.{Stand, MadeOf, rowsOn, pointersOn}
 
 -- a choice where the ways that may be taken are the same
 if-same : {Answer : Type 0} (test : Bool) (this that other : Answer) → (test ≡ true → this ≡ that) → (if test then this else other) ≡ (if test then that else other)

@@ -7,7 +7,8 @@ use Rattle.quiet.specs.Words.{wordBefore, shiftedAt, mixedAt, carryTo, filledAt
 use Rattle.block.specs.declared.types.Needs.{Needs}
 use Rattle.block.specs.Inner.Each.{filledWordAt}
 use Rattle.block.specs.Inner.Ignores.{Ignores}
-use Rattle.blocks.specs.Inner.Block.{Direction, Earlier, Setup, maskedAt, at, Each, finalWordAt, Stand, FinalWords, FinalCarry}
+use Rattle.blocks.specs.Inner.Block.{Direction, Earlier, Setup, maskedAt, at, Each, finalWordAt}
+use Rattle.blocks.specs.Inner.MadeOf.{Stand, FinalWords, FinalCarry}
 
 -- equal words give equal words
 shiftedAt-same : (direction : Direction) (by first : ℕ) (word same : ℕ → ℕ) (n : ℕ) → ((i : ℕ) → i < n → word i ≡ same i)

@@ -8,7 +8,8 @@ use Rattle.word.proofs.ChoiceLaws.{and-right, every-of-sum}
 use Rattle.quiet.proofs.StreamLaws.{word-of}
 use Rattle.block.proofs.FillLaws.{carry-of-off}
 use Rattle.blocks.specs.Inner.Block.{Masks, Sources, Setup, Flow, Strides, Size, Made, maskedAt, at, Each, levelAt, nought}
-use Rattle.blocks.specs.Inner.Block.{suppliedAt, masking, AllRest, Arrays, Fits, MadeOf, handed}
+use Rattle.blocks.specs.Inner.Block.{suppliedAt, masking, AllRest, Arrays, Fits}
+use Rattle.blocks.specs.Inner.MadeOf.{MadeOf, handed}
 use Rattle.blocks.specs.Inner.Repeats.{Still, lastWords, Prepared, Repeating}
 use Rattle.blocks.proofs.SuppliedLaws.{given-idle}
 use Rattle.blocks.proofs.BlockLaws.{same-earlier, same-sources}

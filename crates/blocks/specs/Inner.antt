@@ -1,3 +1,4 @@
 -- What only contracts speak of: no promise to a caller rests on it.
 pub mod Block
+pub mod MadeOf
 pub mod Repeats

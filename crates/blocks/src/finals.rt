@@ -2,7 +2,7 @@
 ghost use mathlib.Core.Path.{_≡_};
 ghost use Prim.Native.Nat.{_*_, _<_, _≤_};
 ghost use lib.ListN.{length};
-ghost use Rattle.blocks.specs.Inner.Block.{FinalWords, FinalCarry};
+ghost use Rattle.blocks.specs.Inner.MadeOf.{FinalWords, FinalCarry};
 use area::types::Earlier;
 use area::types::Setup;
 use block::types::Size;

@@ -9,8 +9,9 @@ ghost use Rattle.area.specs.Rows.{areaBlit};
 ghost use Rattle.quiet.specs.Stream.{laidAt};
 ghost use Rattle.block.specs.Inner.Place.{placeAt};
 ghost use Rattle.blocks.specs.Inner.Block.{pointerEnd, at, nought, Lies, masking, plain, sourceOf};
-ghost use Rattle.blocks.specs.Inner.Block.{Asked, Given, AllRest, Supplied, Arrays, Fits, MadeOf, handed};
-ghost use Rattle.blocks.specs.Inner.Block.{rowsOn, pointersOn};
+ghost use Rattle.blocks.specs.Inner.Block.{Asked, Given, AllRest, Supplied, Arrays, Fits};
+ghost use Rattle.blocks.specs.Inner.MadeOf.{MadeOf, handed};
+ghost use Rattle.blocks.specs.Inner.MadeOf.{rowsOn, pointersOn};
 ghost use Rattle.blocks.specs.Inner.Repeats.{Prepared};
 use crate::types::Made;
 use crate::types::Source;
@@ -147,7 +148,7 @@ fn rows_on(used: bool, far: usize, rows: usize, pointer: Pointer) -> Pointer
     pointer
 }
 
-pub fn pointers_on(setup: Setup, far: Strides, rows: usize, at: Pointers) -> Pointers
+fn pointers_on(setup: Setup, far: Strides, rows: usize, at: Pointers) -> Pointers
     requires { ⌜ (at .a .word < pointerEnd) × (at .b .word < pointerEnd) × (at .c .word < pointerEnd) × (at .d .word < pointerEnd)
         × (far .a < pointerEnd) × (far .b < pointerEnd) × (far .c < pointerEnd) × (far .d < pointerEnd) × (rows ≤ 64) ⌝ }
     ensures { λ next. ⌜ next ≡ pointersOn setup far rows at ⌝ }
@@ -161,7 +162,7 @@ pub fn pointers_on(setup: Setup, far: Strides, rows: usize, at: Pointers) -> Poi
 }
 
 // The count after so many words.
-pub fn counted(used: bool, stored: u32, words: usize) -> u32
+fn counted(used: bool, stored: u32, words: usize) -> u32
     requires { ⌜ (words ≤ 64) × (stored + 64 < 4294967296) ⌝ }
     ensures { λ count. ⌜ count ≡ stored + (if used then words else 0) ⌝ }
 {

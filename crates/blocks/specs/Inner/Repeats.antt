@@ -5,7 +5,8 @@ use mathlib.Core.Path.{_≡_}
 use mathlib.Core.Bool.{true, false}
 use mathlib.Core.List.{List}
 use Rattle.word.specs.declared.types.Fill.the-variants.{Off}
-use Rattle.blocks.specs.Inner.Block.{Earlier, Sources, Setup, Flow, Size, at, nought, masking, FinalWords}
+use Rattle.blocks.specs.Inner.Block.{Earlier, Sources, Setup, Flow, Size, at, nought, masking}
+use Rattle.blocks.specs.Inner.MadeOf.{FinalWords}
 
 pub record Still (setup : Setup) : Type 0 where
   pub a : setup .uses .a ≡ false

@@ -1,12 +1,11 @@
 // The fill of a block's rows: every word filled by itself, then the carries along each row.
 ghost use mathlib.Core.Path.{_≡_};
 ghost use Prim.Native.Nat.{ℕ, _+_, _-_, _*_, _/_, _<_, _≤_};
-ghost use lib.Bits.{bitXor};
 ghost use lib.ListN.{length, getD};
 ghost use Rattle.word.specs.declared.types.Fill.the-variants.{Exclusive};
 ghost use Rattle.word.specs.Fill.{exclusive};
 ghost use Rattle.quiet.specs.Words.{filledAt};
-ghost use Rattle.block.specs.Inner.Each.{at, Each, Kept, prefixAt, eitherAt, filledWordAt};
+ghost use Rattle.block.specs.Inner.Each.{at, Each, prefixAt, eitherAt, filledWordAt};
 ghost use Rattle.block.specs.Inner.Carry.{RowFilled, RowsFilled};
 use crate::types::Words;
 use word::types::Fill;

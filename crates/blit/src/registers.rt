@@ -58,9 +58,24 @@ fn put_flag(file: &mut [u16], allzero: bool)
     }
 }
 
+fn put_all(file: &mut [u16], uses: Uses, end: Flow)
+    ensures { λ _. ⌜ now (file .exit) ≡ writeBack uses end (now (file .entry)) ⌝ }
+{
+    let pointers = end.pointers;
+    let sources = end.sources;
+    put_pointers(file, uses, pointers);
+    put_sources(file, uses, sources);
+    put_flag(file, end.allzero);
+}
+
+// In a whole file every register has its place, so that none is asked for it.
 pub fn write_back(file: &mut [u16], uses: Uses, end: Flow)
     ensures { λ _. ⌜ now (file .exit) ≡ writeBack uses end (now (file .entry)) ⌝ }
 {
+    if file.len() < file::WORDS {
+        put_all(file, uses, end);
+        return;
+    }
     let pointers = end.pointers;
     let sources = end.sources;
     put_pointers(file, uses, pointers);

@@ -82,6 +82,16 @@ module _ (setup : Setup) (width : ℕ) (memory : List ℕ) (flow : Flow) where
   abbrev pub flowAfter : (rows : ℕ) → Flow
   flowAfter = flowOf setup width flow (wordA setup width memory flow) (wordB setup width memory flow) (wordC setup width memory flow)
 
+-- any words that are what the sources find when they come to them are the blit's
+abbrev pub FoundBlit : Type 0
+FoundBlit =
+    (setup : Setup) (width height : ℕ) (memory : List ℕ) (flow : Flow) (a b c : ℕ → ℕ)
+    → 1 ≤ width
+    → flow .pending ≡ nothing
+    → Found setup width flow a b c memory (height * width)
+    → areaBlit setup width height (state memory flow)
+    ≡ state (memoryOf setup width flow a b c memory (height * width)) (flowOf setup width flow a b c height)
+
 -- a quiet blit's words come from the memory that it found, and that memory with D's words laid in order is what it leaves
 abbrev pub QuietBlit : Type 0
 QuietBlit =

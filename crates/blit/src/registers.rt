@@ -68,7 +68,7 @@ fn put_all(file: &mut [u16], uses: Uses, end: Flow)
     put_flag(file, end.allzero);
 }
 
-// In a whole file every register has its place, so that none is asked for it.
+// The same calls where the file is whole: there the compiler sees that every register has its place, and tests none.
 pub fn write_back(file: &mut [u16], uses: Uses, end: Flow)
     ensures { λ _. ⌜ now (file .exit) ≡ writeBack uses end (now (file .entry)) ⌝ }
 {

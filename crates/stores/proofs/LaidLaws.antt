@@ -1,6 +1,6 @@
 -- Laws of a blit's stores laid into a run, word by word and row by row: of their places and of their values alike.
-use Rattle.word.proofs.Base.{_≡_, refl, sym, ap, _∙_, ℕ, zero, suc, _+_, _-_, _*_, _<_, _≤_, sub-one, arith, Bool, true}
-use Rattle.word.proofs.Base.{_&&_, eqb, List, [], _∷_, _++_, length, set}
+use Rattle.word.proofs.Base.{_≡_, refl, sym, ap, _∙_, ℕ, zero, suc, _+_, _-_, _*_, _<_, _≤_, sub-one, arith}
+use Rattle.word.proofs.Base.{eqb, List, [], _∷_, length, set}
 use mathlib.Core.List.{map, map-append}
 use lib.ListN.{length-map}
 use Rattle.word.specs.Laid.{laid}
@@ -18,7 +18,7 @@ use Rattle.area.specs.Finish.{finish}
 use Rattle.area.specs.Store.{wait, storePending}
 use Rattle.area.specs.Move.{stepped, moveOn, rowEnd}
 use Rattle.area.specs.Rows.{finishedWord, storedBefore, oneWord, words, rowStart, oneRow, rows}
-use Rattle.area.proofs.RowsLaws.{fetchedOn, oneWord-of-parts, oneRow-counts}
+use Rattle.area.proofs.RowsLaws.{fetchedOn, oneWord-of-parts}
 use Rattle.stores.specs.Stores.{Store, store, rowStores, blitStores, stores, allZero}
 use Rattle.stores.proofs.StoresLaws.{rowStores-length, rows-allzero}
 
@@ -124,15 +124,6 @@ unfolding oneRow rowStart
 oneRow-of-started setup width flow started end after starts does turns =
     let done : state [] end ≡ words setup width width (state [] (withCarry (setup .carry) flow)) = rw starts at does in
     rw (turns, ← done)
-
--- the count has room for the rows that remain
-pub rows-room : (setup : Setup) (width remaining : ℕ) (flow after : Flow) → 0 < remaining → width ≤ 64
-    → state [] after ≡ oneRow setup width (state [] flow)
-    → flow .stored + remaining * 64 < 4294967296 → after .stored + (remaining - 1) * 64 < 4294967296
-rows-room setup width remaining flow after more narrow does room =
-    let count : after .stored ≤ flow .stored + width =
-    rw (ap (λ (end : State). end .flow .stored) does) (oneRow-counts setup width (state [] flow)) in
-    omega arith
 
 -- a blit's set-up and start
 module _ (file : List ℕ) (size wide tall : ℕ) (set-up : Setup) (flow : Flow)

@@ -1,7 +1,7 @@
 -- A blit that uses D alone is its stores: on any memory they are the same, each lies inside where the blit is lawful, and memory
 -- after the blit is memory with each of them set in turn.
-use Rattle.word.proofs.Base.{_≡_, refl, sym, ap, _∙_, ℕ, zero, suc, _<_, Bool, true, false, _||_, leb, leb-false, List}
-use Rattle.word.proofs.Base.{[], _∷_, _++_, length, set}
+use Rattle.word.proofs.Base.{_≡_, refl, sym, ap, _∙_, ℕ, zero, suc, _<_, Bool, false, _||_, leb, leb-false, List}
+use Rattle.word.proofs.Base.{[], _∷_, _++_, set}
 use Rattle.word.specs.declared.types.Pointer.{Pointer}
 use Rattle.word.specs.Repeat.{repeated}
 use Rattle.word.specs.Pointer.{pointerEnd, moved, nextRow}

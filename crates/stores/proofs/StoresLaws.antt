@@ -1,5 +1,5 @@
 -- Laws of the list of a blit's stores: how many there are, and that D's pointer and the flag come of it.
-use Rattle.word.proofs.Base.{_≡_, refl, sym, ap, _∙_, ℕ, zero, suc, _+_, _*_, _<_, _≤_, suc-mul, arith, Bool, true}
+use Rattle.word.proofs.Base.{_≡_, refl, sym, ap, _∙_, ℕ, zero, suc, _*_, _<_, _≤_, suc-mul, arith, Bool, true}
 use Rattle.word.proofs.Base.{false, _&&_, eqb, List, [], _∷_, _++_, length, length-append}
 use Rattle.word.specs.declared.types.Pointer.{Pointer}
 use Rattle.word.specs.Repeat.{repeated}

@@ -7,7 +7,8 @@ use Rattle.area.specs.Flow.{state}
 use Rattle.area.specs.Rows.{rows}
 use Rattle.stores.specs.Stores as specs
 use Rattle.stores.specs.Stores.{Store, blitStores}
-use Rattle.stores.proofs.LaidLaws.{blit-turn, blit-done, rows-room}
+use Rattle.area.proofs.RowsLaws.{rows-room}
+use Rattle.stores.proofs.LaidLaws.{blit-turn, blit-done}
 use Rattle.stores.proofs.blit_stores.Statement.{statement}
 use Rattle.stores.proofs.blit_stores.Tie as tie
 

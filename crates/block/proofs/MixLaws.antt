@@ -1,6 +1,6 @@
 -- Laws of the logic function over words: a sum, on single bits computed for all functions and settings; the sum of one
 -- source alone; and the sources that a function ignores.
-use Rattle.word.proofs.Base.{_≡_, refl, sym, ap, _∙_, ℕ, _+_, _*_, _/_, _%_, _^_, _<_, arith, Bool, T, eqb, eqb→eq, false}
+use Rattle.word.proofs.Base.{_≡_, refl, sym, ap, _∙_, ℕ, _+_, _*_, _/_, _%_, _^_, _<_, arith, Bool, T, eqb, eqb→eq, eqb-true, false, not-false}
 use Rattle.word.proofs.Base.{List, getD, bitAnd, bitXor}
 use lib.Pow.{shr-shr}
 use lib.Bits.{xor-lt, and-le-r, and-zero-l, xor-zero-r}
@@ -14,7 +14,7 @@ use Rattle.quiet.specs.Words.{mixedAt}
 use Rattle.block.specs.declared.types.Needs.{Needs}
 use Rattle.block.specs.declared.types.Terms.{Terms}
 use Rattle.block.specs.Inner.Each.{at, Each, turnedAt}
-use Rattle.block.specs.Inner.Ignores.{Ignores}
+use Rattle.block.specs.Inner.Ignores.{Ignores, differs, needed}
 use Rattle.block.specs.Inner.Terms.{terms, joined, joinedAt}
 
 -- the sum of single bits, m i being what the setting i gives
@@ -138,15 +138,12 @@ module _ (f up p q mask : ℕ) (shown : T (every (λ y. every (λ z. eqb (bit ma
           (rw (is 0 (bit y i) (bit z i)) (ap (bit f) (omega arith)))
           (rw (is 1 (bit y i) (bit z i)) (ap (bit f) (omega arith) ∙ alike (p * bit y i + q * bit z i) shows))
 
-module _ (f : ℕ) where
-  pub ignores-a : bitAnd (f / 16) 15 ≡ bitAnd f 15 → (a other b c : ℕ) → logic f a b c ≡ logic f other b c
-  ignores-a same a other b c =
-      logic-same f a b c other b c (λ i inside. ignored f 4 2 1 15 tt same (λ a b c. 4 * a + 2 * b + c) (λ a b c. omega arith) a other b c i)
-
-  pub ignores-b : bitAnd (f / 4) 51 ≡ bitAnd f 51 → (a b other c : ℕ) → logic f a b c ≡ logic f a other c
-  ignores-b same a b other c =
-      logic-same f a b c a other c (λ i inside. ignored f 2 4 1 51 tt same (λ b a c. 4 * a + 2 * b + c) (λ b a c. omega arith) b other a c i)
-
-  pub ignores-c : bitAnd (f / 2) 85 ≡ bitAnd f 85 → (a b c other : ℕ) → logic f a b c ≡ logic f a b other
-  ignores-c same a b c other =
-      logic-same f a b c a b other (λ i inside. ignored f 1 4 2 85 tt same (λ c a b. 4 * a + 2 * b + c) (λ c a b. omega arith) c other a b i)
+-- the sources of weight 4, 2 and 1
+pub ignores-of : (f : ℕ) → Ignores f (needed f)
+unfolding differs
+ignores-of f =
+    record {
+      a = λ told a other b c. logic-same f a b c other b c (λ i inside. ignored f 4 2 1 15 tt (eqb-true _ _ (not-false _ told)) (λ a b c. 4 * a + 2 * b + c) (λ a b c. omega arith) a other b c i);
+      b = λ told a b other c. logic-same f a b c a other c (λ i inside. ignored f 2 4 1 51 tt (eqb-true _ _ (not-false _ told)) (λ b a c. 4 * a + 2 * b + c) (λ b a c. omega arith) b other a c i);
+      c = λ told a b c other. logic-same f a b c a b other (λ i inside. ignored f 1 4 2 85 tt (eqb-true _ _ (not-false _ told)) (λ c a b. 4 * a + 2 * b + c) (λ c a b. omega arith) c other a b i);
+    }

@@ -1,6 +1,6 @@
 -- Laws of the places of rows evenly apart, and of the loops that fetch and store them.
-use Rattle.word.proofs.Base.{_≡_, refl, sym, ap, _∙_, ℕ, zero, suc, _+_, _*_, _%_, _<_, _≤_, add-zero, add-suc}
-use Rattle.word.proofs.Base.{suc-mul, add-mul, add-one, arith, List, length, getD, set}
+use Rattle.word.proofs.Base.{_≡_, refl, sym, ap, _∙_, ℕ, zero, suc, _+_, _-_, _*_, _%_, _<_, _≤_, add-zero, add-suc}
+use Rattle.word.proofs.Base.{suc-mul, add-mul, mul-le-mul, add-one, arith, List, length, getD, set}
 use Rattle.word.specs.declared.types.Direction.{Direction}
 use Rattle.word.specs.declared.types.Direction.the-variants.{Ascending, Descending}
 use Rattle.word.specs.Pointer.{pointerEnd}
@@ -37,6 +37,9 @@ rowAt-next far from row start is =
 pub rowAt-lt : (far from row : ℕ) → rowAt far from row < pointerEnd
 unfolding rowAt
 rowAt-lt far from row = omega arith
+
+pub rows-far : (rows far : ℕ) → rows ≤ 64 → far < pointerEnd → rows * far ≤ 64 * pointerEnd
+rows-far rows far few short = mul-le-mul {m₂ = pointerEnd} few (omega arith)
 
 -- a loop has come to a row of them
 pub record Walks (size : Size) (far from start s number : ℕ) : Type 0 where
@@ -139,3 +142,29 @@ pub lies-when : {n : ℕ} {direction : Direction} {far from known : ℕ} {size :
     → Lies n direction far from (record { width = known; height = size .height })
 lies-when is lies =
     record { inside = rw is at (lies .inside); room = rw is at (lies .room); some = rw is at (lies .some); starts = lies .starts; strides = lies .strides }
+
+-- the last word is the last of the last row
+module _ {n : ℕ} {direction : Direction} {far from : ℕ} {size : Size} (lies : Lies n direction far from size) (some : 1 ≤ size .height) where
+  pub few-rows : size .height ≤ 64
+  few-rows = let least : size .height * 1 ≤ size .height * size .width = mul-le-mul (omega arith) (lies .some) in omega (arith, lies .room)
+
+  pub last-far : (size .height - 1) * far ≤ 64 * pointerEnd
+  last-far = rows-far _ _ (omega (arith, few-rows)) (lies .strides)
+
+  pub last-row-inside : RowInside n direction (size .width) (record { word = (from + (size .height - 1) * far) % pointerEnd })
+  unfolding EvenRows rowAt
+  last-row-inside = lies .inside (size .height - 1) (omega arith)
+
+  pub last-fetched : (memory : List ℕ) (place : ℕ) → place ≡ placeIn direction ((from + (size .height - 1) * far) % pointerEnd) (size .width - 1)
+      → getD memory place 0 ≡ fetchedAt direction (size .width) far from memory (size .height * size .width - 1)
+  unfolding fetchedAt placeAt rowAt
+  last-fetched memory place is =
+      let all : size .height * size .width - 1 ≡ (size .height - 1) * size .width + (size .width - 1) = omega (arith, lies .some, last-of-rows) in
+      rw (
+        is,
+        row-of (size .width) (size .height - 1) (size .width - 1) _ (omega (arith, lies .some)) all,
+        word-of (size .width) (size .height - 1) (size .width - 1) _ (omega (arith, lies .some)) all,
+      )
+    where
+      last-of-rows : size .height * size .width ≡ (size .height - 1) * size .width + size .width
+      last-of-rows = let rest : suc (size .height - 1) ≡ size .height = omega arith in ap (λ (rows : ℕ). rows * size .width) (sym rest) ∙ suc-mul (size .height - 1) (size .width)

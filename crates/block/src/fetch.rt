@@ -1,6 +1,6 @@
 // A block's words fetched from memory row by row; no row goes round.
 ghost use mathlib.Core.Path.{_≡_};
-ghost use Prim.Native.Nat.{_+_, _*_, _<_, _≤_};
+ghost use Prim.Native.Nat.{_+_, _-_, _*_, _<_, _≤_};
 ghost use lib.ListN.{length};
 ghost use Rattle.word.specs.Inner.Even.{RowInside};
 ghost use Rattle.block.specs.Inner.Each.{Each, Laid};
@@ -38,6 +38,16 @@ pub fn rows(direction: Direction, ram: &[u16], from: usize, far: usize, size: Si
         s = s + size.width;
         number = number + 1;
     }
+}
+
+// The last of those words alone.
+pub fn last_word(direction: Direction, ram: &[u16], course: Course, size: Size) -> u16
+    requires { ⌜ Lies (length (now ram)) direction (course .far) (course .from) size × (1 ≤ size .height) ⌝ }
+    ensures { λ word. ⌜
+        word ≡ fetchedAt direction (size .width) (course .far) (course .from) (now (ram .entry)) (size .height * size .width - 1) ⌝ }
+{
+    let start = (course.from + (size.height - 1) * course.far) % INDEX_END;
+    ram[crate::place::place(direction, start, size.width - 1)]
 }
 
 // Rows of one, two or three words: a width that the compiler knows makes a row one move.

@@ -1,13 +1,16 @@
 -- One block is a blit of its rows: its words are those of the quiet blit.
-use Rattle.word.proofs.Base.{_≡_, refl, sym, ap, _∙_, ℕ, zero, suc, _+_, _-_, _*_, _<_, _≤_, mul-le-mul-right, sub-one, arith, Bool, true}
-use Rattle.word.proofs.Base.{false, eqb, List, getD}
+use Rattle.word.proofs.Base.{_≡_, refl, sym, ap, _∙_, ℕ, zero, suc, _+_, _-_, _*_, _<_, _≤_, suc-mul, mul-le-mul-right, sub-one, arith, Bool, true}
+use Rattle.word.proofs.Base.{_%_, decLt, false, eqb, eq-eqb, ne-eqb, List, getD}
+use native.Mathlib.Nat.{zero-mul}
 use Rattle.word.specs.Choice.{if_then_else_, every}
+use Rattle.word.specs.Mask.{masked}
 use Rattle.area.specs.Flow.{state}
 use Rattle.area.specs.Fetch.{fetched}
 use Rattle.area.specs.Rows.{areaBlit}
 use Rattle.quiet.specs.Words.{wordBefore}
 use Rattle.quiet.specs.Stream.{standing, standingAt, wordA, wordB, wordC, finals, finalWord, laidAt}
 use Rattle.quiet.specs.Quiet.{Unmet, Quiet, flowAfter}
+use Rattle.quiet.proofs.StreamLaws.{word-of}
 use Rattle.quiet.proofs.QuietLaws.{quiet-blit}
 use Rattle.block.specs.Inner.Place.{placeAt, EvenRows}
 use Rattle.block.proofs.PlaceLaws.{laidAt-same}
@@ -15,8 +18,8 @@ use Rattle.apart.specs.Inner.Apart.{Apart}
 use Rattle.apart.proofs.PlacedLaws.{stride-lt, channel-place, channel-rows}
 use Rattle.blocks.specs.Inner.Block.{Pointer, Sources, Earlier, Pointers, Setup, Flow, Strides, Size, Made, pointerEnd, nothing}
 use Rattle.blocks.specs.Inner.Block.{Channel, maskedAt, at, Each, levelAt, finalWordAt, nought, Lies, fetchedAt}
-use Rattle.blocks.specs.Inner.Block.{suppliedAt, sourceOf, Rested, Asked, Fits}
-use Rattle.blocks.specs.Inner.MadeOf.{Stand, MadeOf, rowsOn, pointersOn}
+use Rattle.blocks.specs.Inner.Block.{Masks, suppliedAt, masking, sourceOf, Rested, Asked, Fits}
+use Rattle.blocks.specs.Inner.MadeOf.{Stand, lastWords, MadeOf, rowsOn, pointersOn}
 
 -- a choice where the ways that may be taken are the same
 if-same : {Answer : Type 0} (test : Bool) (this that other : Answer) → (test ≡ true → this ≡ that) → (if test then this else other) ≡ (if test then that else other)
@@ -75,10 +78,32 @@ unfolding wordBefore
 before-last first word zero none = absurd (omega arith)
 before-last first word (suc k) some = ap word (sym (sub-one (suc k)))
 
+-- the last word of so many rows is a row's last
+last-is : (masks : Masks) (width rows word : ℕ) → 1 ≤ width → 1 ≤ rows * width → masking masks width (rows * width - 1) word ≡ masking masks width (width - 1) word
+unfolding maskedAt levelAt
+last-is masks width zero word some more = absurd (omega (arith, zero-mul width))
+last-is masks width (suc row) word some more =
+    rw (
+      word-of width row (width - 1) (suc row * width - 1) (omega arith) (omega (arith, suc-mul row width)),
+      word-of width 0 (width - 1) (width - 1) (omega arith) (omega arith),
+    )
+
+-- a row's last word masked: in a row of one it is the first too
+pub last-masked : (setup : Setup) (width : ℕ) (sources : Sources) {a : ℕ} → 1 ≤ width → a ≡ masked (eqb width 1) true (setup .masks .first) (setup .masks .last) (sources .a)
+    → _≡_ {A = Earlier} (record { a = a; b = sources .b }) (lastWords setup width sources)
+unfolding maskedAt levelAt
+last-masked setup width sources some is =
+    let at : (width - 1) % width ≡ width - 1 = word-of width 0 (width - 1) (width - 1) (omega arith) (omega arith) in
+    rw (is, at, eq-eqb (width - 1 + 1) width (omega arith), first (decLt 1 width))
+  where
+    first : Dec (1 < width) → eqb (width - 1) 0 ≡ eqb width 1
+    first (yes more) = ne-eqb (width - 1) 0 (λ none. absurd (omega arith)) ∙ sym (ne-eqb width 1 (λ one. absurd (omega arith)))
+    first (no less) = let one : width ≡ 1 = omega arith in rw one
+
 pub same-sources : {a b c a′ b′ c′ : ℕ} → a ≡ a′ → b ≡ b′ → c ≡ c′ → _≡_ {A = Sources} (record { a = a; b = b; c = c }) (record { a = a′; b = b′; c = c′ })
 same-sources first second third = rw (first, second, third)
 
-pub same-earlier : {a b a′ b′ : ℕ} → a ≡ a′ → b ≡ b′ → _≡_ {A = Earlier} (record { a = a; b = b }) (record { a = a′; b = b′ })
+same-earlier : {a b a′ b′ : ℕ} → a ≡ a′ → b ≡ b′ → _≡_ {A = Earlier} (record { a = a; b = b }) (record { a = a′; b = b′ })
 same-earlier first second = rw (first, second)
 
 module _ {n : ℕ} {setup : Setup} {size : Size} {far : Strides} {flow : Flow} {memory xa xb xc ya o : List ℕ} {end : Made} (fits : Fits n setup size flow far)
@@ -91,9 +116,9 @@ module _ {n : ℕ} {setup : Setup} {size : Size} {far : Strides} {flow : Flow} {
   unfolding Each maskedAt levelAt wordA wordB wordC
   stands =
       record {
-        of-a = λ j below. finished .supplied .a .words j below ∙ rw (supplied-fetched fits (fits .placed .a) memory (flow .sources .a) j below);
-        of-b = λ j below. finished .supplied .b .words j below ∙ supplied-fetched fits (fits .placed .b) memory (flow .sources .b) j below;
-        of-c = λ j below. finished .supplied .c .words j below ∙ supplied-fetched fits (fits .placed .c) memory (flow .sources .c) j below;
+        of-a = λ need j below. finished .supplied .a .words need j below ∙ rw (supplied-fetched fits (fits .placed .a) memory (flow .sources .a) j below);
+        of-b = λ need j below. finished .supplied .b .words need j below ∙ supplied-fetched fits (fits .placed .b) memory (flow .sources .b) j below;
+        of-c = λ need j below. finished .supplied .c .words need j below ∙ supplied-fetched fits (fits .placed .c) memory (flow .sources .c) j below;
       }
 
   -- so the final words are the blit's
@@ -115,10 +140,15 @@ module _ {n : ℕ} {setup : Setup} {size : Size} {far : Strides} {flow : Flow} {
       (finished .supplied .c .last ∙ supplied-fetched fits (fits .placed .c) memory (flow .sources .c) (count - 1) (omega (arith, fits .some)) ∙ sym (before-last _ _ count (fits .some)))
 
   earlier-after : end .earlier ≡ flowAfter setup (size .width) memory flow (size .height) .earlier
-  unfolding Each
+  unfolding maskedAt levelAt
   earlier-after =
       finished .earlier
-      ∙ same-earlier (stands .of-a (count - 1) (omega (arith, fits .some)) ∙ sym (before-last _ _ count (fits .some))) (stands .of-b (count - 1) (omega (arith, fits .some)) ∙ sym (before-last _ _ count (fits .some)))
+      ∙ ap (lastWords setup (size .width)) sources-after
+      ∙ same-earlier {b = wordBefore (flow .sources .b) (wordB setup (size .width) memory flow) count}
+      (sym (last-is (setup .masks) (size .width) (size .height) _ (fits .placed .some) (fits .some))
+      ∙ ap (masking (setup .masks) (size .width) (count - 1)) (before-last _ _ count (fits .some))
+      ∙ sym (before-last _ _ count (fits .some)))
+      (before-last _ _ count (fits .some) ∙ sym (before-last _ _ count (fits .some)))
 
   pub block-is : {after : List ℕ} {pointers : Pointers} {stored : ℕ}
       → after ≡ (if setup .uses .d then laidAt (placeAt (setup .direction) (size .width) (far .d) (flow .pointers .d .word)) (at o) count memory else memory)

@@ -7,7 +7,8 @@ use Rattle.quiet.specs.Words.{wordBefore, shiftedAt, mixedAt, carryTo, filledAt
 use Rattle.block.specs.declared.types.Needs.{Needs}
 use Rattle.block.specs.Inner.Each.{filledWordAt}
 use Rattle.block.specs.Inner.Ignores.{Ignores}
-use Rattle.blocks.specs.Inner.Block.{Direction, Earlier, Setup, maskedAt, at, Each, finalWordAt}
+use Rattle.block.proofs.MixLaws.{ignores-of}
+use Rattle.blocks.specs.Inner.Block.{Direction, Earlier, Setup, maskedAt, at, Each, finalWordAt, needed}
 use Rattle.blocks.specs.Inner.MadeOf.{Stand, FinalWords, FinalCarry}
 
 -- equal words give equal words
@@ -26,25 +27,35 @@ filledAt-same fill start width word same n all k below = rw (carries k below, al
     carries zero below = refl
     carries (suc k) below = rw (carries k (omega arith), all k (omega arith))
 
-module _ (setup : Setup) (width n all : ℕ) (need : Needs) (earlier : Earlier) (xa xb xc ya yb o : List ℕ) (fits : n ≤ all) (ignores : Ignores (setup .function) need)
+module _ (setup : Setup) (width n all : ℕ) (need : Needs) (earlier : Earlier) (xa xb xc ya yb o : List ℕ) (fits : n ≤ all) (is : need ≡ needed (setup .function))
     (to-a : need .a ≡ true → Each (all + 1) ya (shiftedAt (setup .direction) (setup .shifts .a) (earlier .a) (at xa)))
     (to-b : need .b ≡ true → Each (all + 1) yb (shiftedAt (setup .direction) (setup .shifts .b) (earlier .b) (at xb)))
     (mixes : Each all o (mixedAt (setup .function) (at ya) (at yb) (at xc))) where
   results-are : (a b c : ℕ → ℕ) (i : ℕ) → i ≤ n → Stand setup width i xa xb xc a b c → (j : ℕ) → j < i → at o j ≡ resultAt setup width earlier a b c j
   unfolding resultAt mixedAt Each at
-  results-are a b c i most stand j below = mixes j (omega arith) ∙ by-a (need .a) refl ∙ by-b (need .b) refl ∙ ap (logic (setup .function) _ _) (stand .of-c j below)
+  results-are a b c i most stand j below = mixes j (omega arith) ∙ by-a (need .a) refl ∙ by-b (need .b) refl ∙ by-c (need .c) refl
     where
+      ignores : Ignores (setup .function) need
+      ignores = rw is (ignores-of (setup .function))
+
       shiftA : ℕ
       shiftA = shiftedAt (setup .direction) (setup .shifts .a) (earlier .a) (maskedAt (setup .masks) width a) j
 
+      shiftB : ℕ
+      shiftB = shiftedAt (setup .direction) (setup .shifts .b) (earlier .b) b j
+
       by-a : (told : Bool) → need .a ≡ told → logic (setup .function) (at ya j) (at yb j) (at xc j) ≡ logic (setup .function) shiftA (at yb j) (at xc j)
-      by-a true told = ap (λ (a : ℕ). logic (setup .function) a (at yb j) (at xc j)) (to-a told j (omega arith) ∙ shiftedAt-same _ _ _ (at xa) _ i (stand .of-a) j below)
+      by-a true told = ap (λ (a : ℕ). logic (setup .function) a (at yb j) (at xc j)) (to-a told j (omega arith) ∙ shiftedAt-same _ _ _ (at xa) _ i (stand .of-a (rw is at told)) j below)
       by-a false told = ignores .a told _ _ _ _
 
       by-b : (told : Bool) → need .b ≡ told
-          → logic (setup .function) shiftA (at yb j) (at xc j) ≡ logic (setup .function) shiftA (shiftedAt (setup .direction) (setup .shifts .b) (earlier .b) b j) (at xc j)
-      by-b true told = ap (λ (b : ℕ). logic (setup .function) shiftA b (at xc j)) (to-b told j (omega arith) ∙ shiftedAt-same _ _ _ (at xb) _ i (stand .of-b) j below)
+          → logic (setup .function) shiftA (at yb j) (at xc j) ≡ logic (setup .function) shiftA shiftB (at xc j)
+      by-b true told = ap (λ (b : ℕ). logic (setup .function) shiftA b (at xc j)) (to-b told j (omega arith) ∙ shiftedAt-same _ _ _ (at xb) _ i (stand .of-b (rw is at told)) j below)
       by-b false told = ignores .b told _ _ _ _
+
+      by-c : (told : Bool) → need .c ≡ told → logic (setup .function) shiftA shiftB (at xc j) ≡ logic (setup .function) shiftA shiftB (c j)
+      by-c true told = ap (logic (setup .function) _ _) (stand .of-c (rw is at told) j below)
+      by-c false told = ignores .c told _ _ _ _
 
   pub finals-are : (after : List ℕ) (carry : ℕ) → 1 ≤ n → Each n after (filledWordAt (setup .fill) (setup .carry) width (at o))
       → carry ≡ filledAt (setup .fill) (setup .carry) width (at o) (n - 1) .carry

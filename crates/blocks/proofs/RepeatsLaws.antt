@@ -1,34 +1,16 @@
 -- Laws of a blit that uses no source and doesn't fill: a block that stands ready is that block, and what it leaves stands
 -- ready for the next.
-use Rattle.word.proofs.Base.{_≡_, refl, sym, ap, _∙_, ℕ, zero, suc, _+_, _-_, _*_, _<_, _≤_, suc-mul, mul-le-mul-right}
-use Rattle.word.proofs.Base.{decLt, arith, Bool, true, false, _&&_, eqb, List, getD}
-use native.Mathlib.Nat.{zero-mul}
+use Rattle.word.proofs.Base.{_≡_, refl, sym, ap, _∙_, ℕ, zero, _+_, _-_, _*_, _<_, _≤_, mul-le-mul-right}
+use Rattle.word.proofs.Base.{decLt, arith, Bool, true, false, _&&_, eqb, List}
 use Rattle.word.specs.Choice.{every}
 use Rattle.word.proofs.ChoiceLaws.{and-right, every-of-sum}
-use Rattle.quiet.proofs.StreamLaws.{word-of}
 use Rattle.block.proofs.FillLaws.{carry-of-off}
-use Rattle.blocks.specs.Inner.Block.{Masks, Sources, Setup, Flow, Strides, Size, Made, maskedAt, at, Each, levelAt, nought}
-use Rattle.blocks.specs.Inner.Block.{suppliedAt, masking, AllRest, Arrays, Fits}
-use Rattle.blocks.specs.Inner.MadeOf.{MadeOf, handed}
-use Rattle.blocks.specs.Inner.Repeats.{Still, lastWords, Prepared, Repeating}
+use Rattle.blocks.specs.Inner.Block.{Setup, Flow, Strides, Size, Made, at, levelAt, nought}
+use Rattle.blocks.specs.Inner.Block.{suppliedAt, Arrays, Fits}
+use Rattle.blocks.specs.Inner.MadeOf.{lastWords, MadeOf, handed}
+use Rattle.blocks.specs.Inner.Repeats.{Still, Prepared, Repeating}
 use Rattle.blocks.proofs.SuppliedLaws.{given-idle}
-use Rattle.blocks.proofs.BlockLaws.{same-earlier, same-sources}
-
--- the last word of so many rows is a row's last
-last-is : (masks : Masks) (width rows word : ℕ) → 1 ≤ width → 1 ≤ rows * width → masking masks width (rows * width - 1) word ≡ masking masks width (width - 1) word
-unfolding maskedAt levelAt
-last-is masks width zero word some more = absurd (omega (arith, zero-mul width))
-last-is masks width (suc row) word some more =
-    rw (
-      word-of width row (width - 1) (suc row * width - 1) (omega arith) (omega (arith, suc-mul row width)),
-      word-of width 0 (width - 1) (width - 1) (omega arith) (omega arith),
-    )
-
-last-words : {setup : Setup} {width : ℕ} {sources : Sources} {xa xb xc : List ℕ} → AllRest setup width sources xa xb xc → Still setup → (rows : ℕ)
-    → 1 ≤ width → 1 ≤ rows * width → rows * width ≤ 64 → record { a = getD xa (rows * width - 1) 0; b = getD xb (rows * width - 1) 0 } ≡ lastWords setup width sources
-unfolding Each
-last-words rest still rows some more room =
-    same-earlier (rest .a .level (still .a) rows room _ (omega arith) ∙ last-is _ _ rows _ some more) (rest .b .level (still .b) rows room _ (omega arith))
+use Rattle.blocks.proofs.BlockLaws.{same-sources}
 
 -- a block whose words stand ready
 pub made-ready : {n : ℕ} {setup : Setup} {size : Size} {far : Strides} {flow : Flow} {memory xa xb xc ya o : List ℕ} → Fits n setup size flow far
@@ -43,7 +25,7 @@ made-ready {size = size} {flow = flow} fits arrays ready =
           };
       long-y = arrays .long-y;
       long-o = arrays .long-o;
-      earlier = ready .earlier ∙ sym (last-words (arrays .rest) (ready .still) (size .height) (fits .placed .some) (fits .some) (fits .room));
+      earlier = ready .earlier;
       words = ready .words;
       carry = λ a b c stand. ready .carry ∙ carry-of-off _ _ _ _ _ (ready .still .off);
       zero = both (flow .allzero) _ (ready .zero);
@@ -67,19 +49,16 @@ nought-fewer n few words most all =
 
 -- what such a block hands on
 module _ (next : Flow) {setup : Setup} {size : Size} {far : Strides} {here : Flow} {memory xa xb xc ya o : List ℕ} (made : MadeOf setup size far here memory xa xb xc ya o (handed next)) (still : Still setup)
-    (some : 1 ≤ size .width) (more : 1 ≤ size .height * size .width) (room : size .height * size .width ≤ 64) where
+    (room : size .height * size .width ≤ 64) where
   sources-kept : next .sources ≡ here .sources
   unfolding suppliedAt
   sources-kept = same-sources (made .supplied .a .last ∙ rw (still .a)) (made .supplied .b .last ∙ rw (still .b)) (made .supplied .c .last ∙ rw (still .c))
-
-  earlier-next : next .earlier ≡ lastWords setup (size .width) (next .sources)
-  earlier-next = made .earlier ∙ last-words (arrays-of made .rest) still (size .height) some more room
 
   carry-next : next .carry ≡ setup .carry
   carry-next =
       let rest = arrays-of made .rest in
       made .carry (levelAt (next .sources .a)) (λ _. next .sources .b) (λ _. next .sources .c)
-      (record { of-a = rest .a .level (still .a) _ room; of-b = rest .b .level (still .b) _ room; of-c = rest .c .level (still .c) _ room })
+      (record { of-a = λ _. rest .a .level (still .a) _ room; of-b = λ _. rest .b .level (still .b) _ room; of-c = λ _. rest .c .level (still .c) _ room })
       ∙ sym (carry-of-off _ _ _ _ _ (still .off))
 
   -- where the block before it handed on the same, its words stand ready
@@ -87,22 +66,22 @@ module _ (next : Flow) {setup : Setup} {size : Size} {far : Strides} {here : Flo
   prepared-next before =
       record {
         still = still;
-        earlier = earlier-next;
+        earlier = made .earlier;
         carry = carry-next;
-        words = rw (earlier-next ∙ ap (lastWords setup (size .width)) sources-kept ∙ sym before) (made .words);
+        words = rw (made .earlier ∙ ap (lastWords setup (size .width)) sources-kept ∙ sym before) (made .words);
         zero = λ told. and-right (here .allzero) _ (sym (made .zero) ∙ told);
       }
 
 pub repeating-on : {setup : Setup} {width most height row rows : ℕ} {far : Strides} {here next : Flow} {memory xa xb xc ya o xa′ xb′ xc′ o′ : List ℕ}
-    → MadeOf setup (record { width = width; height = rows }) far here memory xa xb xc ya o (handed next) → 1 ≤ width → 1 ≤ rows * width → rows * width ≤ 64
+    → MadeOf setup (record { width = width; height = rows }) far here memory xa xb xc ya o (handed next) → rows * width ≤ 64
     → rows ≤ most → (rows < most → rows ≡ height - row) → row < height
     → Repeating setup width most height row here xa′ xb′ xc′ o′ → Repeating setup width most height (row + rows) next xa xb xc o
-repeating-on {setup} {width} {most} {height} {row} {rows} {next = next} {xa = xa} {xb = xb} {xc = xc} {o = o} made some more room few full within told =
-    record { one = λ still past. earlier-next next made still some more room; two = λ still past left. two still past left (decLt rows most) }
+repeating-on {setup} {width} {most} {height} {row} {rows} {next = next} {xa = xa} {xb = xb} {xc = xc} {o = o} made room few full within told =
+    record { one = λ still past. made .earlier; two = λ still past left. two still past left (decLt rows most) }
   where
     two : Still setup → most < row + rows → row + rows < height → Dec (rows < most) → Prepared setup (record { width = width; height = most }) next xa xb xc o
     two still past left (yes fewer) = let end : rows ≡ height - row = full fewer in absurd (omega arith)
-    two still past left (no all) = let same : most ≡ rows = omega arith in rw same (prepared-next next made still some more room (told .one still (omega arith)))
+    two still past left (no all) = let same : most ≡ rows = omega arith in rw same (prepared-next next made still room (told .one still (omega arith)))
 
 -- as many rows as the next block has
 pub ready-of : {setup : Setup} {width most height row rows : ℕ} {flow : Flow} {xa xb xc o : List ℕ} → rows ≤ most → row < height → Repeating setup width most height row flow xa xb xc o

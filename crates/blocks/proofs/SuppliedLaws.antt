@@ -1,7 +1,7 @@
 -- Laws of what a source gives as a block's words, fetched or at rest.
-use Rattle.word.proofs.Base.{_≡_, sym, _∙_, ℕ, _-_, _*_, _/_, _%_, _≤_, mul-le-mul-right, arith, Bool, true, false, List}
+use Rattle.word.proofs.Base.{_≡_, sym, _∙_, ℕ, zero, suc, _-_, _*_, _/_, _%_, _≤_, mul-le-mul-right, arith, Bool, true, false, List}
 use Rattle.word.proofs.Base.{length, getD, bitAnd}
-use native.Mathlib.Nat.{le-div-iff-mul-le}
+use native.Mathlib.Nat.{le-div-iff-mul-le, zero-mul}
 use Rattle.word.specs.Mask.{maskedWhen, masked}
 use Rattle.block.proofs.EachLaws.{never}
 use Rattle.blocks.specs.Inner.Block.{Masks, Direction, Size, Source, maskedAt, at, Each, levelAt, fetchedAt}
@@ -34,20 +34,32 @@ module _ {used : Bool} {width word : ℕ} {after : List ℕ} (whole : length aft
       record { long = whole; level = λ idle rows room j below. let first : j % width ≡ 0 = rw one (omega arith) in all j (omega arith) ∙ rw (first, one) }
 
 -- what a source gives
-module _ {direction : Direction} {source : Source} {size : Size} {memory : List ℕ} {over : (k word : ℕ) → ℕ} where
+module _ {need : Bool} {direction : Direction} {source : Source} {size : Size} {memory : List ℕ} {over : (k word : ℕ) → ℕ} where
   pub given-idle : {words : List ℕ} → source .used ≡ false → size .height * size .width ≤ 64 → Rested (source .used) (size .width) over (source .word) words
-      → Given direction source size memory over words (source .word)
+      → Given need direction source size memory over words (source .word)
   unfolding Each suppliedAt
-  given-idle idle room rested = record { words = λ j below. rw idle (rested .level idle (size .height) room j below); last = rw idle; rested = rested }
+  given-idle idle room rested = record { words = λ _ j below. rw idle (rested .level idle (size .height) room j below); last = rw idle; rested = rested }
+
+  -- one that the function ignores gives its last word
+  pub given-last : {words : List ℕ} {word : ℕ} → need ≡ false → source .used ≡ true → Rested (source .used) (size .width) over (source .word) words
+      → word ≡ fetchedAt direction (size .width) (source .course .far) (source .course .from) memory (size .height * size .width - 1)
+      → Given need direction source size memory over words word
+  unfolding suppliedAt
+  given-last ignored uses rested is = record { words = λ told. never (sym told ∙ ignored); last = rw uses is; rested = rested-used uses (rested .long) }
 
   pub given-fetched : (words : List ℕ) {after : List ℕ} → source .used ≡ true → 1 ≤ size .height * size .width → length after ≡ 80
       → Each (size .height * size .width) words (fetchedAt direction (size .width) (source .course .far) (source .course .from) memory)
       → Each (size .height * size .width) after (λ k. over k (at words k))
-      → Given direction source size memory over after (getD words (size .height * size .width - 1) 0)
+      → Given need direction source size memory over after (getD words (size .height * size .width - 1) 0)
   unfolding Each suppliedAt at
   given-fetched words uses some whole fetches stand =
       record {
-        words = λ j below. stand j below ∙ rw (uses, fetches j below);
+        words = λ _ j below. stand j below ∙ rw (uses, fetches j below);
         last = rw uses (fetches (size .height * size .width - 1) (omega arith));
         rested = rested-used uses whole;
       }
+
+-- a block has a row
+pub some-rows : (rows width : ℕ) → 1 ≤ rows * width → 1 ≤ rows
+some-rows zero width some = absurd (omega (arith, zero-mul width))
+some-rows (suc rows) width some = omega arith

@@ -2,9 +2,11 @@
 ghost use mathlib.Core.Path.{_≡_};
 ghost use Prim.Native.Nat.{_*_, _<_, _≤_};
 ghost use lib.ListN.{length};
+ghost use Rattle.blocks.specs.Inner.Block.{needed};
 ghost use Rattle.blocks.specs.Inner.MadeOf.{FinalWords, FinalCarry};
 use area::types::Earlier;
 use area::types::Setup;
+use block::types::Needs;
 use block::types::Size;
 use block::types::Words;
 
@@ -12,6 +14,7 @@ use block::types::Words;
 // none. Counts go on to a multiple of 8. The answer is the last carry.
 pub fn finals(
     setup: Setup,
+    need: Needs,
     size: Size,
     earlier: Earlier,
     xa: &Words,
@@ -20,7 +23,7 @@ pub fn finals(
     ya: &mut Words,
     o: &mut Words,
 ) -> u16
-    requires { ⌜ (setup .shifts .a < 16) × (setup .shifts .b < 16) × (1 ≤ size .width) × (1 ≤ size .height * size .width)
+    requires { ⌜ (need ≡ needed (setup .function)) × (setup .shifts .a < 16) × (setup .shifts .b < 16) × (1 ≤ size .width) × (1 ≤ size .height * size .width)
         × (size .height * size .width ≤ 64) × (length (now xa) ≡ 80) × (length (now xb) ≡ 80)
         × (length (now ya) ≡ 80) × (length (now o) ≡ 80) ⌝ }
     ensures { λ carry. ⌜ (length (now (ya .exit)) ≡ 80) × (length (now (o .exit)) ≡ 80)
@@ -30,7 +33,6 @@ pub fn finals(
     let direction = setup.direction;
     let fill = setup.fill;
     let all = (size.height * size.width + 7) / 8 * 8;
-    let need = block::needs::needs(setup.function);
     block::shift::shift(need.b, direction, setup.shifts.b, all, earlier.b, xb, o);
     if setup.shifts.a == 0 {
         block::shift::unmoved(direction, setup.shifts.a, earlier.a, xa);

@@ -1,16 +1,16 @@
 // One block: its sources, its final words, their stores, and the flow after it.
 ghost use mathlib.Core.Path.{_≡_};
 ghost use mathlib.Core.Bool.{true, _&&_};
-ghost use Prim.Native.Nat.{_+_, _*_, _-_, _<_, _≤_};
-ghost use lib.ListN.{length, getD};
+ghost use Prim.Native.Nat.{_+_, _*_, _<_, _≤_};
+ghost use lib.ListN.{length};
 ghost use Rattle.word.specs.Choice.{if_then_else_};
 ghost use Rattle.area.specs.Flow.{state};
 ghost use Rattle.area.specs.Rows.{areaBlit};
 ghost use Rattle.quiet.specs.Stream.{laidAt};
 ghost use Rattle.block.specs.Inner.Place.{placeAt};
 ghost use Rattle.blocks.specs.Inner.Block.{pointerEnd, at, nought, Lies, masking, plain, sourceOf};
-ghost use Rattle.blocks.specs.Inner.Block.{Asked, Given, AllRest, Supplied, Arrays, Fits};
-ghost use Rattle.blocks.specs.Inner.MadeOf.{MadeOf, handed};
+ghost use Rattle.blocks.specs.Inner.Block.{needed, Asked, Given, AllRest, Supplied, Arrays, Fits};
+ghost use Rattle.blocks.specs.Inner.MadeOf.{lastWords, MadeOf, handed};
 ghost use Rattle.blocks.specs.Inner.MadeOf.{rowsOn, pointersOn};
 ghost use Rattle.blocks.specs.Inner.Repeats.{Prepared};
 use crate::types::Made;
@@ -23,6 +23,7 @@ use area::types::Pointers;
 use area::types::Setup;
 use area::types::Sources;
 use block::types::Course;
+use block::types::Needs;
 use block::types::Size;
 use block::types::Words;
 use word::pointer::INDEX_END;
@@ -37,16 +38,26 @@ fn source(used: bool, pointer: Pointer, far: usize, word: u16) -> Source
     Source { used, course, word }
 }
 
-// A's words, masked. The answer is the last of them, unmasked.
-fn supplied_a(source: Source, setup: Setup, ram: &[u16], size: Size, x: &mut Words) -> u16
+// A's words, masked, where the function needs them. The answer is the last of them, unmasked.
+fn supplied_a(
+    need: bool,
+    source: Source,
+    setup: Setup,
+    ram: &[u16],
+    size: Size,
+    x: &mut Words,
+) -> u16
     requires { ⌜ Asked (length (now ram)) (setup .direction) source size (masking (setup .masks) (size .width)) (now x) ⌝ }
     ensures { λ last. ⌜
-        Given (setup .direction) source size (now (ram .entry)) (masking (setup .masks) (size .width)) (now (x .exit)) last ⌝ }
+        Given need (setup .direction) source size (now (ram .entry)) (masking (setup .masks) (size .width)) (now (x .exit)) last ⌝ }
 {
     let direction = setup.direction;
     let masks = setup.masks;
     let course = source.course;
     if source.used {
+        if !need {
+            return block::fetch::last_word(direction, ram, course, size);
+        }
         if size.width < 4 {
             block::fetch::narrow_rows(direction, ram, course, size, x);
             let last = x[size.height * size.width - 1];
@@ -62,12 +73,22 @@ fn supplied_a(source: Source, setup: Setup, ram: &[u16], size: Size, x: &mut Wor
 }
 
 // The words of B, or of C.
-fn supplied(source: Source, direction: Direction, ram: &[u16], size: Size, x: &mut Words) -> u16
+fn supplied(
+    need: bool,
+    source: Source,
+    direction: Direction,
+    ram: &[u16],
+    size: Size,
+    x: &mut Words,
+) -> u16
     requires { ⌜ Asked (length (now ram)) direction source size plain (now x) ⌝ }
-    ensures { λ last. ⌜ Given direction source size (now (ram .entry)) plain (now (x .exit)) last ⌝ }
+    ensures { λ last. ⌜ Given need direction source size (now (ram .entry)) plain (now (x .exit)) last ⌝ }
 {
     let course = source.course;
     if source.used {
+        if !need {
+            return block::fetch::last_word(direction, ram, course, size);
+        }
         if size.width < 4 {
             block::fetch::narrow_rows(direction, ram, course, size, x);
             return x[size.height * size.width - 1];
@@ -82,6 +103,7 @@ fn supplied(source: Source, direction: Direction, ram: &[u16], size: Size, x: &m
 fn sources(
     ram: &[u16],
     setup: Setup,
+    need: Needs,
     far: Strides,
     size: Size,
     flow: Flow,
@@ -89,7 +111,7 @@ fn sources(
     xb: &mut Words,
     xc: &mut Words,
 ) -> Sources
-    requires { ⌜ Fits (length (now ram)) setup size flow far × AllRest setup (size .width) (flow .sources) (now xa) (now xb) (now xc) ⌝ }
+    requires { ⌜ (need ≡ needed (setup .function)) × Fits (length (now ram)) setup size flow far × AllRest setup (size .width) (flow .sources) (now xa) (now xb) (now xc) ⌝ }
     ensures { λ last. ⌜ Supplied setup size far flow (now (ram .entry)) (now (xa .exit)) (now (xb .exit)) (now (xc .exit)) last ⌝ }
 {
     let uses = setup.uses;
@@ -99,9 +121,9 @@ fn sources(
     let from_a = source(uses.a, at.a, far.a, rest.a);
     let from_b = source(uses.b, at.b, far.b, rest.b);
     let from_c = source(uses.c, at.c, far.c, rest.c);
-    let a = supplied_a(from_a, setup, ram, size, xa);
-    let b = supplied(from_b, direction, ram, size, xb);
-    let c = supplied(from_c, direction, ram, size, xc);
+    let a = supplied_a(need.a, from_a, setup, ram, size, xa);
+    let b = supplied(need.b, from_b, direction, ram, size, xb);
+    let c = supplied(need.c, from_c, direction, ram, size, xc);
     Sources { a, b, c }
 }
 
@@ -173,12 +195,13 @@ fn counted(used: bool, stored: u32, words: usize) -> u32
 }
 
 // A block's last words of A, as masked, and of B.
-fn last_words(n: usize, xa: &Words, xb: &Words) -> Earlier
-    requires { ⌜ (1 ≤ n) × (n ≤ 64) ⌝ }
-    ensures { λ last. ⌜ last ≡ record { a = getD (now (xa .entry)) (n - 1) 0; b = getD (now (xb .entry)) (n - 1) 0 } ⌝ }
+fn last_words(setup: Setup, width: usize, last: Sources) -> Earlier
+    requires { ⌜ 1 ≤ width ⌝ }
+    ensures { λ words. ⌜ words ≡ lastWords setup width last ⌝ }
 {
-    let a = xa[n - 1];
-    let b = xb[n - 1];
+    let masks = setup.masks;
+    let a = word::mask::masked(width == 1, true, masks.first, masks.last, last.a);
+    let b = last.b;
     Earlier { a, b }
 }
 
@@ -212,11 +235,11 @@ fn made(
             allzero: flow.allzero,
         };
     }
-    let sources = sources(ram, setup, far, size, flow, xa, xb, xc);
-    let carry = crate::finals::finals(setup, size, before, xa, xb, xc, ya, o);
-    let n = size.height * size.width;
-    let earlier = last_words(n, xa, xb);
-    let allzero = still_nought(flow.allzero, n, o);
+    let need = block::needs::needs(setup.function);
+    let sources = sources(ram, setup, need, far, size, flow, xa, xb, xc);
+    let carry = crate::finals::finals(setup, need, size, before, xa, xb, xc, ya, o);
+    let earlier = last_words(setup, size.width, sources);
+    let allzero = still_nought(flow.allzero, size.height * size.width, o);
     Made {
         sources,
         earlier,

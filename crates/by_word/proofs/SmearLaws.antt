@@ -30,7 +30,8 @@ use Rattle.quiet.specs.Quiet.{memoryOf, flowOf, Found}
 use Rattle.quiet.proofs.QuietLaws.{found-blit}
 use Rattle.block.specs.declared.types.Needs.{Needs}
 use Rattle.block.specs.declared.types.Size.{Size}
-use Rattle.block.specs.Inner.Ignores.{Ignores}
+use Rattle.block.specs.Inner.Ignores.{Ignores, needed}
+use Rattle.block.proofs.MixLaws.{ignores-of}
 use Rattle.block.specs.Inner.Place.{rowAt, placeIn, placeAt, EvenRows}
 use Rattle.block.specs.Inner.Terms.{terms}
 use Rattle.block.proofs.MixLaws.{joined-is-logic, joined-of-a}
@@ -42,10 +43,11 @@ use Rattle.apart.specs.declared.types.Strides.{Strides}
 use Rattle.by_word.specs.Inner.Smear.{Alone, Smearing, smearedWord, Smear, smearedTo, fetchedWord, madeWord, SmearedBy}
 
 -- what the test tells
-pub alone-of : (setup : Setup) (need : Needs) → Ignores (setup .function) need → (((setup .uses .b || setup .uses .c) || need .b) || need .c) ≡ false
+pub alone-of : (setup : Setup) (need : Needs) → need ≡ needed (setup .function) → (((setup .uses .b || setup .uses .c) || need .b) || need .c) ≡ false
     → (((not (setup .uses .a) || not (setup .uses .d)) || not (eqb (setup .masks .first) 65535)) || not (eqb (setup .masks .last) 65535)) ≡ false
     → setup .direction ≡ Ascending → setup .fill ≡ Off → Alone setup
-alone-of setup need ignores others plain up none =
+alone-of setup need is others plain up none =
+    let ignores : Ignores (setup .function) need = rw is (ignores-of (setup .function)) in
     let three = or-left _ (need .c) others in
     let two = or-left _ (need .b) three in
     let ones = or-left _ (not (eqb (setup .masks .last) 65535)) plain in

@@ -13,6 +13,8 @@ unfoldable pub use Rattle.quiet.specs.Words.{maskedAt}
 unfoldable pub use Rattle.block.specs.Inner.Each.{at, Each, levelAt, finalWordAt, nought}
 pub use Rattle.block.specs.Inner.Place.{Lies}
 unfoldable pub use Rattle.block.specs.Inner.Place.{rowAt, fetchedAt}
+pub use Rattle.block.specs.declared.types.Needs.{Needs}
+pub use Rattle.block.specs.Inner.Ignores.{needed}
 pub use Rattle.apart.specs.Inner.Placed.{Direction, Pointer, Setup, Flow, pointerEnd, nothing, Channel, Placed}
 pub use Rattle.apart.specs.Inner.Apart.{AllApart}
 pub use Rattle.apart.specs.declared.types.Strides.{Strides}
@@ -46,9 +48,9 @@ pub record Asked (n : ℕ) (direction : Direction) (source : Source) (size : Siz
   pub room : size .height * size .width ≤ 64
   pub rested : Rested (source .used) (size .width) over (source .word) words
 
--- it gave them, the last is told, and at rest it gives that again
-pub record Given (direction : Direction) (source : Source) (size : Size) (memory : List ℕ) (over : (k word : ℕ) → ℕ) (x : List ℕ) (told : ℕ) : Type 0 where
-  pub words : Each (size .height * size .width) x (λ k. over k (suppliedAt direction (size .width) source memory k))
+-- it gave them, where the function needs them; the last is told, and at rest it gives that again
+pub record Given (need : Bool) (direction : Direction) (source : Source) (size : Size) (memory : List ℕ) (over : (k word : ℕ) → ℕ) (x : List ℕ) (told : ℕ) : Type 0 where
+  pub words : need ≡ true → Each (size .height * size .width) x (λ k. over k (suppliedAt direction (size .width) source memory k))
   pub last : told ≡ suppliedAt direction (size .width) source memory (size .height * size .width - 1)
   pub rested : Rested (source .used) (size .width) over told x
 
@@ -62,9 +64,9 @@ pub record AllRest (setup : Setup) (width : ℕ) (sources : Sources) (xa xb xc :
   pub c : Rested (setup .uses .c) width plain (sources .c) xc
 
 pub record Supplied (setup : Setup) (size : Size) (far : Strides) (flow : Flow) (memory xa xb xc : List ℕ) (last : Sources) : Type 0 where
-  pub a : Given (setup .direction) (sourceOf (setup .uses .a) (flow .pointers .a) (far .a) (flow .sources .a)) size memory (masking (setup .masks) (size .width)) xa (last .a)
-  pub b : Given (setup .direction) (sourceOf (setup .uses .b) (flow .pointers .b) (far .b) (flow .sources .b)) size memory plain xb (last .b)
-  pub c : Given (setup .direction) (sourceOf (setup .uses .c) (flow .pointers .c) (far .c) (flow .sources .c)) size memory plain xc (last .c)
+  pub a : Given (needed (setup .function) .a) (setup .direction) (sourceOf (setup .uses .a) (flow .pointers .a) (far .a) (flow .sources .a)) size memory (masking (setup .masks) (size .width)) xa (last .a)
+  pub b : Given (needed (setup .function) .b) (setup .direction) (sourceOf (setup .uses .b) (flow .pointers .b) (far .b) (flow .sources .b)) size memory plain xb (last .b)
+  pub c : Given (needed (setup .function) .c) (setup .direction) (sourceOf (setup .uses .c) (flow .pointers .c) (far .c) (flow .sources .c)) size memory plain xc (last .c)
 
 -- all five arrays
 pub record Arrays (setup : Setup) (width : ℕ) (sources : Sources) (xa xb xc ya o : List ℕ) : Type 0 where

@@ -1,22 +1,18 @@
 -- A blit that uses no source and doesn't fill: a block's words hang on the words before it alone, and those are the same
 -- from the second block on. So are the words, which stand ready for every block after that.
-use Prim.Native.Nat.{ℕ, _-_, _*_, _<_, _≤_}
+use Prim.Native.Nat.{ℕ, _*_, _<_, _≤_}
 use mathlib.Core.Path.{_≡_}
 use mathlib.Core.Bool.{true, false}
 use mathlib.Core.List.{List}
 use Rattle.word.specs.declared.types.Fill.the-variants.{Off}
-use Rattle.blocks.specs.Inner.Block.{Earlier, Sources, Setup, Flow, Size, at, nought, masking}
-use Rattle.blocks.specs.Inner.MadeOf.{FinalWords}
+use Rattle.blocks.specs.Inner.Block.{Setup, Flow, Size, at, nought}
+use Rattle.blocks.specs.Inner.MadeOf.{FinalWords, lastWords}
 
 pub record Still (setup : Setup) : Type 0 where
   pub a : setup .uses .a ≡ false
   pub b : setup .uses .b ≡ false
   pub c : setup .uses .c ≡ false
   pub off : setup .fill ≡ Off
-
--- the last words of a row, which the next block has before it
-abbrev pub lastWords : Setup → (width : ℕ) → Sources → Earlier
-lastWords setup width sources = record { a = masking (setup .masks) width (width - 1) (sources .a); b = sources .b }
 
 -- the words of so many rows stand in an array, and such a block leaves all but D as it is
 pub record Prepared (setup : Setup) (size : Size) (flow : Flow) (xa xb xc o : List ℕ) : Type 0 where

@@ -44,7 +44,7 @@ loop-again c =
       omega (arith, few .2, c .before .before .before .before .before .before .before .before .before .before .before .before .before .before .loop .inv .0),
       running-on running (few .0) (few .2) (few .1) (c .before .before .before .before .before .before .before .before .before .before .before .before .before .before .before .before .pre .3) (c .before .before .before .before .before .before .before .before .before .before .before .before .before .before .before .before .pre .4) (block .0) (omega (arith, few .2)),
       arrays-of (block .1),
-      repeating-on (block .1) (fits .placed .some) (fits .some) (fits .room) (few .1) (few .3) (c .before .before .before .before .before .before .before .before .before .before .before .before .if1 .taken) (c .before .before .before .before .before .before .before .before .before .before .before .before .before .before .loop .inv .3),
+      repeating-on (block .1) (fits .room) (few .1) (few .3) (c .before .before .before .before .before .before .before .before .before .before .before .before .if1 .taken) (c .before .before .before .before .before .before .before .before .before .before .before .before .before .before .loop .inv .3),
     )
 
 returns : tie.Need-returns Inv-loop μ-loop

@@ -1,12 +1,10 @@
 -- `blocks::one::rows_on` meets its contract: so many strides on.
-use Rattle.word.proofs.Base.{ℕ, _*_, _<_, _≤_, mul-le-mul, arith, needs}
+use Rattle.word.proofs.Base.{arith, needs}
 use Rattle.word.proofs.ChoiceLaws.{if-when-true, if-when-false}
-use Rattle.blocks.specs.Inner.Block.{pointerEnd, rowAt}
+use Rattle.block.proofs.PlaceLaws.{rows-far}
+use Rattle.blocks.specs.Inner.Block.{rowAt}
 use Rattle.blocks.proofs.one.rows_on.Statement.{statement}
 use Rattle.blocks.proofs.one.rows_on.Tie as tie
-
-rows-far : (rows far : ℕ) → rows ≤ 64 → far < pointerEnd → rows * far ≤ 64 * pointerEnd
-rows-far rows far few short = mul-le-mul {m₂ = pointerEnd} few (omega arith)
 
 mul-t7 : tie.Need-mul-t7
 mul-t7 c = omega (arith, rows-far _ _ (c .before .before .pre .2) (c .before .before .pre .1))

@@ -5,20 +5,20 @@ use Rattle.blocks.proofs.one.sources.Statement.{statement}
 use Rattle.blocks.proofs.one.sources.Tie as tie
 
 supplied-a-requires : tie.Need-supplied-a-requires
-supplied-a-requires c κs = rw (c .before .before .before .source .ensures) (asked (c .before .before .before .before .before .before .before .before .pre .0) (c .before .before .before .before .before .before .before .before .pre .0 .placed .a) (c .before .before .before .before .before .before .before .before .pre .1 .a))
+supplied-a-requires c κs = rw (c .before .before .before .source .ensures) (asked (c .before .before .before .before .before .before .before .before .pre .1) (c .before .before .before .before .before .before .before .before .pre .1 .placed .a) (c .before .before .before .before .before .before .before .before .pre .2 .a))
 
 supplied-requires : tie.Need-supplied-requires
-supplied-requires c κs = rw (c .before .before .before .before .source2 .ensures) (asked (c .before .before .before .before .before .before .before .before .before .before .pre .0) (c .before .before .before .before .before .before .before .before .before .before .pre .0 .placed .b) (c .before .before .before .before .before .before .before .before .before .before .pre .1 .b))
+supplied-requires c κs = rw (c .before .before .before .before .source2 .ensures) (asked (c .before .before .before .before .before .before .before .before .before .before .pre .1) (c .before .before .before .before .before .before .before .before .before .before .pre .1 .placed .b) (c .before .before .before .before .before .before .before .before .before .before .pre .2 .b))
 
 supplied-requires-2 : tie.Need-supplied-requires-2
-supplied-requires-2 c κs = rw (c .before .before .before .before .before .source3 .ensures) (asked (c .before .before .before .before .before .before .before .before .before .before .before .before .pre .0) (c .before .before .before .before .before .before .before .before .before .before .before .before .pre .0 .placed .c) (c .before .before .before .before .before .before .before .before .before .before .before .before .pre .1 .c))
+supplied-requires-2 c κs = rw (c .before .before .before .before .before .source3 .ensures) (asked (c .before .before .before .before .before .before .before .before .before .before .before .before .pre .1) (c .before .before .before .before .before .before .before .before .before .before .before .before .pre .1 .placed .c) (c .before .before .before .before .before .before .before .before .before .before .before .before .pre .2 .c))
 
 returns : tie.Need-returns
 returns c =
     record {
-      a = rw (c .before .before .before .before .before .before .before .before .source .ensures) at (c .before .before .before .before .supplied-a .ensures);
-      b = rw (c .before .before .before .before .before .before .before .source2 .ensures) at (c .before .before .supplied .ensures);
-      c = rw (c .before .before .before .before .before .before .source3 .ensures) at (c .supplied2 .ensures);
+      a = rw (c .before .before .before .before .before .before .before .before .source .ensures, c .before .before .before .before .before .before .before .before .before .before .before .before .before .pre .0) at (c .before .before .before .before .supplied-a .ensures);
+      b = rw (c .before .before .before .before .before .before .before .source2 .ensures, c .before .before .before .before .before .before .before .before .before .before .before .before .before .pre .0) at (c .before .before .supplied .ensures);
+      c = rw (c .before .before .before .before .before .before .source3 .ensures, c .before .before .before .before .before .before .before .before .before .before .before .before .before .pre .0) at (c .supplied2 .ensures);
     }
 
 pub sources-spec : {M : Type 1} → statement M

@@ -289,6 +289,37 @@ static bool smears(const struct set *set, bool descending)
     return true;
 }
 
+/* Functions that ignore some source, in one block or several, with that source at D or near it: its register gets the last
+ * word that it would have fetched. */
+static bool ignoring(const struct set *set, bool descending)
+{
+    static const uint8_t functions[] = {0xF0, 0xCC, 0xAA, 0x00, 0xC0, 0xA0, 0x88};
+    for (uint32_t width = 1; width <= WIDEST; width++)
+        for (int32_t ahead = LEAST_GAP; ahead <= -LEAST_GAP; ahead++)
+            for (size_t i = 0; i < sizeof functions; i++) {
+                make_beside(set, descending, 1 + below(3 * WIDEST / width), width, i % (ALIKE + 1), ahead);
+                seam.plan.file[0] = (seam.plan.file[0] & 0xFF00) | functions[i];
+                if (!alike(lay(0)))
+                    return false;
+            }
+    return true;
+}
+
+/* Rows without a gap in memory that has all words that pointers have: one of them begins at word 0, a word before it or a
+ * word behind it, so that all of them are one row, or nearly. */
+static bool turns(const struct set *set, bool descending)
+{
+    for (uint32_t width = 1; width <= WIDEST; width++)
+        for (uint32_t row = 0; row <= MOST_ROWS; row++)
+            for (int32_t near = -1; near <= 1; near++) {
+                make_beside(set, descending, MOST_ROWS, width, NONE, 0);
+                lay(near - (int32_t)(row * width));
+                if (!alike(POINTERS))
+                    return false;
+            }
+    return true;
+}
+
 /* All sources beside D at once: C at D, one before it or one behind it, B and A near. */
 static bool crowds(const struct set *set, bool descending)
 {
@@ -377,8 +408,8 @@ static bool all_of(const struct set *set, bool descending)
 {
     bool alone = set->uses == (USE_A | USE_D), many = (set->uses & (USE_B | USE_C)) == (USE_B | USE_C);
     return gaps(set, descending) && columns(set, descending) && blocks(set, descending) && rounds(set, descending)
-        && edges(set, descending) && (!alone || smears(set, descending)) && (!many || crowds(set, descending))
-        && (!descending || fills(set));
+        && turns(set, descending) && ignoring(set, descending) && edges(set, descending)
+        && (!alone || smears(set, descending)) && (!many || crowds(set, descending)) && (!descending || fills(set));
 }
 
 uint64_t seams(void)

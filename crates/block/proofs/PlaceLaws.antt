@@ -1,6 +1,7 @@
 -- Laws of the places of rows evenly apart, and of the loops that fetch and store them.
-use Rattle.word.proofs.Base.{_≡_, refl, sym, ap, _∙_, ℕ, zero, suc, _+_, _-_, _*_, _%_, _<_, _≤_, add-zero, add-suc}
+use Rattle.word.proofs.Base.{_≡_, refl, sym, ap, _∙_, ℕ, zero, suc, _+_, _-_, _*_, _/_, _%_, _<_, _≤_, add-zero, add-suc}
 use Rattle.word.proofs.Base.{suc-mul, add-mul, mul-le-mul, add-one, arith, List, length, getD, set}
+use native.Mathlib.Nat.{zero-mul, mul-add, div-add-mod', mul-add-mod-self-right}
 use Rattle.word.specs.declared.types.Direction.{Direction}
 use Rattle.word.specs.declared.types.Direction.the-variants.{Ascending, Descending}
 use Rattle.word.specs.Pointer.{pointerEnd}
@@ -10,7 +11,7 @@ use Rattle.quiet.specs.Stream.{laidAt}
 use Rattle.quiet.proofs.StreamLaws.{row-of, word-of}
 use Rattle.block.specs.declared.types.Size.{Size}
 use Rattle.block.specs.Inner.Each.{at, fromAt, Each, Laid}
-use Rattle.block.specs.Inner.Place.{rowAt, placeIn, Reaches, placeAt, EvenRows, Lies, fetchedIn, fetchedAt}
+use Rattle.block.specs.Inner.Place.{rowAt, placeIn, Reaches, placeAt, EvenRows, Lies, Gapless, AsLying, fetchedIn, fetchedAt}
 use Rattle.block.proofs.EachLaws.{laid-turn, Reached, reached-none, reached-turn}
 
 -- rows start evenly
@@ -168,3 +169,78 @@ module _ {n : ℕ} {direction : Direction} {far from : ℕ} {size : Size} (lies 
     where
       last-of-rows : size .height * size .width ≡ (size .height - 1) * size .width + size .width
       last-of-rows = let rest : suc (size .height - 1) ≡ size .height = omega arith in ap (λ (rows : ℕ). rows * size .width) (sym rest) ∙ suc-mul (size .height - 1) (size .width)
+
+-- a block has a row, and its rows are no wider than it is
+pub some-rows : (rows width : ℕ) → 1 ≤ rows * width → 1 ≤ rows
+some-rows zero width some = absurd (omega (arith, zero-mul width))
+some-rows (suc rows) width some = omega arith
+
+pub no-wider : (rows width : ℕ) → 1 ≤ rows * width → rows * width ≤ 64 → width ≤ 64
+no-wider zero width some room = absurd (omega (arith, zero-mul width))
+no-wider (suc rows) width some room = omega (arith, suc-mul rows width)
+
+-- rows lie as they do, and without a gap as one row
+pub as-they-are : {n : ℕ} {direction : Direction} {far from : ℕ} {size : Size} → Lies n direction far from size → AsLying n direction far from size size
+as-they-are lies = record { lies = lies; count = refl; same = λ k below. refl }
+
+rowAt-gapless : (n : ℕ) (direction : Direction) (width far from words row : ℕ) → n ≤ pointerEnd → from < pointerEnd → Gapless n direction width far from words
+    → row * width < words → rowAt far from row ≡ placeIn direction from (row * width)
+unfolding rowAt placeIn Gapless
+rowAt-gapless n Ascending width far from words row most small (gapless, inside) within = rw gapless (omega arith)
+rowAt-gapless n Descending width far from words row most small (gapless, inside) within =
+    let all : row * far + row * width ≡ row * pointerEnd = sym (mul-add row far width) ∙ ap (λ (both : ℕ). row * both) gapless in
+    let sum : from + row * far ≡ row * pointerEnd + (from - row * width) = omega arith in
+    ap (λ (sum : ℕ). sum % pointerEnd) sum ∙ mul-add-mod-self-right row pointerEnd (from - row * width) ∙ omega arith
+
+placeIn-more : (direction : Direction) (from first more : ℕ) → placeIn direction (placeIn direction from first) more ≡ placeIn direction from (first + more)
+unfolding placeIn
+placeIn-more Ascending from first more = omega arith
+placeIn-more Descending from first more = omega arith
+
+placeAt-gapless : (n : ℕ) (direction : Direction) (width far from words k : ℕ) → n ≤ pointerEnd → from < pointerEnd → Gapless n direction width far from words
+    → k < words → placeAt direction width far from k ≡ placeIn direction from k
+unfolding placeAt
+placeAt-gapless n direction width far from words k most small gapless below =
+    let whole : k / width * width + k % width ≡ k = div-add-mod' k width in
+    ap (λ (start : ℕ). placeIn direction start (k % width)) (rowAt-gapless n direction width far from words (k / width) most small gapless (omega arith))
+    ∙ placeIn-more direction from (k / width * width) (k % width)
+    ∙ ap (placeIn direction from) whole
+
+all-inside : (n : ℕ) (direction : Direction) (width far from words : ℕ) → Gapless n direction width far from words
+    → RowInside n direction width (record { word = from }) → RowInside n direction words (record { word = from })
+unfolding Gapless RowInside
+all-inside n Ascending width far from words (gapless, inside) first = inside
+all-inside n Descending width far from words (gapless, inside) first = (first .0, inside)
+
+pub as-one-row : {n : ℕ} {direction : Direction} {far from : ℕ} {size : Size} → n ≤ pointerEnd → 1 ≤ size .height * size .width
+    → Gapless n direction (size .width) far from (size .height * size .width) → Lies n direction far from size
+    → AsLying n direction far from size (record { width = size .height * size .width; height = 1 })
+unfolding EvenRows placeAt
+as-one-row {n} {direction} {far} {from} {size} most more gapless lies =
+    let first : rowAt far from 0 ≡ from = sym (rowAt-first far from (lies .starts)) in
+    let words : ℕ = size .height * size .width in
+    record {
+      lies =
+          record {
+            inside = λ row below. let only : row ≡ 0 = omega arith in rw (only, first) (all-inside n direction (size .width) far from words gapless (rw first at (lies .inside 0 (some-rows _ _ more))));
+            room = omega (arith, lies .room);
+            some = more;
+            starts = lies .starts;
+            strides = lies .strides;
+          };
+      count = omega arith;
+      same = λ k below.
+          rw (row-of words 0 k k below (omega arith), word-of words 0 k k below (omega arith), first)
+          (sym (placeAt-gapless n direction (size .width) far from words k most (lies .starts) gapless below));
+    }
+
+-- so the same words are fetched and stored
+module _ {n : ℕ} {direction : Direction} {far from : ℕ} {size other : Size} (lying : AsLying n direction far from size other) where
+  pub as-lying-fetched : (words memory : List ℕ) → Each (other .height * other .width) words (fetchedAt direction (other .width) far from memory)
+      → Each (size .height * size .width) words (fetchedAt direction (size .width) far from memory)
+  unfolding Each fetchedAt
+  as-lying-fetched words memory all j below = all j (omega (arith, lying .count)) ∙ ap (λ (place : ℕ). getD memory place 0) (lying .same j below)
+
+  pub as-lying-laid : (words memory : List ℕ) → laidAt (placeAt direction (other .width) far from) (at words) (other .height * other .width) memory
+      ≡ laidAt (placeAt direction (size .width) far from) (at words) (size .height * size .width) memory
+  as-lying-laid words memory = rw (lying .count) (laidAt-same _ _ _ _ (size .height * size .width) memory (lying .same) (λ i below. refl))

@@ -6,7 +6,7 @@ pub mod level;
 pub mod mask;
 pub mod mix;
 pub mod needs;
-mod place;
+pub mod place;
 pub mod shift;
 pub mod store;
 pub mod types;

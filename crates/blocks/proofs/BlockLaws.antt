@@ -1,9 +1,10 @@
 -- One block is a blit of its rows: its words are those of the quiet blit.
 use Rattle.word.proofs.Base.{_≡_, refl, sym, ap, _∙_, ℕ, zero, suc, _+_, _-_, _*_, _<_, _≤_, suc-mul, mul-le-mul-right, sub-one, arith, Bool, true}
-use Rattle.word.proofs.Base.{_%_, decLt, false, eqb, eq-eqb, ne-eqb, List, getD}
+use Rattle.word.proofs.Base.{_%_, decLt, _&&_, not, false, eqb, eq-eqb, ne-eqb, List, getD}
 use native.Mathlib.Nat.{zero-mul}
 use Rattle.word.specs.Choice.{if_then_else_, every}
 use Rattle.word.specs.Mask.{masked}
+use Rattle.word.proofs.ChoiceLaws.{and-left}
 use Rattle.area.specs.Flow.{state}
 use Rattle.area.specs.Fetch.{fetched}
 use Rattle.area.specs.Rows.{areaBlit}
@@ -13,11 +14,11 @@ use Rattle.quiet.specs.Quiet.{Unmet, Quiet, flowAfter}
 use Rattle.quiet.proofs.StreamLaws.{word-of}
 use Rattle.quiet.proofs.QuietLaws.{quiet-blit}
 use Rattle.block.specs.Inner.Place.{placeAt, EvenRows}
-use Rattle.block.proofs.PlaceLaws.{laidAt-same}
+use Rattle.block.proofs.PlaceLaws.{some-rows, laidAt-same, as-lying-laid}
 use Rattle.apart.specs.Inner.Apart.{Apart}
 use Rattle.apart.proofs.PlacedLaws.{stride-lt, channel-place, channel-rows}
 use Rattle.blocks.specs.Inner.Block.{Pointer, Sources, Earlier, Pointers, Setup, Flow, Strides, Size, Made, pointerEnd, nothing}
-use Rattle.blocks.specs.Inner.Block.{Channel, maskedAt, at, Each, levelAt, finalWordAt, nought, Lies, fetchedAt}
+use Rattle.blocks.specs.Inner.Block.{Channel, maskedAt, at, Each, levelAt, finalWordAt, nought, Lies, AsLying, fetchedAt}
 use Rattle.blocks.specs.Inner.Block.{Masks, suppliedAt, masking, sourceOf, Rested, Asked, Fits}
 use Rattle.blocks.specs.Inner.MadeOf.{Stand, lastWords, MadeOf, rowsOn, pointersOn}
 
@@ -53,14 +54,25 @@ module _ {n : ℕ} {setup : Setup} {size : Size} {flow : Flow} {far : Strides} (
       }
 
   -- what is asked of a source
-  pub asked : {word : ℕ} {over : (k word : ℕ) → ℕ} {words : List ℕ} → Rested used (size .width) over word words → Asked n (setup .direction) (sourceOf used pointer gap word) size over words
-  asked rested = record { lies = lies-of; wide = fits .placed .some; some = fits .some; room = fits .room; rested = rested }
+  pub asked : {need : Bool} {word : ℕ} {rows : Size} {over : (k word : ℕ) → ℕ} {words : List ℕ} → (Lies n (setup .direction) gap (pointer .word) size → AsLying n (setup .direction) gap (pointer .word) size rows)
+      → Rested used (size .width) over word words → Asked n (setup .direction) (sourceOf used need pointer gap word rows) size over words
+  asked lying rested = record { lies = λ uses. lying (lies-of uses); wide = fits .placed .some; some = fits .some; room = fits .room; rested = rested }
+
+  pub sized : (n ≤ pointerEnd) × (pointer .word < pointerEnd) × (gap < pointerEnd) × (1 ≤ size .height * size .width) × (size .height * size .width ≤ 64)
+  sized = (fits .placed .most, channel .small, far-lt, fits .some, fits .room)
+
+  -- its last row, where its last word alone is asked for
+  pub last-row : (need : Bool) {rows : Size} → (Lies n (setup .direction) gap (pointer .word) size → AsLying n (setup .direction) gap (pointer .word) size rows)
+      → (used && not need) ≡ true → Lies n (setup .direction) gap (pointer .word) rows × (1 ≤ rows .height)
+  last-row need {rows} lying ignored =
+      let here = lying (lies-of (and-left used (not need) ignored)) in
+      (here .lies, some-rows (rows .height) (rows .width) (omega (arith, here .count, fits .some)))
 
   -- what it gives is what the blit fetches
-  supplied-fetched : (memory : List ℕ) (word k : ℕ) → k < size .height * size .width
-      → suppliedAt (setup .direction) (size .width) (sourceOf used pointer gap word) memory k ≡ fetched used memory (standingAt (setup .direction) used (size .width) modulo pointer k) word
+  supplied-fetched : (memory : List ℕ) (need : Bool) (word k : ℕ) → k < size .height * size .width
+      → suppliedAt (setup .direction) (size .width) (sourceOf used need pointer gap word size) memory k ≡ fetched used memory (standingAt (setup .direction) used (size .width) modulo pointer k) word
   unfolding suppliedAt fetched fetchedAt
-  supplied-fetched memory word k below = if-same used _ _ word (λ uses. ap (λ (place : ℕ). getD memory place 0) (sym (place-is uses k below)))
+  supplied-fetched memory need word k below = if-same used _ _ word (λ uses. ap (λ (place : ℕ). getD memory place 0) (sym (place-is uses k below)))
 
 -- no fetch meets a store of the same block
 pub fits-quiet : {n : ℕ} {setup : Setup} {size : Size} {flow : Flow} {far : Strides} → Fits n setup size flow far → Quiet setup (size .width) (size .height * size .width) flow
@@ -116,9 +128,9 @@ module _ {n : ℕ} {setup : Setup} {size : Size} {far : Strides} {flow : Flow} {
   unfolding Each maskedAt levelAt wordA wordB wordC
   stands =
       record {
-        of-a = λ need j below. finished .supplied .a .words need j below ∙ rw (supplied-fetched fits (fits .placed .a) memory (flow .sources .a) j below);
-        of-b = λ need j below. finished .supplied .b .words need j below ∙ supplied-fetched fits (fits .placed .b) memory (flow .sources .b) j below;
-        of-c = λ need j below. finished .supplied .c .words need j below ∙ supplied-fetched fits (fits .placed .c) memory (flow .sources .c) j below;
+        of-a = λ need j below. finished .supplied .a .words need j below ∙ rw (supplied-fetched fits (fits .placed .a) memory _ (flow .sources .a) j below);
+        of-b = λ need j below. finished .supplied .b .words need j below ∙ supplied-fetched fits (fits .placed .b) memory _ (flow .sources .b) j below;
+        of-c = λ need j below. finished .supplied .c .words need j below ∙ supplied-fetched fits (fits .placed .c) memory _ (flow .sources .c) j below;
       }
 
   -- so the final words are the blit's
@@ -135,9 +147,9 @@ module _ {n : ℕ} {setup : Setup} {size : Size} {far : Strides} {flow : Flow} {
   sources-after : end .sources ≡ flowAfter setup (size .width) memory flow (size .height) .sources
   unfolding wordA wordB wordC
   sources-after =
-      same-sources (finished .supplied .a .last ∙ supplied-fetched fits (fits .placed .a) memory (flow .sources .a) (count - 1) (omega (arith, fits .some)) ∙ sym (before-last _ _ count (fits .some)))
-      (finished .supplied .b .last ∙ supplied-fetched fits (fits .placed .b) memory (flow .sources .b) (count - 1) (omega (arith, fits .some)) ∙ sym (before-last _ _ count (fits .some)))
-      (finished .supplied .c .last ∙ supplied-fetched fits (fits .placed .c) memory (flow .sources .c) (count - 1) (omega (arith, fits .some)) ∙ sym (before-last _ _ count (fits .some)))
+      same-sources (finished .supplied .a .last ∙ supplied-fetched fits (fits .placed .a) memory _ (flow .sources .a) (count - 1) (omega (arith, fits .some)) ∙ sym (before-last _ _ count (fits .some)))
+      (finished .supplied .b .last ∙ supplied-fetched fits (fits .placed .b) memory _ (flow .sources .b) (count - 1) (omega (arith, fits .some)) ∙ sym (before-last _ _ count (fits .some)))
+      (finished .supplied .c .last ∙ supplied-fetched fits (fits .placed .c) memory _ (flow .sources .c) (count - 1) (omega (arith, fits .some)) ∙ sym (before-last _ _ count (fits .some)))
 
   earlier-after : end .earlier ≡ flowAfter setup (size .width) memory flow (size .height) .earlier
   unfolding maskedAt levelAt
@@ -150,14 +162,15 @@ module _ {n : ℕ} {setup : Setup} {size : Size} {far : Strides} {flow : Flow} {
       ∙ sym (before-last _ _ count (fits .some)))
       (before-last _ _ count (fits .some) ∙ sym (before-last _ _ count (fits .some)))
 
-  pub block-is : {after : List ℕ} {pointers : Pointers} {stored : ℕ}
-      → after ≡ (if setup .uses .d then laidAt (placeAt (setup .direction) (size .width) (far .d) (flow .pointers .d .word)) (at o) count memory else memory)
+  pub block-is : {after : List ℕ} {pointers : Pointers} {stored : ℕ} {rows : Size}
+      → (Lies n (setup .direction) (far .d) (flow .pointers .d .word) size → AsLying n (setup .direction) (far .d) (flow .pointers .d .word) size rows)
+      → after ≡ (if setup .uses .d then laidAt (placeAt (setup .direction) (rows .width) (far .d) (flow .pointers .d .word)) (at o) (rows .height * rows .width) memory else memory)
       → pointers ≡ pointersOn setup far (size .height) (flow .pointers) → stored ≡ flow .stored + (if setup .uses .d then count else 0)
       → state after (record { pointers = pointers; sources = end .sources; earlier = end .earlier; carry = end .carry; allzero = end .allzero; stored = stored; pending = nothing })
       ≡ areaBlit setup (size .width) (size .height) (state memory flow)
-  block-is stores moves counts =
+  block-is lying stores moves counts =
       rw (
-        stores ∙ if-same (setup .uses .d) _ _ memory (λ uses. laidAt-same _ _ _ _ count memory (λ i below. sym (place-is fits (fits .placed .d) uses i below)) final-here),
+        stores ∙ if-same (setup .uses .d) _ _ memory (λ uses. as-lying-laid (lying (lies-of fits (fits .placed .d) uses)) o memory ∙ laidAt-same _ _ _ _ count memory (λ i below. sym (place-is fits (fits .placed .d) uses i below)) final-here),
         moves,
         counts,
         sources-after,

@@ -1,11 +1,13 @@
 -- Laws of what a source gives as a block's words, fetched or at rest.
-use Rattle.word.proofs.Base.{_≡_, sym, _∙_, ℕ, zero, suc, _-_, _*_, _/_, _%_, _≤_, mul-le-mul-right, arith, Bool, true, false, List}
+use Rattle.word.proofs.Base.{_≡_, sym, ap, _∙_, ℕ, _-_, _*_, _/_, _%_, _≤_, mul-le-mul-right, arith, Bool, true, false, _&&_, not, List}
 use Rattle.word.proofs.Base.{length, getD, bitAnd}
-use native.Mathlib.Nat.{le-div-iff-mul-le, zero-mul}
+use native.Mathlib.Nat.{le-div-iff-mul-le}
 use Rattle.word.specs.Mask.{maskedWhen, masked}
+use Rattle.word.proofs.ChoiceLaws.{and-left, and-right}
 use Rattle.block.proofs.EachLaws.{never}
-use Rattle.blocks.specs.Inner.Block.{Masks, Direction, Size, Source, maskedAt, at, Each, levelAt, fetchedAt}
-use Rattle.blocks.specs.Inner.Block.{suppliedAt, plain, masking, Rested, Given}
+use Rattle.block.proofs.PlaceLaws.{as-lying-fetched}
+use Rattle.blocks.specs.Inner.Block.{Masks, Direction, Pointer, Size, Source, maskedAt, at, Each, levelAt, fetchedAt}
+use Rattle.blocks.specs.Inner.Block.{suppliedAt, plain, masking, Rested, Asked, Given, sourceOf, lastOf}
 
 -- the array of a source that is used, or laid with its word
 pub rested-used : {used : Bool} {width : ℕ} {over : (k word : ℕ) → ℕ} {word : ℕ} {words : List ℕ} → used ≡ true → length words ≡ 80 → Rested used width over word words
@@ -33,33 +35,51 @@ module _ {used : Bool} {width word : ℕ} {after : List ℕ} (whole : length aft
   rested-in-columns masks one all =
       record { long = whole; level = λ idle rows room j below. let first : j % width ≡ 0 = rw one (omega arith) in all j (omega arith) ∙ rw (first, one) }
 
--- what a source gives
-module _ {need : Bool} {direction : Direction} {source : Source} {size : Size} {memory : List ℕ} {over : (k word : ℕ) → ℕ} where
+-- the last word is the one told, but for a source that the function ignores
+last-kept : (direction : Direction) (source : Source) (memory : List ℕ) (told : ℕ) → (source .used && not (source .need)) ≡ false → lastOf direction source memory told ≡ told
+last-kept direction source memory told heeded = rw heeded
+
+-- what a source gives: fetched, or at rest, or, where the function ignores it, the last word alone
+module _ {direction : Direction} {source : Source} {size : Size} {memory : List ℕ} {over : (k word : ℕ) → ℕ} where
   pub given-idle : {words : List ℕ} → source .used ≡ false → size .height * size .width ≤ 64 → Rested (source .used) (size .width) over (source .word) words
-      → Given need direction source size memory over words (source .word)
+      → Given direction source size memory over words (source .word)
   unfolding Each suppliedAt
   given-idle idle room rested = record { words = λ _ j below. rw idle (rested .level idle (size .height) room j below); last = rw idle; rested = rested }
 
-  -- one that the function ignores gives its last word
-  pub given-last : {words : List ℕ} {word : ℕ} → need ≡ false → source .used ≡ true → Rested (source .used) (size .width) over (source .word) words
-      → word ≡ fetchedAt direction (size .width) (source .course .far) (source .course .from) memory (size .height * size .width - 1)
-      → Given need direction source size memory over words word
-  unfolding suppliedAt
-  given-last ignored uses rested is = record { words = λ told. never (sym told ∙ ignored); last = rw uses is; rested = rested-used uses (rested .long) }
-
-  pub given-fetched : (words : List ℕ) {after : List ℕ} → source .used ≡ true → 1 ≤ size .height * size .width → length after ≡ 80
-      → Each (size .height * size .width) words (fetchedAt direction (size .width) (source .course .far) (source .course .from) memory)
-      → Each (size .height * size .width) after (λ k. over k (at words k))
-      → Given need direction source size memory over after (getD words (size .height * size .width - 1) 0)
-  unfolding Each suppliedAt at
-  given-fetched words uses some whole fetches stand =
+  pub given-unfetched : {n : ℕ} {words : List ℕ} (used need : Bool) → source .used ≡ used → source .need ≡ need → (used && need) ≡ false → Asked n direction source size over words
+      → Given direction source size memory over words (lastOf direction source memory (source .word))
+  unfolding suppliedAt fetchedAt
+  given-unfetched true true uses needs none asked = never none
+  given-unfetched true false uses ignores none asked =
+      let lying = asked .lies uses in
       record {
-        words = λ _ j below. stand j below ∙ rw (uses, fetches j below);
-        last = rw uses (fetches (size .height * size .width - 1) (omega arith));
-        rested = rested-used uses whole;
+        words = λ told. never (sym told ∙ ignores);
+        last = rw (uses, ignores, lying .count) (ap (λ (place : ℕ). getD memory place 0) (lying .same (size .height * size .width - 1) (omega (arith, asked .some))));
+        rested = rested-used uses (asked .rested .long);
       }
+  given-unfetched false need idle needs none asked = rw (last-kept direction source memory (source .word) (rw idle)) (given-idle idle (asked .room) (asked .rested))
 
--- a block has a row
-pub some-rows : (rows width : ℕ) → 1 ≤ rows * width → 1 ≤ rows
-some-rows zero width some = absurd (omega (arith, zero-mul width))
-some-rows (suc rows) width some = omega arith
+  pub given-fetched : {n : ℕ} (words : List ℕ) {before after : List ℕ} → (source .used && source .need) ≡ true → Asked n direction source size over before → length after ≡ 80
+      → Each (source .rows .height * source .rows .width) words (fetchedAt direction (source .rows .width) (source .course .far) (source .course .from) memory)
+      → Each (size .height * size .width) after (λ k. over k (at words k))
+      → Given direction source size memory over after (lastOf direction source memory (getD words (size .height * size .width - 1) 0))
+  unfolding Each suppliedAt at
+  given-fetched words both asked whole fetches stand =
+      let uses = and-left (source .used) (source .need) both in
+      let here = as-lying-fetched (asked .lies uses) words memory fetches in
+      rw (last-kept direction source memory (getD words (size .height * size .width - 1) 0) (rw (uses, and-right (source .used) (source .need) both)))
+      (record {
+        words = λ _ j below. stand j below ∙ rw (uses, here j below);
+        last = rw uses (here (size .height * size .width - 1) (omega (arith, asked .some)));
+        rested = rested-used uses whole;
+      })
+
+  pub given-kept : {x : List ℕ} (told : ℕ) → (source .used && not (source .need)) ≡ false → Given direction source size memory over x (lastOf direction source memory told)
+      → Given direction source size memory over x told
+  given-kept told heeded given = rw (last-kept direction source memory told heeded) at given
+
+-- however its rows are counted
+pub given-as : {direction : Direction} {used need : Bool} {pointer : Pointer} {far word : ℕ} (rows : Size) {size : Size} {memory : List ℕ} {over : (k word : ℕ) → ℕ} {x : List ℕ} {told : ℕ}
+    → Given direction (sourceOf used need pointer far word rows) size memory over x told → Given direction (sourceOf used need pointer far word size) size memory over x told
+unfolding suppliedAt
+given-as rows given = record { words = given .words; last = given .last; rested = given .rested }

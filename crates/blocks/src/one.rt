@@ -1,6 +1,6 @@
 // One block: its sources, its final words, their stores, and the flow after it.
 ghost use mathlib.Core.Path.{_≡_};
-ghost use mathlib.Core.Bool.{true, _&&_};
+ghost use mathlib.Core.Bool.{true, _&&_, not};
 ghost use Prim.Native.Nat.{_+_, _*_, _<_, _≤_};
 ghost use lib.ListN.{length};
 ghost use Rattle.word.specs.Choice.{if_then_else_};
@@ -8,7 +8,7 @@ ghost use Rattle.area.specs.Flow.{state};
 ghost use Rattle.area.specs.Rows.{areaBlit};
 ghost use Rattle.quiet.specs.Stream.{laidAt};
 ghost use Rattle.block.specs.Inner.Place.{placeAt};
-ghost use Rattle.blocks.specs.Inner.Block.{pointerEnd, at, nought, Lies, masking, plain, sourceOf};
+ghost use Rattle.blocks.specs.Inner.Block.{pointerEnd, at, nought, Lies, AsLying, masking, plain, sourceOf, lastOf};
 ghost use Rattle.blocks.specs.Inner.Block.{needed, Asked, Given, AllRest, Supplied, Arrays, Fits};
 ghost use Rattle.blocks.specs.Inner.MadeOf.{lastWords, MadeOf, handed};
 ghost use Rattle.blocks.specs.Inner.MadeOf.{rowsOn, pointersOn};
@@ -30,41 +30,52 @@ use word::pointer::INDEX_END;
 use word::types::Direction;
 use word::types::Pointer;
 
-fn source(used: bool, pointer: Pointer, far: usize, word: u16) -> Source
-    ensures { λ source. ⌜ source ≡ sourceOf used pointer far word ⌝ }
+// Rows without a gap are one row.
+fn source(
+    n: usize,
+    direction: Direction,
+    size: Size,
+    used: bool,
+    need: bool,
+    pointer: Pointer,
+    far: usize,
+    word: u16,
+) -> Source
+    requires { ⌜ (n ≤ pointerEnd) × (pointer .word < pointerEnd) × (far < pointerEnd)
+        × (1 ≤ size .height * size .width) × (size .height * size .width ≤ 64) ⌝ }
+    ensures { λ source. ⌜ (source ≡ sourceOf used need pointer far word (source .rows))
+        × (Lies n direction far (pointer .word) size → AsLying n direction far (pointer .word) size (source .rows)) ⌝ }
 {
     let from = pointer.word as usize;
     let course = Course { from, far };
-    Source { used, course, word }
+    let rows = block::place::as_lying(n, direction, course, size);
+    Source {
+        used,
+        need,
+        course,
+        word,
+        rows,
+    }
 }
 
 // A's words, masked, where the function needs them. The answer is the last of them, unmasked.
-fn supplied_a(
-    need: bool,
-    source: Source,
-    setup: Setup,
-    ram: &[u16],
-    size: Size,
-    x: &mut Words,
-) -> u16
+fn supplied_a(source: Source, setup: Setup, ram: &[u16], size: Size, x: &mut Words) -> u16
     requires { ⌜ Asked (length (now ram)) (setup .direction) source size (masking (setup .masks) (size .width)) (now x) ⌝ }
-    ensures { λ last. ⌜
-        Given need (setup .direction) source size (now (ram .entry)) (masking (setup .masks) (size .width)) (now (x .exit)) last ⌝ }
+    ensures { λ got. ⌜
+        Given (setup .direction) source size (now (ram .entry)) (masking (setup .masks) (size .width)) (now (x .exit)) (lastOf (setup .direction) source (now (ram .entry)) got) ⌝ }
 {
     let direction = setup.direction;
     let masks = setup.masks;
     let course = source.course;
-    if source.used {
-        if !need {
-            return block::fetch::last_word(direction, ram, course, size);
-        }
-        if size.width < 4 {
-            block::fetch::narrow_rows(direction, ram, course, size, x);
+    let rows = source.rows;
+    if source.used & source.need {
+        if rows.width < 4 {
+            block::fetch::narrow_rows(direction, ram, course, rows, x);
             let last = x[size.height * size.width - 1];
             block::mask::mask(masks, size.width, size.height, x);
             return last;
         }
-        block::fetch::rows(direction, ram, course.from, course.far, size, x);
+        block::fetch::rows(direction, ram, course.from, course.far, rows, x);
         let last = x[size.height * size.width - 1];
         block::mask::mask(masks, size.width, size.height, x);
         return last;
@@ -73,30 +84,39 @@ fn supplied_a(
 }
 
 // The words of B, or of C.
-fn supplied(
-    need: bool,
-    source: Source,
-    direction: Direction,
-    ram: &[u16],
-    size: Size,
-    x: &mut Words,
-) -> u16
+fn supplied(source: Source, direction: Direction, ram: &[u16], size: Size, x: &mut Words) -> u16
     requires { ⌜ Asked (length (now ram)) direction source size plain (now x) ⌝ }
-    ensures { λ last. ⌜ Given need direction source size (now (ram .entry)) plain (now (x .exit)) last ⌝ }
+    ensures { λ got. ⌜ Given direction source size (now (ram .entry)) plain (now (x .exit)) (lastOf direction source (now (ram .entry)) got) ⌝ }
 {
     let course = source.course;
-    if source.used {
-        if !need {
-            return block::fetch::last_word(direction, ram, course, size);
-        }
-        if size.width < 4 {
-            block::fetch::narrow_rows(direction, ram, course, size, x);
+    let rows = source.rows;
+    if source.used & source.need {
+        if rows.width < 4 {
+            block::fetch::narrow_rows(direction, ram, course, rows, x);
             return x[size.height * size.width - 1];
         }
-        block::fetch::rows(direction, ram, course.from, course.far, size, x);
+        block::fetch::rows(direction, ram, course.from, course.far, rows, x);
         return x[size.height * size.width - 1];
     }
     source.word
+}
+
+fn ignored(source: Source) -> bool
+    ensures { λ ignored. ⌜ ignored ≡ (source .used && not (source .need)) ⌝ }
+{
+    source.used & !source.need
+}
+
+// The last word of a source: where the function ignores it, it alone is fetched.
+fn last_of(source: Source, got: u16, direction: Direction, ram: &[u16]) -> u16
+    requires { ⌜ ((source .used && not (source .need)) ≡ true
+        → Lies (length (now ram)) direction (source .course .far) (source .course .from) (source .rows) × (1 ≤ source .rows .height)) ⌝ }
+    ensures { λ last. ⌜ last ≡ lastOf direction source (now (ram .entry)) got ⌝ }
+{
+    if ignored(source) {
+        return block::fetch::last_word(direction, ram, source.course, source.rows);
+    }
+    got
 }
 
 // What the three sources give, and the last word of each.
@@ -118,12 +138,20 @@ fn sources(
     let direction = setup.direction;
     let at = flow.pointers;
     let rest = flow.sources;
-    let from_a = source(uses.a, at.a, far.a, rest.a);
-    let from_b = source(uses.b, at.b, far.b, rest.b);
-    let from_c = source(uses.c, at.c, far.c, rest.c);
-    let a = supplied_a(need.a, from_a, setup, ram, size, xa);
-    let b = supplied(need.b, from_b, direction, ram, size, xb);
-    let c = supplied(need.c, from_c, direction, ram, size, xc);
+    let n = ram.len();
+    let from_a = source(n, direction, size, uses.a, need.a, at.a, far.a, rest.a);
+    let from_b = source(n, direction, size, uses.b, need.b, at.b, far.b, rest.b);
+    let from_c = source(n, direction, size, uses.c, need.c, at.c, far.c, rest.c);
+    let a = supplied_a(from_a, setup, ram, size, xa);
+    let b = supplied(from_b, direction, ram, size, xb);
+    let c = supplied(from_c, direction, ram, size, xc);
+    if ignored(from_a) | ignored(from_b) | ignored(from_c) {
+        return Sources {
+            a: last_of(from_a, a, direction, ram),
+            b: last_of(from_b, b, direction, ram),
+            c: last_of(from_c, c, direction, ram),
+        };
+    }
     Sources { a, b, c }
 }
 
@@ -271,8 +299,10 @@ pub fn one_block(
     let uses = setup.uses;
     let at = flow.pointers;
     let end = made(ram, setup, far, size, ready, flow, xa, xb, xc, ya, o);
-    let d = source(uses.d, at.d, far.d, 0);
-    store_words(ram, setup, d.course, size, o);
+    let n = ram.len();
+    let direction = setup.direction;
+    let d = source(n, direction, size, uses.d, true, at.d, far.d, 0);
+    store_words(ram, setup, d.course, d.rows, o);
     let pointers = pointers_on(setup, far, size.height, at);
     let sources = end.sources;
     let earlier = end.earlier;

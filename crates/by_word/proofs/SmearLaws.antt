@@ -1,6 +1,6 @@
 -- Laws of a smear: its words are those of the blit, each found when A comes to it.
 use Rattle.word.proofs.Base.{_≡_, refl, sym, ap, _∙_, ℕ, zero, suc, _+_, _-_, _*_, _/_, _%_, _<_, _≤_, add-one, sub-one, decLt, arith}
-use Rattle.word.proofs.Base.{Bool, true, false, _&&_, eqb, List, length, getD, set, getD-set-other}
+use Rattle.word.proofs.Base.{Bool, true, false, _&&_, eqb, List, getD, set, getD-set-other}
 use Rattle.word.proofs.Base.{suc-mul, mul-le-mul, mul-le-mul-right, mod-eq-of-lt, _||_, not, ltb, eqb-true, eqb-false, not-false}
 use native.Mathlib.Nat.{div-lt-iff-lt-mul, div-add-mod'}
 use borrow.Author.Tests.{ltb-false}

@@ -1,5 +1,6 @@
 -- The places of a channel's words by sums, where no row goes round.
 use Prim.Native.Nat.{ℕ, _+_, _-_, _*_, _/_, _%_, _<_, _≤_}
+use mathlib.Core.Path.{_≡_}
 use mathlib.Core.List.{List}
 use lib.ListN.{getD}
 use Rattle.word.specs.declared.types.Direction.{Direction}
@@ -38,6 +39,18 @@ pub record Lies (n : ℕ) (direction : Direction) (far from : ℕ) (size : Size)
   pub some : 1 ≤ size .width
   pub starts : from < pointerEnd
   pub strides : far < pointerEnd
+
+-- each of them begins where the one before it ends, and none of their words goes round
+unfoldable pub Gapless : (n : ℕ) → Direction → (width far from words : ℕ) → Type 0
+Gapless n Ascending width far from words = (far ≡ width) × (from + words ≤ n)
+Gapless n Descending width far from words = (far + width ≡ pointerEnd) × (words ≤ from + 1)
+
+-- rows of another size lie as they do: as many words, each in the same place
+pub record AsLying (n : ℕ) (direction : Direction) (far from : ℕ) (size other : Size) : Type 0 where
+  pub lies : Lies n direction far from other
+  pub count : other .height * other .width ≡ size .height * size .width
+  pub same : (k : ℕ) → k < size .height * size .width
+      → placeAt direction (other .width) far from k ≡ placeAt direction (size .width) far from k
 
 -- what a channel fetches: word i of a row, and word k of all
 unfoldable pub fetchedIn : Direction → (memory : List ℕ) → (start i : ℕ) → ℕ

@@ -1,7 +1,7 @@
 -- One block: what its sources give, and the arrays of those at rest, which are laid once a blit.
 use Prim.Native.Nat.{ℕ, _-_, _*_, _≤_}
 use mathlib.Core.Path.{_≡_}
-use mathlib.Core.Bool.{Bool, true, false}
+use mathlib.Core.Bool.{Bool, true, false, _&&_, not}
 use mathlib.Core.List.{List}
 use lib.ListN.{length}
 use Rattle.word.specs.Choice.{if_then_else_}
@@ -11,7 +11,7 @@ pub use Rattle.area.specs.declared.types.Pointers.{Pointers}
 pub use Rattle.area.specs.declared.types.Sources.{Sources}
 unfoldable pub use Rattle.quiet.specs.Words.{maskedAt}
 unfoldable pub use Rattle.block.specs.Inner.Each.{at, Each, levelAt, finalWordAt, nought}
-pub use Rattle.block.specs.Inner.Place.{Lies}
+pub use Rattle.block.specs.Inner.Place.{Lies, AsLying}
 unfoldable pub use Rattle.block.specs.Inner.Place.{rowAt, fetchedAt}
 pub use Rattle.block.specs.declared.types.Needs.{Needs}
 pub use Rattle.block.specs.Inner.Ignores.{needed}
@@ -42,20 +42,28 @@ pub record Rested (used : Bool) (width : ℕ) (over : (k word : ℕ) → ℕ) (w
 
 -- a source can give a block's words
 pub record Asked (n : ℕ) (direction : Direction) (source : Source) (size : Size) (over : (k word : ℕ) → ℕ) (words : List ℕ) : Type 0 where
-  pub lies : source .used ≡ true → Lies n direction (source .course .far) (source .course .from) size
+  pub lies : source .used ≡ true → AsLying n direction (source .course .far) (source .course .from) size (source .rows)
   pub wide : 1 ≤ size .width
   pub some : 1 ≤ size .height * size .width
   pub room : size .height * size .width ≤ 64
   pub rested : Rested (source .used) (size .width) over (source .word) words
 
 -- it gave them, where the function needs them; the last is told, and at rest it gives that again
-pub record Given (need : Bool) (direction : Direction) (source : Source) (size : Size) (memory : List ℕ) (over : (k word : ℕ) → ℕ) (x : List ℕ) (told : ℕ) : Type 0 where
-  pub words : need ≡ true → Each (size .height * size .width) x (λ k. over k (suppliedAt direction (size .width) source memory k))
+pub record Given (direction : Direction) (source : Source) (size : Size) (memory : List ℕ) (over : (k word : ℕ) → ℕ) (x : List ℕ) (told : ℕ) : Type 0 where
+  pub words : source .need ≡ true → Each (size .height * size .width) x (λ k. over k (suppliedAt direction (size .width) source memory k))
   pub last : told ≡ suppliedAt direction (size .width) source memory (size .height * size .width - 1)
   pub rested : Rested (source .used) (size .width) over told x
 
-abbrev pub sourceOf : (used : Bool) → Pointer → (far word : ℕ) → Source
-sourceOf used pointer far word = record { used = used; course = record { from = pointer .word; far = far }; word = word }
+abbrev pub sourceOf : (used need : Bool) → Pointer → (far word : ℕ) → (rows : Size) → Source
+sourceOf used need pointer far word rows =
+    record { used = used; need = need; course = record { from = pointer .word; far = far }; word = word; rows = rows }
+
+-- the last word, where another was told of a source that the function ignores
+abbrev pub lastOf : Direction → Source → (memory : List ℕ) → (told : ℕ) → ℕ
+lastOf direction source memory told =
+    if source .used && not (source .need) then
+    fetchedAt direction (source .rows .width) (source .course .far) (source .course .from) memory (source .rows .height * source .rows .width - 1) else
+    told
 
 -- all three sources
 pub record AllRest (setup : Setup) (width : ℕ) (sources : Sources) (xa xb xc : List ℕ) : Type 0 where
@@ -64,9 +72,9 @@ pub record AllRest (setup : Setup) (width : ℕ) (sources : Sources) (xa xb xc :
   pub c : Rested (setup .uses .c) width plain (sources .c) xc
 
 pub record Supplied (setup : Setup) (size : Size) (far : Strides) (flow : Flow) (memory xa xb xc : List ℕ) (last : Sources) : Type 0 where
-  pub a : Given (needed (setup .function) .a) (setup .direction) (sourceOf (setup .uses .a) (flow .pointers .a) (far .a) (flow .sources .a)) size memory (masking (setup .masks) (size .width)) xa (last .a)
-  pub b : Given (needed (setup .function) .b) (setup .direction) (sourceOf (setup .uses .b) (flow .pointers .b) (far .b) (flow .sources .b)) size memory plain xb (last .b)
-  pub c : Given (needed (setup .function) .c) (setup .direction) (sourceOf (setup .uses .c) (flow .pointers .c) (far .c) (flow .sources .c)) size memory plain xc (last .c)
+  pub a : Given (setup .direction) (sourceOf (setup .uses .a) (needed (setup .function) .a) (flow .pointers .a) (far .a) (flow .sources .a) size) size memory (masking (setup .masks) (size .width)) xa (last .a)
+  pub b : Given (setup .direction) (sourceOf (setup .uses .b) (needed (setup .function) .b) (flow .pointers .b) (far .b) (flow .sources .b) size) size memory plain xb (last .b)
+  pub c : Given (setup .direction) (sourceOf (setup .uses .c) (needed (setup .function) .c) (flow .pointers .c) (far .c) (flow .sources .c) size) size memory plain xc (last .c)
 
 -- all five arrays
 pub record Arrays (setup : Setup) (width : ℕ) (sources : Sources) (xa xb xc ya o : List ℕ) : Type 0 where

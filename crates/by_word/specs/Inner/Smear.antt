@@ -17,7 +17,6 @@ use Rattle.block.specs.declared.types.Size.{Size}
 use Rattle.block.specs.declared.types.Terms.{Terms}
 use Rattle.block.specs.Inner.Terms.{terms}
 use Rattle.apart.specs.declared.types.Strides.{Strides}
-use Rattle.by_word.specs.declared.types.Smeared.{Smeared}
 
 -- a function of A alone, unmasked and unfilled, upward
 pub record Alone (setup : Setup) : Type 0 where

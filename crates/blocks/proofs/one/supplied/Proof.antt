@@ -1,36 +1,31 @@
--- `blocks::one::supplied` meets its contract: the last word alone, or all fetched, or at rest.
-use Rattle.word.proofs.Base.{not-true, needs}
+-- `blocks::one::supplied` meets its contract: fetched, or not.
+use Rattle.word.proofs.Base.{refl, needs}
+use Rattle.word.proofs.ChoiceLaws.{and-left}
 use Rattle.block.proofs.EachLaws.{each-self}
 use Rattle.blocks.specs.Inner.Block.{Each}
-use Rattle.blocks.proofs.SuppliedLaws.{given-idle, given-last, given-fetched, some-rows}
+use Rattle.blocks.proofs.SuppliedLaws.{given-fetched, given-unfetched}
 use Rattle.blocks.proofs.one.supplied.Statement.{statement}
 use Rattle.blocks.proofs.one.supplied.Tie as tie
 
-last-word-requires : tie.Need-last-word-requires
-last-word-requires c κs = (c .before .before .before .before .pre .lies (c .before .if1 .taken), some-rows _ _ (c .before .before .before .before .pre .some))
+narrow-rows-requires : tie.Need-narrow-rows-requires
+narrow-rows-requires c κs = (c .before .before .before .before .before .before .before .before .pre .lies (and-left _ _ (c .before .before .before .if1 .taken)) .lies, search needs, c .before .before .before .before .before .before .before .before .pre .rested .long)
 
 returns : tie.Need-returns
-returns c = given-last (not-true _ (c .before .if2 .taken)) (c .before .before .if1 .taken) (c .before .before .before .before .before .pre .rested) (c .last-word .ensures)
+unfolding Each
+returns c = let asked = c .before .before .before .before .before .before .before .before .before .before .before .pre in search (needs, given-fetched, each-self)
 
-narrow-rows-requires : tie.Need-narrow-rows-requires
-narrow-rows-requires c κs = (c .before .before .before .before .before .before .before .pre .lies (c .before .before .before .before .if1 .taken), search needs, c .before .before .before .before .before .before .before .pre .rested .long)
+rows-requires : tie.Need-rows-requires
+rows-requires c κs = (c .before .before .before .before .before .before .before .before .pre .lies (and-left _ _ (c .before .before .before .if1 .taken)) .lies, c .before .before .before .before .before .before .before .before .pre .rested .long)
 
 returns-2 : tie.Need-returns-2
 unfolding Each
-returns-2 c = search (needs, given-fetched, each-self)
-
-rows-requires : tie.Need-rows-requires
-rows-requires c κs = (c .before .before .before .before .before .before .before .pre .lies (c .before .before .before .before .if1 .taken), c .before .before .before .before .before .before .before .pre .rested .long)
+returns-2 c = let asked = c .before .before .before .before .before .before .before .before .before .before .before .pre in search (needs, given-fetched, each-self)
 
 returns-3 : tie.Need-returns-3
-unfolding Each
-returns-3 c = search (needs, given-fetched, each-self)
-
-returns-4 : tie.Need-returns-4
-returns-4 c = search (needs, given-idle)
+returns-3 c = given-unfetched _ _ refl refl (c .if1 .left) (c .before .before .before .before .before .pre)
 
 pub supplied-spec : {M : Type 1} → statement M
 supplied-spec =
-    tie.close (tie.spec last-word-requires returns narrow-rows-requires (λ c. search needs) (λ c. search needs)
-    (λ c. search needs) (λ c. search needs) returns-2 rows-requires (λ c. search needs) (λ c. search needs)
-    (λ c. search needs) (λ c. search needs) returns-3 returns-4)
+    tie.close (tie.spec narrow-rows-requires (λ c. search needs) (λ c. search needs) (λ c. search needs)
+    (λ c. search needs) returns rows-requires (λ c. search needs) (λ c. search needs) (λ c. search needs)
+    (λ c. search needs) returns-2 returns-3)

@@ -1,5 +1,5 @@
 -- `by_word::smear::smeared` meets its contract: each turn fetches a word, makes it and stores it.
-use Rattle.word.proofs.Base.{_≡_, ap, _∙_, _+_, _-_, _≤_, arith, needs, length}
+use Rattle.word.proofs.Base.{_≡_, _+_, _-_, _≤_, arith, needs, length}
 use Rattle.by_word.specs.Inner.Smear.{smearedWord, SmearedBy}
 use Rattle.by_word.proofs.SmearLaws.{smeared-none, smeared-turn, smeared-done}
 use Rattle.by_word.proofs.smear.smeared.Statement.{statement}

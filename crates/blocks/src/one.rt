@@ -30,7 +30,7 @@ use word::pointer::INDEX_END;
 use word::types::Direction;
 use word::types::Pointer;
 
-// Rows without a gap are one row.
+// A source, its rows as they lie: those without a gap are one.
 fn source(
     n: usize,
     direction: Direction,
@@ -101,6 +101,7 @@ fn supplied(source: Source, direction: Direction, ram: &[u16], size: Size, x: &m
     source.word
 }
 
+// Whether a source is fetched for its register alone.
 fn ignored(source: Source) -> bool
     ensures { λ ignored. ⌜ ignored ≡ (source .used && not (source .need)) ⌝ }
 {

@@ -78,6 +78,10 @@ module _ (by : Terms) (x : ℕ) where
   unfolding joined
   joined-of-a = simp (and-zero-l, xor-zero-r)
 
+  pub joined-of-b : bitXor (by .none) (bitAnd x (by .b)) ≡ joined by 0 x 0
+  unfolding joined
+  joined-of-b = simp (and-zero-l, xor-zero-r)
+
   pub joined-of-c : bitXor (by .none) (bitAnd x (by .c)) ≡ joined by 0 0 x
   unfolding joined
   joined-of-c = simp (and-zero-l, xor-zero-r)
@@ -95,6 +99,16 @@ module _ (f n : ℕ) (by : Terms) (need : Needs) (a b c o : List ℕ) (ignores :
       (joined-of-a (terms f) (getD a j 0)
       ∙ joined-is-logic f (getD a j 0) 0 0
       ∙ ignores .b no-b (getD a j 0) 0 (getD b j 0) 0
+      ∙ ignores .c no-c (getD a j 0) (getD b j 0) 0 (getD c j 0))
+
+  pub mix-of-b : need .a ≡ false → need .c ≡ false → Each n o (turnedAt (by .none) (by .b) (at b)) → Each n o (mixedAt f (at a) (at b) (at c))
+  unfolding Each turnedAt mixedAt at
+  mix-of-b no-a no-c all j below =
+      all j below
+      ∙ rw is
+      (joined-of-b (terms f) (getD b j 0)
+      ∙ joined-is-logic f 0 (getD b j 0) 0
+      ∙ ignores .a no-a 0 (getD a j 0) (getD b j 0) 0
       ∙ ignores .c no-c (getD a j 0) (getD b j 0) 0 (getD c j 0))
 
   pub mix-of-c : need .a ≡ false → need .b ≡ false → Each n o (turnedAt (by .none) (by .c) (at c)) → Each n o (mixedAt f (at a) (at b) (at c))

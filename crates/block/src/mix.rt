@@ -67,6 +67,19 @@ fn mix_one(none: u16, turns: u16, n: usize, x: &Words, o: &mut Words)
     }
 }
 
+// Of B alone, whose words stand where the mix goes.
+fn mix_own(none: u16, turns: u16, n: usize, o: &mut Words)
+    requires { ⌜ (n ≤ 80) × (length (now o) ≡ 80) ⌝ }
+    ensures { λ _. ⌜ (length (now (o .exit)) ≡ 80)
+        × Each n (now (o .exit)) (turnedAt none turns (at (now (o .entry)))) ⌝ }
+{
+    let mut i: usize = 0;
+    while i < n {
+        o[i] = none ^ (o[i] & turns);
+        i = i + 1;
+    }
+}
+
 // A source that the function ignores isn't read. B's words stand where the mix goes.
 pub fn mix(function: u16, need: Needs, n: usize, a: &Words, c: &Words, o: &mut Words)
     requires { ⌜ Ignores function need × (n ≤ 80) × (length (now o) ≡ 80) ⌝ }
@@ -74,8 +87,12 @@ pub fn mix(function: u16, need: Needs, n: usize, a: &Words, c: &Words, o: &mut W
         × Each n (now (o .exit)) (mixedAt function (at (now (a .entry))) (at (now (o .entry))) (at (now (c .entry)))) ⌝ }
 {
     let by = terms(function);
-    if need.b | (need.a & need.c) {
+    if (need.b & (need.a | need.c)) | (need.a & need.c) {
         mix_three(by, n, a, c, o);
+        return;
+    }
+    if need.b {
+        mix_own(by.none, by.b, n, o);
         return;
     }
     if need.a {

@@ -43,10 +43,8 @@ pub fn as_lying(n: usize, direction: Direction, course: Course, size: Size) -> S
         return size;
     }
     if together(n, direction, course, size) {
-        return Size {
-            width: size.height * size.width,
-            height: 1,
-        };
+        let width = size.height * size.width;
+        return Size { width, height: 1 };
     }
     size
 }

@@ -144,32 +144,6 @@ pub lies-when : {n : ℕ} {direction : Direction} {far from known : ℕ} {size :
 lies-when is lies =
     record { inside = rw is at (lies .inside); room = rw is at (lies .room); some = rw is at (lies .some); starts = lies .starts; strides = lies .strides }
 
--- the last word is the last of the last row
-module _ {n : ℕ} {direction : Direction} {far from : ℕ} {size : Size} (lies : Lies n direction far from size) (some : 1 ≤ size .height) where
-  pub few-rows : size .height ≤ 64
-  few-rows = let least : size .height * 1 ≤ size .height * size .width = mul-le-mul (omega arith) (lies .some) in omega (arith, lies .room)
-
-  pub last-far : (size .height - 1) * far ≤ 64 * pointerEnd
-  last-far = rows-far _ _ (omega (arith, few-rows)) (lies .strides)
-
-  pub last-row-inside : RowInside n direction (size .width) (record { word = (from + (size .height - 1) * far) % pointerEnd })
-  unfolding EvenRows rowAt
-  last-row-inside = lies .inside (size .height - 1) (omega arith)
-
-  pub last-fetched : (memory : List ℕ) (place : ℕ) → place ≡ placeIn direction ((from + (size .height - 1) * far) % pointerEnd) (size .width - 1)
-      → getD memory place 0 ≡ fetchedAt direction (size .width) far from memory (size .height * size .width - 1)
-  unfolding fetchedAt placeAt rowAt
-  last-fetched memory place is =
-      let all : size .height * size .width - 1 ≡ (size .height - 1) * size .width + (size .width - 1) = omega (arith, lies .some, last-of-rows) in
-      rw (
-        is,
-        row-of (size .width) (size .height - 1) (size .width - 1) _ (omega (arith, lies .some)) all,
-        word-of (size .width) (size .height - 1) (size .width - 1) _ (omega (arith, lies .some)) all,
-      )
-    where
-      last-of-rows : size .height * size .width ≡ (size .height - 1) * size .width + size .width
-      last-of-rows = let rest : suc (size .height - 1) ≡ size .height = omega arith in ap (λ (rows : ℕ). rows * size .width) (sym rest) ∙ suc-mul (size .height - 1) (size .width)
-
 -- a block has a row, and its rows are no wider than it is
 pub some-rows : (rows width : ℕ) → 1 ≤ rows * width → 1 ≤ rows
 some-rows zero width some = absurd (omega (arith, zero-mul width))
@@ -179,11 +153,39 @@ pub no-wider : (rows width : ℕ) → 1 ≤ rows * width → rows * width ≤ 64
 no-wider zero width some room = absurd (omega (arith, zero-mul width))
 no-wider (suc rows) width some room = omega (arith, suc-mul rows width)
 
+-- the last word is the last of the last row
+pub last-of-rows : (rows width : ℕ) → 1 ≤ rows → 1 ≤ width → rows * width - 1 ≡ (rows - 1) * width + (width - 1)
+last-of-rows rows width some wide =
+    let rest : suc (rows - 1) ≡ rows = omega arith in
+    let all : rows * width ≡ (rows - 1) * width + width = ap (λ (rows : ℕ). rows * width) (sym rest) ∙ suc-mul (rows - 1) width in
+    omega arith
+
+module _ {n : ℕ} {direction : Direction} {far from : ℕ} {size : Size} (lies : Lies n direction far from size) (some : 1 ≤ size .height) where
+  pub last-far : (size .height - 1) * far ≤ 64 * pointerEnd
+  last-far =
+      let least : size .height * 1 ≤ size .height * size .width = mul-le-mul (omega arith) (lies .some) in
+      rows-far _ _ (omega (arith, lies .room)) (lies .strides)
+
+  pub last-row-inside : RowInside n direction (size .width) (record { word = (from + (size .height - 1) * far) % pointerEnd })
+  unfolding EvenRows rowAt
+  last-row-inside = lies .inside (size .height - 1) (omega arith)
+
+  pub last-fetched : (memory : List ℕ) (place : ℕ) → place ≡ placeIn direction ((from + (size .height - 1) * far) % pointerEnd) (size .width - 1)
+      → getD memory place 0 ≡ fetchedAt direction (size .width) far from memory (size .height * size .width - 1)
+  unfolding fetchedAt placeAt rowAt
+  last-fetched memory place is =
+      let all = last-of-rows (size .height) (size .width) some (lies .some) in
+      rw (
+        is,
+        row-of (size .width) (size .height - 1) (size .width - 1) _ (omega (arith, lies .some)) all,
+        word-of (size .width) (size .height - 1) (size .width - 1) _ (omega (arith, lies .some)) all,
+      )
+
 -- rows lie as they do, and without a gap as one row
 pub as-they-are : {n : ℕ} {direction : Direction} {far from : ℕ} {size : Size} → Lies n direction far from size → AsLying n direction far from size size
 as-they-are lies = record { lies = lies; count = refl; same = λ k below. refl }
 
-rowAt-gapless : (n : ℕ) (direction : Direction) (width far from words row : ℕ) → n ≤ pointerEnd → from < pointerEnd → Gapless n direction width far from words
+pub rowAt-gapless : (n : ℕ) (direction : Direction) (width far from words row : ℕ) → n ≤ pointerEnd → from < pointerEnd → Gapless n direction width far from words
     → row * width < words → rowAt far from row ≡ placeIn direction from (row * width)
 unfolding rowAt placeIn Gapless
 rowAt-gapless n Ascending width far from words row most small (gapless, inside) within = rw gapless (omega arith)
@@ -197,7 +199,7 @@ unfolding placeIn
 placeIn-more Ascending from first more = omega arith
 placeIn-more Descending from first more = omega arith
 
-placeAt-gapless : (n : ℕ) (direction : Direction) (width far from words k : ℕ) → n ≤ pointerEnd → from < pointerEnd → Gapless n direction width far from words
+pub placeAt-gapless : (n : ℕ) (direction : Direction) (width far from words k : ℕ) → n ≤ pointerEnd → from < pointerEnd → Gapless n direction width far from words
     → k < words → placeAt direction width far from k ≡ placeIn direction from k
 unfolding placeAt
 placeAt-gapless n direction width far from words k most small gapless below =

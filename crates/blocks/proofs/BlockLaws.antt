@@ -1,7 +1,6 @@
 -- One block is a blit of its rows: its words are those of the quiet blit.
-use Rattle.word.proofs.Base.{_≡_, refl, sym, ap, _∙_, ℕ, zero, suc, _+_, _-_, _*_, _<_, _≤_, suc-mul, mul-le-mul-right, sub-one, arith, Bool, true}
+use Rattle.word.proofs.Base.{_≡_, refl, sym, ap, _∙_, ℕ, zero, suc, _+_, _-_, _*_, _<_, _≤_, mul-le-mul-right, sub-one, arith, Bool, true}
 use Rattle.word.proofs.Base.{_%_, decLt, _&&_, not, false, eqb, eq-eqb, ne-eqb, List, getD}
-use native.Mathlib.Nat.{zero-mul}
 use Rattle.word.specs.Choice.{if_then_else_, every}
 use Rattle.word.specs.Mask.{masked}
 use Rattle.word.proofs.ChoiceLaws.{and-left}
@@ -14,7 +13,7 @@ use Rattle.quiet.specs.Quiet.{Unmet, Quiet, flowAfter}
 use Rattle.quiet.proofs.StreamLaws.{word-of}
 use Rattle.quiet.proofs.QuietLaws.{quiet-blit}
 use Rattle.block.specs.Inner.Place.{placeAt, EvenRows}
-use Rattle.block.proofs.PlaceLaws.{some-rows, laidAt-same, as-lying-laid}
+use Rattle.block.proofs.PlaceLaws.{some-rows, last-of-rows, laidAt-same, as-lying-laid}
 use Rattle.apart.specs.Inner.Apart.{Apart}
 use Rattle.apart.proofs.PlacedLaws.{stride-lt, channel-place, channel-rows}
 use Rattle.blocks.specs.Inner.Block.{Pointer, Sources, Earlier, Pointers, Setup, Flow, Strides, Size, Made, pointerEnd, nothing}
@@ -93,10 +92,9 @@ before-last first word (suc k) some = ap word (sym (sub-one (suc k)))
 -- the last word of so many rows is a row's last
 last-is : (masks : Masks) (width rows word : ℕ) → 1 ≤ width → 1 ≤ rows * width → masking masks width (rows * width - 1) word ≡ masking masks width (width - 1) word
 unfolding maskedAt levelAt
-last-is masks width zero word some more = absurd (omega (arith, zero-mul width))
-last-is masks width (suc row) word some more =
+last-is masks width rows word some more =
     rw (
-      word-of width row (width - 1) (suc row * width - 1) (omega arith) (omega (arith, suc-mul row width)),
+      word-of width (rows - 1) (width - 1) (rows * width - 1) (omega arith) (last-of-rows rows width (some-rows rows width more) some),
       word-of width 0 (width - 1) (width - 1) (omega arith) (omega arith),
     )
 

@@ -1,8 +1,7 @@
 -- Laws of a smear: its words are those of the blit, each found when A comes to it.
-use Rattle.word.proofs.Base.{_≡_, refl, sym, ap, _∙_, ℕ, zero, suc, _+_, _-_, _*_, _/_, _%_, _<_, _≤_, add-one, sub-one, decLt, arith}
+use Rattle.word.proofs.Base.{_≡_, refl, sym, ap, _∙_, ℕ, zero, suc, _+_, _-_, _*_, _%_, _<_, _≤_, add-one, sub-one, decLt, arith}
 use Rattle.word.proofs.Base.{Bool, true, false, _&&_, eqb, List, getD, set, getD-set-other}
-use Rattle.word.proofs.Base.{suc-mul, mul-le-mul, mul-le-mul-right, mod-eq-of-lt, _||_, not, ltb, eqb-true, eqb-false, not-false}
-use native.Mathlib.Nat.{div-lt-iff-lt-mul, div-add-mod'}
+use Rattle.word.proofs.Base.{suc-mul, mul-le-mul, mul-le-mul-right, _||_, not, ltb, eqb-true, eqb-false, not-false}
 use borrow.Author.Tests.{ltb-false}
 use Rattle.word.specs.declared.types.Direction.{Direction}
 use Rattle.word.specs.declared.types.Direction.the-variants.{Ascending}
@@ -31,10 +30,10 @@ use Rattle.quiet.proofs.QuietLaws.{found-blit}
 use Rattle.block.specs.declared.types.Needs.{Needs}
 use Rattle.block.specs.declared.types.Size.{Size}
 use Rattle.block.specs.Inner.Ignores.{Ignores, needed}
-use Rattle.block.proofs.MixLaws.{ignores-of}
-use Rattle.block.specs.Inner.Place.{rowAt, placeIn, placeAt, EvenRows}
+use Rattle.block.specs.Inner.Place.{rowAt, placeIn, placeAt, EvenRows, Gapless}
 use Rattle.block.specs.Inner.Terms.{terms}
-use Rattle.block.proofs.MixLaws.{joined-is-logic, joined-of-a}
+use Rattle.block.proofs.MixLaws.{joined-is-logic, joined-of-a, ignores-of}
+use Rattle.block.proofs.PlaceLaws.{rowAt-gapless, placeAt-gapless}
 use Rattle.block.proofs.FillLaws.{carry-of-off}
 use Rattle.apart.specs.Inner.Placed.{Channel}
 use Rattle.apart.specs.Inner.Spans.{Known}
@@ -107,22 +106,20 @@ module _ (make : ℕ → ℕ → ℕ) (a d : ℕ) (memory : List ℕ) (earlier :
 
 -- rows that follow on one another
 module _ (direction : Direction) (n width height far from : ℕ) (up : direction ≡ Ascending) (follow : far ≡ width) (inside : from + height * width ≤ n) (most : n ≤ pointerEnd) (some : 1 ≤ width) where
-  run-row : (row : ℕ) → row < height → (rowAt far from row ≡ from + row * width) × (from + row * width + width ≤ n)
-  unfolding rowAt
-  run-row row below =
-      let fits : suc row * width ≤ height * width = mul-le-mul-right width below in
-      let ends : from + row * width + width ≤ n = omega (arith, suc-mul row width) in
-      (rw follow (mod-eq-of-lt (omega (arith, ends))), ends)
+  gapless : Gapless n Ascending width far from (height * width)
+  unfolding Gapless
+  gapless = (follow, inside)
 
   run-inside : EvenRows n direction width far from height
-  unfolding EvenRows RowInside
-  run-inside row below = rw (up, run-row row below .0) (run-row row below .1)
+  unfolding EvenRows RowInside placeIn
+  run-inside row below =
+      let fits : suc row * width ≤ height * width = mul-le-mul-right width below in
+      rw (up, rowAt-gapless n Ascending width far from (height * width) row most (omega (arith, suc-mul row width)) gapless (omega (arith, suc-mul row width)))
+      (omega (arith, suc-mul row width))
 
   run-place : (k : ℕ) → k < height * width → placeAt direction width far from k ≡ from + k
-  unfolding placeAt placeIn
-  run-place k below =
-      let row : k / width < height = div-lt-iff-lt-mul {k = width} {x = k} {y = height} some .1 below in
-      rw (up, run-row (k / width) row .0) (omega (arith, div-add-mod' k width))
+  unfolding placeIn
+  run-place k below = rw up (placeAt-gapless n Ascending width far from (height * width) k most (omega arith) gapless below)
 
 -- a word of a smear, over plain numbers
 masked-none : (first last : Bool) (one other word : ℕ) → one ≡ 65535 → other ≡ 65535 → word < 65536 → masked first last one other word ≡ word

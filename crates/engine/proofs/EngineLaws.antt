@@ -1,6 +1,5 @@
 -- Laws of the choice between blocks and words.
-use Rattle.word.proofs.Base.{_≡_, ℕ, zero, suc, _*_, _<_, _≤_, mul-le-mul, arith}
-use native.Mathlib.Nat.{zero-mul}
+use Rattle.word.proofs.Base.{_≡_, ℕ, _*_, _<_, _≤_, mul-le-mul}
 use Rattle.word.specs.Pointer.{pointerEnd}
 use Rattle.area.specs.declared.types.Setup.{Setup}
 use Rattle.area.specs.declared.types.Flow.{Flow}
@@ -8,11 +7,6 @@ use Rattle.area.specs.Flow.{nothing}
 use Rattle.block.specs.declared.types.Size.{Size}
 use Rattle.apart.specs.declared.types.Strides.{Strides}
 use Rattle.apart.specs.Inner.Spans.{Evenly, Known}
-
--- some rows, where there are some words
-pub one-row : (rows width : ℕ) → 2 ≤ rows * width → 1 ≤ rows
-one-row zero width some = absurd (omega (arith, zero-mul width))
-one-row (suc rows) width some = omega arith
 
 -- a few words: 1,024 rows of 64 at most
 pub words-le : (width height : ℕ) → width ≤ 64 → height ≤ 1024 → width * height ≤ 65536

@@ -58,7 +58,7 @@ abbrev pub sourceOf : (used need : Bool) → Pointer → (far word : ℕ) → (r
 sourceOf used need pointer far word rows =
     record { used = used; need = need; course = record { from = pointer .word; far = far }; word = word; rows = rows }
 
--- the last word, where another was told of a source that the function ignores
+-- the last word: the one told, but of a source that the function ignores the one that it would fetch last
 abbrev pub lastOf : Direction → Source → (memory : List ℕ) → (told : ℕ) → ℕ
 lastOf direction source memory told =
     if source .used && not (source .need) then

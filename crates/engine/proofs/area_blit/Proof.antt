@@ -1,6 +1,7 @@
 -- `engine::area_blit` meets its contract: by blocks or word by word, as the test says.
 use Rattle.word.proofs.Base.{arith, needs}
-use Rattle.engine.proofs.EngineLaws.{words-le, one-row, known-of}
+use Rattle.block.proofs.PlaceLaws.{some-rows}
+use Rattle.engine.proofs.EngineLaws.{words-le, known-of}
 use Rattle.engine.proofs.area_blit.Statement.{statement}
 use Rattle.engine.proofs.area_blit.Tie as tie
 
@@ -16,7 +17,7 @@ mul-if2 c = omega (arith, c .before .rows-at-once .ensures .0)
 blocks-requires : tie.Need-blocks-requires
 blocks-requires c κs =
     let told = c .before .before .before .rows-at-once .ensures in
-    let some = one-row _ _ (c .before .if2 .taken) in
+    let some = some-rows (c .before .before .before .rows-at-once .result) (c .before .before .before .before .before .before .before .before .args .width) (omega (arith, c .before .if2 .taken)) in
     (told .1 some .0, told .1 some .1, some, told .0, c .before .if2 .taken, c .before .before .before .before .before .before .before .before .pre .5, c .before .before .before .before .before .before .before .before .pre .11)
 
 smears-requires : tie.Need-smears-requires

@@ -1,4 +1,5 @@
-/* The machine-checked Blitter for C: one area blit, a job run, a job folded, an old register file widened, Copper lists.
+/* The machine-checked Blitter for C: one area blit, a job run, a job folded, an old register file widened, Copper lists,
+ * one line of picture.
  *
  * Common to all calls
  * - Memory, register file, job and output are runs of 16-bit words; every length counts words, not bytes.
@@ -21,7 +22,7 @@
  *      7  a line: bit 0 of BLTCON1
  *      8  both fills
  *      9  a fill without descending
- *     10  a store at a word that memory doesn't have
+ *     10  a store at a word that memory doesn't have; for desk_picture a bit plane with such a word
  *     11  a folded job longer than the output or than 4,096 words
  *     14  a blit whose channel A comes to a word that memory doesn't have
  *     15  the same of channel B, but not of A
@@ -31,6 +32,8 @@
  *     21  a MOVE to an offset that is forbidden to the Copper: below 040, or 040 to 07E without the danger bit
  *     22  a MOVE to an offset that is permitted but isn't 058 nor a register's of the file
  *     23  a Copper instruction whose first or second word memory doesn't have
+ *     24  a picture not of 1 to 5 bit planes or not of 1 to 40 words a line, or a delay above 15
+ *     25  an output shorter than a picture's line, 16 pixels for each word
  *   Of a blit's channels those in use count, in the order A, B, C, D, whichever leaves memory earlier.
  * - All numbers are written at every call, refused or not.
  * - There is no state: calls on different buffers may run at the same time. No call allocates, prints or fails otherwise.
@@ -100,6 +103,21 @@ void desk_frame(uint16_t *ram, size_t ram_words, uint16_t *file, size_t file_wor
 void desk_frame_from(uint16_t *ram, size_t ram_words, uint16_t *file, size_t file_words,
                      uint32_t beam, uint32_t start, uint32_t lent,
                      uint32_t *why, uint32_t *number, uint32_t *done, uint32_t *word, uint32_t *place);
+
+/* Writes what the screen shows of one line: low resolution, one playfield of plane_count bit planes, words words of each.
+ * planes[0] is the word number at which plane 1's line begins in ram, planes[1] that of plane 2, and so on; only the
+ * planes given are looked at. Planes 1, 3 and 5 are delayed by odd_delay pixels, planes 2 and 4 by even_delay. All of
+ * these numbers may be any.
+ * *number is 0 when it is done. Then out begins with 16 x words pixels from left to right, each a 12-bit colour of the
+ * file, and out beyond them is unchanged. Pixel i of a plane is bit i - delay of its words, bit 0 being bit 15 of its
+ * first word, and 0 where i is less than the delay; what the delay pushes past the line's end is dropped. Plane 1 gives
+ * the lowest bit of the colour's number; where all planes are 0 the pixel is COLOR00.
+ * Otherwise it is 1, 2, 24, 25 or 10 (the first that holds, in this order), and out is unchanged. Both delays are judged,
+ * with one plane too. 10 is for a plane whose start and words together are more than ram_words: nothing goes round.
+ * ram and file are only read. */
+void desk_picture(const uint16_t *ram, size_t ram_words, const uint16_t *file, size_t file_words,
+                  const uint32_t *planes, size_t plane_count, uint32_t words, uint32_t odd_delay, uint32_t even_delay,
+                  uint16_t *out, size_t out_words, uint32_t *number);
 
 #ifdef __cplusplus
 }

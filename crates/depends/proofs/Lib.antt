@@ -1,3 +1,2 @@
 -- The laws of dependence.
-pub mod TableLaws
 pub mod DependsLaws

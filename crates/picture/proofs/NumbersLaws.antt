@@ -1,0 +1,84 @@
+-- Laws of colour numbers in an array: turns of the loops that lay a word's bits, a plane's words, and the planes.
+use Rattle.word.proofs.Base.{_≡_, refl, sym, ap, ap₂, _∙_, ℕ, zero, suc, _+_, _-_, _*_, _/_, _%_, _^_, _<_, _≤_, decLt}
+use Rattle.word.proofs.Base.{arith, lt-ltb, le-ltb, eqb, eqb-true, eqb-false, Bool, true, false, List, length, getD, set, length-set}
+use Rattle.word.proofs.Base.{getD-set-same, getD-set-other, add-zero, add-one}
+use lib.ListN.{replicate}
+use Rattle.word.specs.Word.{bit, ofBits}
+use Rattle.word.proofs.WordLaws.{bit-lt, bit-cases, ofBits-lt, ofBits-is-pointwise}
+use Rattle.picture.specs.Plane.{ownBit, planePixel}
+use Rattle.picture.specs.Playfield.{Playfield, playfield, planeDelay, pixelAt, colourNumber}
+use Rattle.picture.specs.Inner.Numbers.{room, wordPixel, wordsPixel, Grown, UpTo, placePixel, Numbered}
+
+-- the pixels of a word's first bits
+pub wordPixel-before : (word s n i : ℕ) → i < s → wordPixel word s n i ≡ 0
+unfolding wordPixel
+wordPixel-before word s n i before = rw (lt-ltb i s before)
+
+pub wordPixel-within : (word s n i : ℕ) → s ≤ i → i < s + n → wordPixel word s n i ≡ bit word (15 - (i - s))
+unfolding wordPixel
+wordPixel-within word s n i from to = rw (le-ltb i s from, lt-ltb i (s + n) to)
+
+pub wordPixel-behind : (word s n i : ℕ) → s + n ≤ i → wordPixel word s n i ≡ 0
+unfolding wordPixel
+wordPixel-behind word s n i behind = let from : s ≤ i = omega arith in rw (le-ltb i s from, le-ltb i (s + n) behind)
+
+-- one bit more
+wordPixel-next : (word s n i : ℕ) → (i ≡ s + n → ⊥) → wordPixel word s n i ≡ wordPixel word s (n + 1) i
+wordPixel-next word s n i other = by (decLt i s) (decLt i (s + n))
+  where
+    by : Dec (i < s) → Dec (i < s + n) → wordPixel word s n i ≡ wordPixel word s (n + 1) i
+    by (yes before) end = wordPixel-before word s n i before ∙ sym (wordPixel-before word s (n + 1) i before)
+    by (no from) (yes to) = wordPixel-within word s n i (omega arith) to ∙ sym (wordPixel-within word s (n + 1) i (omega arith) (omega arith))
+    by (no from) (no behind) = wordPixel-behind word s n i (omega arith) ∙ sym (wordPixel-behind word s (n + 1) i (omega arith))
+
+pub wordPixel-none : (word s i : ℕ) → wordPixel word s 0 i ≡ 0
+wordPixel-none word s i = by (decLt i s)
+  where
+    by : Dec (i < s) → wordPixel word s 0 i ≡ 0
+    by (yes before) = wordPixel-before word s 0 i before
+    by (no from) = wordPixel-behind word s 0 i (omega arith)
+
+pub bit-times-le : (weight b : ℕ) → b < 2 → b * weight ≤ weight
+bit-times-le weight b small = bit-cases (λ b. b * weight ≤ weight) (omega arith) (omega arith) b small
+
+-- numbers that are all nought
+pub zeros-small : (n i : ℕ) → getD (replicate n 0) i 0 ≤ 0
+zeros-small zero i = omega arith
+zeros-small (suc n) zero = omega arith
+zeros-small (suc n) (suc i) = zeros-small n i
+
+-- nothing is laid
+pub grown-none : (weight : ℕ) (pixel : ℕ → ℕ) (numbers : List ℕ) → length numbers ≡ room → ((i : ℕ) → pixel i ≡ 0) → Grown weight pixel numbers numbers
+grown-none weight pixel numbers long none = record { long = long; each = λ i. rw (none i) (omega arith) }
+
+-- a turn of the loop that lays a word's bits, and its end
+module _ (weight word s n : ℕ) (before numbers : List ℕ) (so-far : Grown weight (wordPixel word s n) before numbers) where
+  word-kept : getD numbers (s + n) 0 ≡ getD before (s + n) 0
+  word-kept = so-far .each (s + n) ∙ rw (wordPixel-behind word s n (s + n) (omega arith)) (omega arith)
+
+  word-next : wordPixel word s (n + 1) (s + n) ≡ bit word (15 - n)
+  word-next =
+      let place : s + n - s ≡ n = omega arith in
+      wordPixel-within word s (n + 1) (s + n) (omega arith) (omega arith) ∙ ap (λ (k : ℕ). bit word (15 - k)) place
+
+  -- a number and what a pixel adds to it are small
+  pub word-sum : (most share : ℕ) → UpTo most before → share ≡ bit word (15 - n) * weight → getD numbers (s + n) 0 + share ≤ most + weight
+  word-sum most share small is = omega (arith, small (s + n), word-kept, is, bit-times-le weight (bit word (15 - n)) (bit-lt word (15 - n)))
+
+  pub word-turn : (share sum : ℕ) → s + n < room → share ≡ bit word (15 - n) * weight → sum ≡ getD numbers (s + n) 0 + share
+      → Grown weight (wordPixel word s (n + 1)) before (set numbers (s + n) sum)
+  word-turn share sum here is adds =
+      record { long = length-set numbers (s + n) sum ∙ so-far .long; each = λ i. by i (eqb i (s + n)) refl }
+    where
+      by : (i : ℕ) → (same : Bool) → eqb i (s + n) ≡ same → getD (set numbers (s + n) sum) i 0 ≡ getD before i 0 + wordPixel word s (n + 1) i * weight
+      by i true same =
+          let at : i ≡ s + n = eqb-true i (s + n) same in
+          rw at (getD-set-same numbers (s + n) sum 0 (omega (arith, so-far .long)) ∙ adds
+          ∙ ap₂ _+_ word-kept (is ∙ ap (λ (pixel : ℕ). pixel * weight) (sym word-next)))
+      by i false other =
+          getD-set-other numbers (s + n) i sum 0 (eqb-false i (s + n) other) ∙ so-far .each i
+          ∙ ap (λ (pixel : ℕ). getD before i 0 + pixel * weight) (wordPixel-next word s n i (eqb-false i (s + n) other))
+
+pub word-done : (weight word s n : ℕ) (before numbers : List ℕ) → n ≤ 16 → 16 ≤ n → Grown weight (wordPixel word s n) before numbers
+    → Grown weight (wordPixel word s 16) before numbers
+word-done weight word s n before numbers most least so-far = let all : n ≡ 16 = omega arith in rw all at so-far

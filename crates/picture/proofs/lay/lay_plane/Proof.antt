@@ -1,0 +1,33 @@
+-- `picture::lay::lay_plane` meets its contract: each turn lays one word more.
+use Rattle.word.proofs.Base.{_-_, _≤_, arith, needs}
+use Rattle.picture.specs.Inner.Numbers.{wordsPixel, Grown}
+use Rattle.picture.proofs.NumbersLaws.{grown-none}
+use Rattle.picture.proofs.PlanesLaws.{wordsPixel-none, wordsPixel-lt, grown-small, plane-turn, plane-done}
+use Rattle.picture.proofs.lay.lay_plane.Statement.{statement}
+use Rattle.picture.proofs.lay.lay_plane.Tie as tie
+
+abbrev Inv-loop : tie.InvT-loop
+Inv-loop ram start words delay weight numbers₀ word₀ numbers word = (word ≤ words) × Grown weight (wordsPixel ram start delay word) numbers₀ numbers
+
+abbrev μ-loop : tie.MeasureT-loop
+μ-loop ram start words delay weight numbers₀ word₀ numbers word = words - word
+
+loop-holds : tie.Need-loop-holds Inv-loop μ-loop
+loop-holds c = (search needs, grown-none _ _ _ (search needs) (wordsPixel-none _ _ _))
+
+lay-word-requires : tie.Need-lay-word-requires Inv-loop μ-loop
+lay-word-requires c κs =
+    let so-far = c .before .before .before .loop .inv .1 in
+    let pre = c .before .before .before .before .before .pre in
+    (search needs, search needs, so-far .long, grown-small _ 15 32 _ _ _ (wordsPixel-lt _ _ _ _) (search needs) (pre .5) so-far)
+
+loop-again : tie.Need-loop-again Inv-loop μ-loop
+loop-again c = (search needs, plane-turn _ _ _ _ _ _ _ _ (c .before .before .before .before .loop .inv .1) (c .lay-word .ensures))
+
+returns : tie.Need-returns Inv-loop μ-loop
+returns c = plane-done _ _ _ _ _ _ _ _ (search needs) (search needs) (c .before .loop .inv .1)
+
+pub lay-plane-spec : {M : Type 1} → statement M
+lay-plane-spec =
+    tie.close (tie.spec Inv-loop μ-loop loop-holds (λ c. search needs) (λ c. search needs) (λ c. search needs) (λ c. search needs)
+    (λ c. search needs) lay-word-requires (λ c. search needs) (λ c. search needs) loop-again returns)

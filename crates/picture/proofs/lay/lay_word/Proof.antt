@@ -1,0 +1,29 @@
+-- `picture::lay::lay_word` meets its contract: each turn lays one bit more.
+use Rattle.word.proofs.Base.{refl, _-_, _≤_, arith, needs}
+use Rattle.picture.specs.Inner.Numbers.{wordPixel, Grown}
+use Rattle.picture.proofs.NumbersLaws.{wordPixel-none, grown-none, word-sum, word-turn, word-done}
+use Rattle.picture.proofs.lay.lay_word.Statement.{statement}
+use Rattle.picture.proofs.lay.lay_word.Tie as tie
+
+abbrev Inv-loop : tie.InvT-loop
+Inv-loop word weight s numbers₀ pixel₀ numbers pixel = (pixel ≤ 16) × Grown weight (wordPixel word s pixel) numbers₀ numbers
+
+abbrev μ-loop : tie.MeasureT-loop
+μ-loop word weight s numbers₀ pixel₀ numbers pixel = 16 - pixel
+
+loop-holds : tie.Need-loop-holds Inv-loop μ-loop
+loop-holds c = (search needs, grown-none _ _ _ (search needs) (wordPixel-none _ _))
+
+add-numbers-2 : tie.Need-add-numbers-2 Inv-loop μ-loop
+add-numbers-2 c = omega (arith, word-sum _ _ _ _ _ _ (c .before .before .before .loop .inv .1) 32 _ (c .before .before .before .before .pre .3) (c .share .ensures))
+
+loop-again : tie.Need-loop-again Inv-loop μ-loop
+loop-again c = (search needs, word-turn _ _ _ _ _ _ (c .before .before .before .loop .inv .1) _ _ (search needs) (c .share .ensures) refl)
+
+returns : tie.Need-returns Inv-loop μ-loop
+returns c = word-done _ _ _ _ _ _ (search needs) (search needs) (c .before .loop .inv .1)
+
+pub lay-word-spec : {M : Type 1} → statement M
+lay-word-spec =
+    tie.close (tie.spec Inv-loop μ-loop loop-holds (λ c. search needs) (λ c. search needs) (λ c. search needs) (λ c κs. search needs)
+    add-numbers-2 (λ c. search needs) (λ c. search needs) (λ c. search needs) (λ c. search needs) (λ c. search needs) loop-again returns)

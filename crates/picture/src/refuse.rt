@@ -1,0 +1,48 @@
+// What refuses a line of picture, but for memory's size and the register file.
+ghost use mathlib.Core.Path.{_≡_};
+ghost use Prim.Native.Nat.{_+_};
+ghost use lib.Dec.{leb};
+ghost use lib.ListN.{length};
+ghost use Rattle.word.specs.Choice.{every};
+ghost use Rattle.picture.specs.Playfield.{playfield};
+ghost use Rattle.picture.specs.Refusal.{bad, badPlayfield, inside};
+
+pub const MOST_PLANES: usize = 5;
+
+pub const MOST_WORDS: usize = 40;
+
+pub const MOST_DELAY: usize = 15;
+
+fn bad(number: usize, most: usize) -> bool
+    ensures { λ is. ⌜ is ≡ bad number most ⌝ }
+{
+    (number == 0) | (most < number)
+}
+
+pub fn bad_playfield(planes: &[u32], words: usize, odd: usize, even: usize) -> bool
+    ensures { λ is. ⌜ is ≡ badPlayfield (playfield (now (planes .entry)) words odd even) ⌝ }
+{
+    bad(planes.len(), MOST_PLANES)
+        | bad(words, MOST_WORDS)
+        | (MOST_DELAY < odd)
+        | (MOST_DELAY < even)
+}
+
+// The plane's words lie in memory of n words. The sum is taken in 64 bits: nothing goes round.
+fn inside(n: usize, start: u32, words: u32) -> bool
+    ensures { λ is. ⌜ is ≡ leb (start + words) n ⌝ }
+{
+    start as usize + words as usize <= n
+}
+
+pub fn all_inside(n: usize, planes: &[u32], words: u32) -> bool
+    ensures { λ fine. ⌜ fine ≡ every (inside n words (now (planes .entry))) (length (now (planes .entry))) ⌝ }
+{
+    let mut fine = true;
+    let mut place: usize = 0;
+    while place < planes.len() {
+        fine = inside(n, planes[place], words) & fine;
+        place = place + 1;
+    }
+    fine
+}

@@ -14,6 +14,10 @@ use Rattle.runner.proofs.StartLaws.{startRefusal-is-none, run-when-started, run
 use Rattle.widen.specs.declared.types.Answer as widenAnswer
 use Rattle.widen.specs.Widen as widenings
 use Rattle.widen.specs.Widen.{widening}
+use Rattle.picture.specs.declared.types.Answer as pictureAnswer
+use Rattle.picture.specs.Playfield.{Playfield}
+use Rattle.picture.specs.Picture as pictures
+use Rattle.picture.specs.Picture.{picture}
 use Rattle.copper.specs.declared.types.Answer as copperAnswer
 use Rattle.instruction.specs.Effect as coppers
 use Rattle.copper.specs.Answer as frames
@@ -162,6 +166,11 @@ pub widening-of-answer : (old target next : List ℕ) (number : ℕ) (answer : w
     → number ≡ widenings.answerNumber answer → widenings.left answer next ≡ widening old target
     → record { number = number; target = next } ≡ widening old target
 widening-of-answer old target next number answer is-number gives = rw is-number gives
+
+pub picture-of-answer : (memory file : List ℕ) (field : Playfield) (out next : List ℕ) (number : ℕ) (answer : pictureAnswer.Answer)
+    → number ≡ pictures.answerNumber answer → pictures.left answer next ≡ picture memory file field out
+    → record { number = number; out = next } ≡ picture memory file field out
+picture-of-answer memory file field out next number answer is-number gives = rw is-number gives
 
 pub blit-of-answer : (memory file next end : List ℕ) (size number stored : ℕ) (answer : blitAnswer.Answer)
     → number ≡ blits.answerNumber answer → stored ≡ blits.answerStored answer → blits.left answer next end ≡ blit memory file size

@@ -7,6 +7,8 @@ ghost use Rattle.folder.specs.Folding.{folding};
 ghost use Rattle.widen.specs.Widen.{widening};
 ghost use Rattle.instruction.specs.Effect as copper;
 ghost use Rattle.copper.specs.Frame.{stopped, frameFrom, frame, told};
+ghost use Rattle.picture.specs.Playfield.{playfield};
+ghost use Rattle.picture.specs.Picture.{picture};
 
 // Does one area blit.
 #[no_mangle]
@@ -134,4 +136,24 @@ pub extern "C" fn desk_frame_from(
     *done = answer.done;
     *word = answer.word;
     *place = answer.beam;
+}
+
+// Writes one line of picture.
+#[no_mangle]
+pub extern "C" fn desk_picture(
+    ram: &[u16],
+    file: &[u16],
+    planes: &[u32],
+    words: u32,
+    odd: u32,
+    even: u32,
+    out: &mut [u16],
+    number: &mut u32,
+)
+    ensures { λ _. ⌜
+        record { number = now (number .exit); out = now (out .exit) }
+        ≡ picture (now (ram .entry)) (now (file .entry)) (playfield (now (planes .entry)) words odd even) (now (out .entry)) ⌝ }
+{
+    let answer = picture::picture(ram, file, planes, words, odd, even, out);
+    *number = picture::answer::number(answer);
 }

@@ -20,7 +20,7 @@ static void shown(const char *name, const char *ram, const char *planes, uint32_
     picture(name, ram, COLOURED, planes, words, odd_delay, even_delay, 16 * words, 0, line);
 }
 
-/* A line that is refused, though its output is long enough. */
+/* A line that is refused; the output has room for the longest that is not. */
 static void refused(const char *name, const char *ram, const char *planes, uint32_t words,
                     uint32_t odd_delay, uint32_t even_delay, uint32_t number)
 {

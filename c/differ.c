@@ -1,6 +1,6 @@
 /* differ [CASES [SEED]]: does random cases with the archive and with the plain engine and compares all that comes out.
  * Case i has the seed SEED + i, so `differ 1 S` does the case of seed S again.
- * differ seams: the same with the cases of differ_seams.c and every pair of a picture's delays, always the same ones.
+ * differ seams: the same with the cases of differ_seams.c and pictures of all sizes and delays, always the same ones.
  * On the first difference the case is shrunk and printed, and the program ends with 1. */
 #include <inttypes.h>
 #include <stdio.h>

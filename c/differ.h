@@ -132,7 +132,7 @@ void report(struct test *test, const char *which, uint64_t number);
 /* Does the cases that cross an engine's seams: how many, or 0 after a report of the first on which the sides differ. */
 uint64_t seams(void);
 
-/* The same of the pictures, with which seams ends: every pair of delays, with each number of planes, at some widths. */
+/* The same of the pictures, with which seams ends: one for all delays, numbers of planes and numbers of words. */
 uint64_t picture_seams(void);
 
 /* Takes away from a case whatever the difference doesn't need, and prints what is left. */

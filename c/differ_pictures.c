@@ -1,5 +1,5 @@
 /* The pictures of the differential test, done on both sides: random ones, lawful, near the edge and with one or two
- * faults, and every pair of delays. */
+ * faults, and one for every pair of delays, number of planes and number of words. */
 #include <inttypes.h>
 #include <stdio.h>
 #include <string.h>
@@ -189,19 +189,18 @@ const char *difference_of_pictures(const struct test *test)
     return changed;
 }
 
-enum { WIDTHS = 5, ROUNDS = 4, PICTURE_SEAMS = DELAYS * DELAYS * MOST_PLANES * WIDTHS * ROUNDS };
+enum { PICTURE_SEAMS = DELAYS * DELAYS * MOST_PLANES * MOST_WORDS };
 
-/* The number's digits are the delays, the planes and the width; the rest is drawn. */
+/* The number's digits are the delays, the planes and the words; the rest is drawn. */
 static void make_seam(struct test *test, uint32_t number)
 {
-    static const uint32_t widths[WIDTHS] = {1, 2, 3, 20, MOST_WORDS};
     start_random(number);
     memset(test, 0, sizeof *test);
     test->call = PICTURE;
     test->odd_delay = number % DELAYS;
     test->even_delay = number / DELAYS % DELAYS;
     test->plane_count = 1 + number / (DELAYS * DELAYS) % MOST_PLANES;
-    test->words = widths[number / (DELAYS * DELAYS * MOST_PLANES) % WIDTHS];
+    test->words = 1 + number / (DELAYS * DELAYS * MOST_PLANES);
     test->ram_words = MOST_PLANES * test->words + below(9);
     test->ram_seed = random64() << 2 | below(3);
     test->out_words = WORD_PIXELS * test->words + below(2);

@@ -88,7 +88,7 @@ static uint32_t pick_far_start(const struct test *test, uint32_t n)
     return one_in(16) ? n + below(UINT32_MAX - n) : starts[below(sizeof starts / sizeof *starts)];
 }
 
-/* Those beyond the planes given are lent too and may be any. */
+/* Behind the planes given, where nothing may look, stand others, some of them far. */
 static void pick_planes(struct test *test, uint32_t n, bool bad)
 {
     for (uint32_t i = 0; i < PLANES_FILLED; i++)

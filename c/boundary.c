@@ -3,11 +3,12 @@
  * out beside the call. */
 #include <stdio.h>
 #include <stdlib.h>
+#include <string.h>
 
 #include "boundary.h"
 #include "desk.h"
 
-enum { FENCE = 16, ROOM = 262145, FENCE_WORD = 0x5AA5, OUT_WORD = 0xEEEE };
+enum { FENCE = 16, ROOM = 262145, PLANE_ROOM = 8, FENCE_WORD = 0x5AA5, OUT_WORD = 0xEEEE };
 
 /* A run of words between two fences, and the same run as it must be afterwards. */
 struct run {
@@ -16,12 +17,20 @@ struct run {
     size_t words;
 };
 
+/* Where planes begin, between two fences, and the same before the call. */
+struct planes {
+    uint32_t lent[FENCE + PLANE_ROOM + FENCE];
+    uint32_t before[FENCE + PLANE_ROOM + FENCE];
+    size_t count;
+};
+
 /* Five numbers between fences. */
 struct numbers {
     uint32_t fence0, number, fence1, place, fence2, count, fence3, why, fence4, word, fence5;
 };
 
 static struct run ram, file, job, out;
+static struct planes planes;
 static struct numbers numbers;
 static unsigned long checks, failed;
 
@@ -123,8 +132,9 @@ void run(const char *name, const char *ram_before, const char *file_before, cons
     check_run(name, "job", "the fence of the job", &job);
 }
 
-/* The output, or a target: EEEE throughout, and afterwards the folded job, or the new file, with EEEE beyond it. */
-static uint16_t *lend_out(size_t words, const char *folded)
+/* The output, or a target: EEEE throughout, and afterwards the folded job, the new file or the line, with EEEE beyond
+ * it. */
+static uint16_t *lend_out(size_t words, const char *written)
 {
     uint16_t *lent = lend(&out, "", SAME);
     out.words = words;
@@ -132,7 +142,7 @@ static uint16_t *lend_out(size_t words, const char *folded)
         lent[i] = out.after[i] = OUT_WORD;
     for (size_t i = 0; i < FENCE; i++)
         lent[words + i] = FENCE_WORD;
-    read_words(out.after, folded);
+    read_words(out.after, written);
     return lent;
 }
 
@@ -195,6 +205,39 @@ void frame(const char *name, const char *ram_before, const char *file_before,
     }
 }
 
+/* Lends word numbers written in decimal; a fence looks like planes that no memory has. */
+static uint32_t *lend_planes(const char *text)
+{
+    char *end = (char *)text;
+    memset(planes.lent, 0xA5, sizeof planes.lent);
+    for (planes.count = 0; ; planes.count++, text = end) {
+        unsigned long plane = strtoul(text, &end, 10);
+        if (end == text)
+            break;
+        planes.lent[FENCE + planes.count] = plane;
+    }
+    memcpy(planes.before, planes.lent, sizeof planes.lent);
+    return planes.lent + FENCE;
+}
+
+void picture(const char *name, const char *ram_before, const char *file_before, const char *planes_before,
+             uint32_t words, uint32_t odd_delay, uint32_t even_delay, size_t out_words,
+             uint32_t number, const char *line)
+{
+    uint16_t *ram_words = lend(&ram, ram_before, SAME), *file_words = lend(&file, file_before, SAME);
+    uint16_t *lent = lend_out(out_words, line);
+    uint32_t *starts = lend_planes(planes_before);
+    lend_numbers();
+    desk_picture(ram_words, ram.words, file_words, file.words, starts, planes.count, words, odd_delay, even_delay,
+                 lent, out.words, &numbers.number);
+    check_number(name, "number", numbers.number, number);
+    check_fences_of_numbers(name);
+    check_run(name, "memory", "the fence of memory", &ram);
+    check_run(name, "file", "the fence of the file", &file);
+    check(name, "the planes or their fence", memcmp(planes.lent, planes.before, sizeof planes.lent) == 0);
+    check_run(name, "output", "the fence of the output", &out);
+}
+
 int main(void)
 {
     blits();
@@ -202,6 +245,7 @@ int main(void)
     foldings();
     screens();
     frames();
+    pictures();
     printf("boundary: %lu checks, %lu failed\n", checks, failed);
     return failed != 0;
 }

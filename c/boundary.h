@@ -25,10 +25,17 @@ void frame(const char *name, const char *ram, const char *file, uint32_t beam, u
            uint32_t why, uint32_t number, uint32_t done, uint32_t word, uint32_t place,
            const char *ram_after, const char *file_after);
 
+/* A line of picture; where its planes begin is written in decimal. Memory, file and planes must stay as they are. The
+ * output holds EEEE before; afterwards it begins with the line, and holds EEEE wherever that doesn't stand. */
+void picture(const char *name, const char *ram, const char *file, const char *planes, uint32_t words,
+             uint32_t odd_delay, uint32_t even_delay, size_t out_words,
+             uint32_t number, const char *line);
+
 void blits(void);
 void runs(void);
 void foldings(void);
 void screens(void);
 void frames(void);
+void pictures(void);
 
 #endif

@@ -1,6 +1,6 @@
 /* differ [CASES [SEED]]: does random cases with the archive and with the plain engine and compares all that comes out.
  * Case i has the seed SEED + i, so `differ 1 S` does the case of seed S again.
- * differ seams: the same with the cases of differ_seams.c, which are always the same ones.
+ * differ seams: the same with the cases of differ_seams.c and pictures of all sizes and delays, always the same ones.
  * On the first difference the case is shrunk and printed, and the program ends with 1. */
 #include <inttypes.h>
 #include <stdio.h>
@@ -44,7 +44,7 @@ void set_up(struct side *side, const struct test *test)
     side->place = test->call == BLIT ? 0 : 0xDEAD;
 }
 
-static void set_up_out(struct side *side, size_t out_words)
+void set_up_out(struct side *side, size_t out_words)
 {
     for (size_t i = 0; i < FENCE + out_words + FENCE; i++)
         side->out[i] = FENCE_WORD + i;
@@ -171,13 +171,14 @@ const char *difference(const struct test *test)
     case RUN: return difference_of_runs(test);
     case WIDEN: return difference_of_widenings(test);
     case FRAME: return difference_of_frames(test);
+    case PICTURE: return difference_of_pictures(test);
     default: return difference_of_foldings(test);
     }
 }
 
 static void print_outcomes(void)
 {
-    static const char *const names[] = {"blits", "runs", "foldings", "widenings", "frames"};
+    static const char *const names[] = {"blits", "runs", "foldings", "widenings", "frames", "pictures"};
     for (int call = 0; call < CALLS; call++) {
         printf("%s by number:", names[call]);
         for (int number = 0; number < NUMBERS; number++)
@@ -186,15 +187,19 @@ static void print_outcomes(void)
         printf(call < CALLS - 1 ? "; " : "\n");
     }
     print_frames();
+    print_pictures();
     printf("foldings unlike their job: %" PRIu64 "; pairs of runs compared: %" PRIu64 ", refused alike: %" PRIu64 "\n",
            changed, pairs, pairs_refused);
 }
 
-static void print_answer(const char *name, const struct side *side, enum call call)
+static void print_answer(const char *name, const struct side *side, const struct test *test)
 {
-    printf("%s: number %" PRIu32 ", place %" PRIu32 ", count %" PRIu32,
-           name, side->number, side->place, side->count);
-    if (call == FRAME)
+    printf("%s: number %" PRIu32, name, side->number);
+    if (test->call == PICTURE)
+        print_line(side, test);
+    else
+        printf(", place %" PRIu32 ", count %" PRIu32, side->place, side->count);
+    if (test->call == FRAME)
         printf(", why %" PRIu32 ", word %" PRIu32, side->why, side->word);
     printf("\n");
 }
@@ -205,8 +210,8 @@ void report(struct test *test, const char *which, uint64_t number)
     shrink(test);
     printf("shrunk, it differs: %s\n", difference(test));
     print_test(test);
-    print_answer("archive", &desk, test->call);
-    print_answer("plain", &plain, test->call);
+    print_answer("archive", &desk, test);
+    print_answer("plain", &plain, test);
 }
 
 /* Does the cases of so many seeds: how many, or 0 after a report. */

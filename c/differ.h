@@ -11,6 +11,7 @@ enum {
     FILE_ROOM = 57,
     JOB_ROOM = 4097,
     OUT_ROOM = 40000,
+    PLANE_ROOM = 257,
     FENCE = 8
 };
 
@@ -21,8 +22,8 @@ enum { POINTERS = 262144, BLITTER = 19, REGISTERS = 52, ZERO_FLAG = 52, FILE_WOR
 enum { C_CHANNEL, B_CHANNEL, A_CHANNEL, D_CHANNEL, CHANNELS };
 enum { FIRST_POINTER = 4, FIRST_MODULO = 12, USE_A = 0x0800, USE_B = 0x0400, USE_C = 0x0200, USE_D = 0x0100 };
 
-enum call { BLIT, RUN, FOLD, WIDEN, FRAME, CALLS };
-enum { NUMBERS = 24 };
+enum call { BLIT, RUN, FOLD, WIDEN, FRAME, PICTURE, CALLS };
+enum { NUMBERS = 26 };
 
 /* How far a case goes astray. */
 enum care { LAWFUL, RISKY, DAMAGED };
@@ -42,6 +43,8 @@ struct test {
     uint32_t list_at, beam, start, lent;
     bool exact;                 /* of a frame: as many instructions as it can do and spare are lent, not the lent number */
     uint32_t cut;               /* of a frame: where it is cut, by instructions, modulo those it does and one */
+    uint32_t planes[PLANE_ROOM];  /* of a picture, as all that follows */
+    uint32_t plane_count, words, odd_delay, even_delay, out_words;
 };
 
 /* One side's buffers, a fence on either side of each, and its answer. */
@@ -49,6 +52,7 @@ struct side {
     uint16_t ram[FENCE + RAM_ROOM + FENCE];
     uint16_t file[FENCE + FILE_ROOM + FENCE];
     uint16_t out[FENCE + OUT_ROOM + FENCE];
+    uint32_t planes[FENCE + PLANE_ROOM + FENCE];
     size_t ram_words;
     uint32_t number, place, count;  /* count: words stored, the folded length, or instructions done */
     uint32_t why, word;             /* of a frame, whose place is the beam's */
@@ -98,9 +102,10 @@ void put(struct test *test, uint16_t value);
 size_t pick_ram_words(void);
 void damage_file(struct test *test);
 
-/* The case that belongs to a seed; a frame's part of it. */
+/* The case that belongs to a seed; a frame's part of it, and a picture's. */
 void make_test(struct test *test, uint64_t seed);
 void make_frame(struct test *test, enum care care);
+void make_picture(struct test *test, enum care care);
 
 /* Memory by its seed: word i is i modulo 1,024 for seed 0, otherwise random words, words of few ones, or zeros. */
 void fill_ram(uint16_t *ram, size_t words, uint64_t seed);
@@ -109,12 +114,17 @@ void fill_ram(uint16_t *ram, size_t words, uint64_t seed);
 void set_up(struct side *side, const struct test *test);
 const char *compare(void);
 
+/* Lays out an output of so many words, each other than the next. */
+void set_up_out(struct side *side, size_t out_words);
+
 /* Does the case on both sides: NULL if they agree, otherwise what differs. */
 const char *difference(const struct test *test);
 const char *difference_of_frames(const struct test *test);
+const char *difference_of_pictures(const struct test *test);
 
-/* How the frames ended, and how many were cut. */
+/* How the frames ended, and how many were cut; how much of the pictures was compared. */
 void print_frames(void);
+void print_pictures(void);
 
 /* Says which case differs, shrinks and prints it. */
 void report(struct test *test, const char *which, uint64_t number);
@@ -122,8 +132,14 @@ void report(struct test *test, const char *which, uint64_t number);
 /* Does the cases that cross an engine's seams: how many, or 0 after a report of the first on which the sides differ. */
 uint64_t seams(void);
 
+/* The same of the pictures, with which seams ends: one for all delays, numbers of planes and numbers of words. */
+uint64_t picture_seams(void);
+
 /* Takes away from a case whatever the difference doesn't need, and prints what is left. */
 void shrink(struct test *test);
 void print_test(const struct test *test);
+
+/* The line of a picture as a side's output has it, and what of the output lies next to it. */
+void print_line(const struct side *side, const struct test *test);
 
 #endif

@@ -1,5 +1,5 @@
-/* The cases of the differential test but for frames: blits, jobs, foldings and widenings, lawful, near the edge and
- * damaged. */
+/* The cases of the differential test but for frames and pictures: blits, jobs, foldings and widenings, lawful, near the
+ * edge and damaged. */
 #include <string.h>
 
 #include "differ.h"
@@ -196,8 +196,18 @@ size_t pick_ram_words(void)
     return chance == 397 ? 0 : chance == 398 ? POINTERS + 1 : 30000 + below(200000);
 }
 
-/* One case in so many is a frame: each of its places may be looked at, so that one costs as much as many a run. */
-enum { FRAME_SHARE = 8 };
+/* One case in so many is a frame: each of its places may be looked at, so that one costs as much as many a run. Of the
+ * others one in so many is a picture. */
+enum { FRAME_SHARE = 8, PICTURE_SHARE = 7 };
+
+static enum call pick_call(void)
+{
+    if (one_in(FRAME_SHARE))
+        return FRAME;
+    if (one_in(PICTURE_SHARE))
+        return PICTURE;
+    return one_in(5) ? BLIT : one_in(24) ? WIDEN : one_in(2) ? RUN : FOLD;
+}
 
 void make_test(struct test *test, uint64_t seed)
 {
@@ -205,13 +215,17 @@ void make_test(struct test *test, uint64_t seed)
     memset(test, 0, sizeof *test);
     uint32_t chance = below(100);
     enum care care = chance < 55 ? LAWFUL : chance < 80 ? RISKY : DAMAGED;
-    test->call = one_in(FRAME_SHARE) ? FRAME : one_in(5) ? BLIT : one_in(24) ? WIDEN : one_in(2) ? RUN : FOLD;
+    test->call = pick_call();
     if (test->call == WIDEN) {
         make_widening(test);
         return;
     }
     if (test->call == FRAME) {
         make_frame(test, care);
+        return;
+    }
+    if (test->call == PICTURE) {
+        make_picture(test, care);
         return;
     }
     test->ram_words = pick_ram_words();

@@ -418,5 +418,6 @@ uint64_t seams(void)
         for (int descending = sets[i].fill != 0; descending < 2; descending++)
             if (!all_of(&sets[i], descending))
                 return 0;
-    return cases;
+    uint64_t pictures = picture_seams();
+    return pictures == 0 ? 0 : cases + pictures;
 }

@@ -91,6 +91,27 @@ static bool lessen_frame(struct test *test)
     return any;
 }
 
+/* Fewer planes, words and pixels of delay, planes nearer to memory's start, and then an output as long as the line, or
+ * little longer. */
+static bool lessen_picture(struct test *test)
+{
+    uint32_t *const numbers[] = {
+        &smaller.plane_count, &smaller.words, &smaller.odd_delay, &smaller.even_delay, &smaller.planes[0],
+        &smaller.planes[1], &smaller.planes[2], &smaller.planes[3], &smaller.planes[4]
+    };
+    bool any = false;
+    for (size_t i = 0; i < sizeof numbers / sizeof *numbers; i++)
+        for (uint32_t few = 0; few < 8; few++) {
+            smaller = *test;
+            any |= lower(test, numbers[i], few);
+        }
+    for (uint32_t few = 0; few < 8; few++) {
+        smaller = *test;
+        any |= lower(test, &smaller.out_words, 16 * at_most(test->words, 40) + few);
+    }
+    return any;
+}
+
 static bool lessen(struct test *test)
 {
     bool any = false;
@@ -123,6 +144,7 @@ void shrink(struct test *test)
         any |= clear_words(test);
         any |= lessen(test);
         any |= test->call == FRAME && lessen_frame(test);
+        any |= test->call == PICTURE && lessen_picture(test);
     }
 }
 
@@ -144,9 +166,18 @@ static void print_frame(const struct test *test)
         printf("%" PRIu32 "\n", test->lent);
 }
 
+static void print_picture(const struct test *test)
+{
+    printf("%" PRIu32 " planes from words", test->plane_count);
+    for (uint32_t i = 0; i < at_most(test->plane_count, PLANE_ROOM); i++)
+        printf(" %" PRIu32, test->planes[i]);
+    printf(", %" PRIu32 " words a line, odd delay %" PRIu32 ", even delay %" PRIu32 ", %" PRIu32 " words of output\n",
+           test->words, test->odd_delay, test->even_delay, test->out_words);
+}
+
 void print_test(const struct test *test)
 {
-    static const char *const calls[] = {"blit", "run", "fold", "widen", "frame"};
+    static const char *const calls[] = {"blit", "run", "fold", "widen", "frame", "picture"};
     printf("%s, %zu words of memory, ", calls[test->call], test->ram_words);
     if (test->ram_seed == 0)
         printf("word i is i modulo 1,024\n");
@@ -155,6 +186,8 @@ void print_test(const struct test *test)
     print_words("file", test->file, test->file_words < FILE_ROOM ? test->file_words : FILE_ROOM);
     if (test->call == BLIT)
         printf("size: %04X\n", test->size);
+    else if (test->call == PICTURE)
+        print_picture(test);
     else
         print_words(test->call == FRAME ? "list" : "job", test->job, test->job_words);
     if (test->call == FRAME)

@@ -33,8 +33,10 @@ bool read_rows(struct reader *reader)
 {
     size_t *rows = &reader->into->picture.rows;
 
-    return next_decimal(reader, "rows", ROW_ROOM, rows) && (*rows > 0 || complain(reader, "rows: there must be one"))
-        && line_ends(reader);
+    next_token(reader);
+    if (!decimal(reader->token, ROW_ROOM, rows) || *rows == 0)
+        return complain(reader, "rows: '%.40s' isn't a decimal number from 1 to %d", reader->token, (int)ROW_ROOM);
+    return line_ends(reader);
 }
 
 /* The line's next token as a modulo. */

@@ -254,7 +254,9 @@ static bool read_stream(FILE *stream, const char *name, struct jobfile *into)
         fprintf(stderr, "%s: %s\n", name, strerror(errno));
         return false;
     }
-    return into->kind == LIST ? lay_list(name, into) : into->kind != PICTURE || picture_ends(&reader);
+    if (into->kind == LIST)
+        return lay_list(name, into);
+    return into->kind != PICTURE || picture_ends(&reader);
 }
 
 static struct jobfile *read_file(const char *name, enum kind kind)

@@ -9,6 +9,7 @@
 #include "desk.h"
 #include "jobfile.h"
 #include "machine.h"
+#include "picture.h"
 
 /* The comparison of one file; its name is printed before the first difference. */
 struct check {
@@ -95,7 +96,7 @@ static void compare_folding(struct check *check, const struct jobfile *jobfile, 
 static bool check_folding(struct check *check, const struct jobfile *jobfile)
 {
     char *path = beside(check->name, jobfile->leaves.folds_name);
-    struct jobfile *other = path == NULL ? NULL : jobfile_read(path);
+    struct jobfile *other = path == NULL ? NULL : jobfile_read(path, JOB);
 
     if (path == NULL)
         perror(check->name);
@@ -166,18 +167,69 @@ static void check_frame(struct check *check, const struct jobfile *list)
     compare_file(check, leaves, machine.file);
 }
 
+/* How many pixels from a place on are the same, and the same is said of them. */
+static size_t alike_from(const uint16_t *pixels, const struct shown *shown, size_t at)
+{
+    size_t length = 1;
+
+    while (at + length < shown->pixels && pixels[at + length] == pixels[at]
+           && shown->colours[at + length] == shown->colours[at])
+        length++;
+    return length;
+}
+
+static void compare_row(struct check *check, size_t row, const uint16_t *pixels, const struct shown *shown)
+{
+    size_t length;
+
+    for (size_t at = 0; at < shown->pixels; at += length) {
+        length = alike_from(pixels, shown, at);
+        if (pixels[at] == shown->colours[at])
+            continue;
+        begin_difference(check);
+        if (length == 1)
+            printf("  row %lu, pixel %lu", (unsigned long)row, (unsigned long)at);
+        else
+            printf("  row %lu, pixels %lu to %lu", (unsigned long)row, (unsigned long)at,
+                   (unsigned long)(at + length - 1));
+        printf(": %03X, the file says %03X\n", (unsigned)pixels[at], (unsigned)shown->colours[at]);
+    }
+}
+
+/* A row of which the file says nothing isn't compared. */
+static void check_picture(struct check *check, const struct jobfile *file)
+{
+    static struct showing showing;
+    const struct picture *picture = &file->picture;
+
+    show(file, file->file, &showing);
+    compare_number(check, "number", showing.number, picture->number);
+    if (showing.number == 0)
+        for (size_t row = 0; row < picture->rows; row++)
+            compare_row(check, row, showing.pixels[row], &picture->shown[row]);
+}
+
+/* Whether the file says anything to compare with. */
+static bool says_something(const char *name, const struct jobfile *jobfile)
+{
+    bool picture = jobfile->kind == PICTURE;
+
+    if (picture ? jobfile->picture.shows_said : jobfile->leaves.said)
+        return true;
+    fprintf(stderr, "%s: it says nothing of what it %s\n", name, picture ? "shows" : "leaves");
+    return false;
+}
+
 bool check_file(const char *name)
 {
-    struct jobfile *jobfile = is_list_name(name) ? listfile_read(name) : jobfile_read(name);
+    struct jobfile *jobfile = jobfile_read(name, kind_named(name));
     struct check check = {name, 0};
-    bool good = jobfile != NULL;
+    bool good = jobfile != NULL && says_something(name, jobfile);
 
-    if (good && !jobfile->leaves.said) {
-        fprintf(stderr, "%s: it says nothing of what it leaves\n", name);
-        good = false;
-    }
-    if (good && jobfile->is_list)
+    if (good && jobfile->kind == LIST)
         check_frame(&check, jobfile);
+    else if (good && jobfile->kind == PICTURE)
+        check_picture(&check, jobfile);
     else if (good)
         check_run(&check, jobfile);
     if (good && jobfile->leaves.folds_said)

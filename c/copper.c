@@ -125,7 +125,7 @@ int copper_command(const char *lent, const char *name)
                 (unsigned long)UINT32_MAX);
         return ERROR;
     }
-    list = listfile_read(name);
+    list = jobfile_read(name, LIST);
     if (list == NULL)
         return ERROR;
     status = print_frames(list, (uint32_t)number);

@@ -1,4 +1,4 @@
-/* The desk tool: lists, runs, folds and checks job files, and runs and checks Copper lists. */
+/* The desk tool: lists, runs, folds and checks job files, runs and checks Copper lists, draws and checks pictures. */
 #include <stdio.h>
 #include <stdlib.h>
 #include <string.h>
@@ -10,6 +10,7 @@
 #include "listing.h"
 #include "machine.h"
 #include "outcome.h"
+#include "picture.h"
 
 static const char usage[] =
     "desk list FILE      the job's steps, one a line: word index, first word, name, value, sense. A word that begins\n"
@@ -23,10 +24,15 @@ static const char usage[] =
     "desk copper N FILE  runs a Copper list for one frame, with N instructions lent (decimal): the list, one instruction\n"
     "                    a line; the trace, for each instruction done the beam's line and position where it started;\n"
     "                    why it stopped, number, done, the next word, the beam, and what it changed\n"
-    "desk check FILE..   runs each job or Copper list and compares what it leaves with what its file says\n"
+    "desk picture FILE OUT.ppm\n"
+    "                    writes what the screen shows as a binary PPM, which any viewer opens, unless it is refused. With -\n"
+    "                    for OUT.ppm it is drawn here, one sign a pixel by colour number: . is 0, 1 to 9, A to V are 10\n"
+    "                    to 31; below it the colours that occur\n"
+    "desk check FILE..   runs each job or Copper list, or draws each picture, and compares what it leaves or shows with\n"
+    "                    what its file says\n"
     "\n"
     "Exit status: 0 done, the frame over or the number used up; 1 an error, told on standard error with file and line, or\n"
-    "a check that differs; 2 a run, a folding or a frame that was refused. A listing of a readable job ends with 0.\n"
+    "a check that differs; 2 a run, a folding, a frame or a picture that was refused. A listing of a readable job ends with 0.\n"
     "\n"
     "A job file holds words of four hex digits, separated by blanks; ';' begins a comment. Lines of their own:\n"
     "  ram N                    memory of N words (decimal; 32768 if not said), all zero at the start but for\n"
@@ -47,11 +53,21 @@ static const char usage[] =
     "  leaves why WHY           why it stops: end (of the frame), used (up) or refused; end if not said\n"
     "  leaves done N            instructions done\n"
     "  leaves word N            the word number of the next or the refused instruction\n"
-    "  leaves beam LINE POSITION, or leaves beam over: where the beam stands then\n";
+    "  leaves beam LINE POSITION, or leaves beam over: where the beam stands then\n"
+    "\n"
+    "A picture file, whose name ends in .picture, has 'ram', 'at' and 'register' lines and these, and no words besides:\n"
+    "  planes ADDRESS..         the byte address (hex) of each bit plane, plane 1 first\n"
+    "  words N                  the words of a row, 16 pixels each\n"
+    "  rows N                   up to 1024; 1 if not said\n"
+    "  modulo ODD EVEN          the bytes added behind a row's words, of odd and of even planes; 0 0 if not said\n"
+    "  delay ODD EVEN           the pixels by which odd and even planes come later; 0 0 if not said\n"
+    "  delay ODD EVEN from ROW  the same from a row on; the first row is 0\n"
+    "  shows ROW RUN..          a row's colours, of three hex digits or COLOUR*COUNT; further lines go on with the row\n"
+    "  shows number N           the answer, 0 if not said\n";
 
 static int list_command(const char *name)
 {
-    struct jobfile *jobfile = jobfile_read(name);
+    struct jobfile *jobfile = jobfile_read(name, JOB);
 
     if (jobfile == NULL)
         return ERROR;
@@ -65,7 +81,7 @@ static int list_command(const char *name)
 static int run_command(const char *name)
 {
     static struct machine machine;
-    struct jobfile *jobfile = jobfile_read(name);
+    struct jobfile *jobfile = jobfile_read(name, JOB);
     struct run run;
 
     if (jobfile == NULL)
@@ -100,6 +116,8 @@ static int command(int count, char **words)
         return fold_command(words + 2);
     if (count == 4 && strcmp(words[1], "copper") == 0)
         return copper_command(words[2], words[3]);
+    if (count == 4 && strcmp(words[1], "picture") == 0)
+        return picture_command(words[2], words[3]);
     if (count >= 3 && strcmp(words[1], "check") == 0)
         return check_command(words + 2);
     fputs(usage, stderr);

@@ -68,8 +68,9 @@ static bool good_request(const struct request *request, size_t *ram_words)
                 (unsigned long long)SIZE_MAX);
         return false;
     }
-    if (request->out != NULL && is_list_name(request->out)) {
-        fprintf(stderr, "desk fold: OUT is '%s', which would be read as a Copper list\n", request->out);
+    if (request->out != NULL && kind_named(request->out) != JOB) {
+        fprintf(stderr, "desk fold: OUT is '%s', which would be read as a %s\n", request->out,
+                kind_named(request->out) == LIST ? "Copper list" : "picture");
         return false;
     }
     return true;
@@ -135,7 +136,7 @@ int fold_command(char **words)
 
     if (!read_request(&request, words) || !good_request(&request, &ram_words))
         return ERROR;
-    jobfile = jobfile_read(request.name);
+    jobfile = jobfile_read(request.name, JOB);
     folded = jobfile == NULL ? NULL : malloc(sizeof *folded);
     if (folded != NULL) {
         *folded = *jobfile;

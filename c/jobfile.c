@@ -7,11 +7,13 @@
 
 #include "beam.h"
 
-/* Whether a line that stands only in list files, or only in job files, stands in one. */
-static bool stands_in(const struct reader *reader, bool list)
+/* Whether a line that stands only in files of some kinds stands in one. */
+static bool stands_in(const struct reader *reader, unsigned kinds)
 {
-    return reader->into->is_list == list
-        || complain(reader, "'%.40s' stands only in %s files", reader->token, list ? "list" : "job");
+    static const char *const names[] = {"no", "job", "list", "job and list", "picture"};
+
+    return (reader->into->kind & kinds) != 0
+        || complain(reader, "'%.40s' stands only in %s files", reader->token, names[kinds]);
 }
 
 /* ram N */
@@ -23,11 +25,6 @@ static bool read_ram(struct reader *reader)
     return next_decimal(reader, "ram", RAM_ROOM, &reader->into->ram_words) && line_ends(reader);
 }
 
-static bool even_address(const struct reader *reader, uint32_t *address)
-{
-    return hexadecimal(reader->token, 1, 5, address) && *address % 2 == 0;
-}
-
 /* The rest of a line 'at ADDRESS WORD..': the words go to memory from the byte address on, and are marked as said. */
 static bool read_at(struct reader *reader, uint16_t *ram, bool *said)
 {
@@ -35,8 +32,9 @@ static bool read_at(struct reader *reader, uint16_t *ram, bool *said)
     size_t at;
 
     reader->ram_fixed = true;
-    if (!next_token(reader) || !even_address(reader, &address))
-        return complain(reader, "at: '%.40s' isn't an even byte address of up to five hex digits", reader->token);
+    next_token(reader);
+    if (!address_token(reader, "at", &address))
+        return false;
     for (at = address / 2; next_token(reader); at++) {
         if (at >= reader->into->ram_words)
             return complain(reader, "at: memory ends before byte %05lX", (unsigned long)at * 2);
@@ -65,16 +63,6 @@ static bool read_register(struct reader *reader, uint16_t *file, bool *said)
     }
     said[reg] = true;
     return line_ends(reader);
-}
-
-static bool read_number(struct reader *reader, const char *what, uint32_t *number)
-{
-    size_t value = 0;
-
-    if (!next_decimal(reader, what, UINT32_MAX, &value) || !line_ends(reader))
-        return false;
-    *number = (uint32_t)value;
-    return true;
 }
 
 /* leaves why end, leaves why used, leaves why refused */
@@ -112,7 +100,7 @@ static bool read_beam(struct reader *reader)
 /* An answer that is a number, of a job or of a list. */
 struct answer {
     const char *name;
-    bool of_list;
+    enum kind of;
     uint32_t *number;
     bool *said;
 };
@@ -120,7 +108,7 @@ struct answer {
 static bool read_answer(struct reader *reader, const struct answer *answer)
 {
     *answer->said = true;
-    return stands_in(reader, answer->of_list) && read_number(reader, answer->name, answer->number);
+    return stands_in(reader, answer->of) && last_number(reader, answer->name, answer->number);
 }
 
 /* leaves number N, leaves place N, leaves count N, leaves why .., leaves done N, leaves word N, leaves beam ..,
@@ -129,22 +117,22 @@ static bool read_leaves(struct reader *reader)
 {
     struct leaves *leaves = &reader->into->leaves;
     const struct answer answers[] = {
-        {"place", false, &leaves->place, &leaves->said}, {"count", false, &leaves->count, &leaves->count_said},
-        {"done", true, &leaves->done, &leaves->done_said}, {"word", true, &leaves->word, &leaves->word_said},
+        {"place", JOB, &leaves->place, &leaves->said}, {"count", JOB, &leaves->count, &leaves->count_said},
+        {"done", LIST, &leaves->done, &leaves->done_said}, {"word", LIST, &leaves->word, &leaves->word_said},
     };
 
     leaves->said = true;
     if (!next_token(reader))
         return complain(reader, "leaves: what?");
     if (strcmp(reader->token, "number") == 0)
-        return read_number(reader, "number", &leaves->number);
+        return last_number(reader, "number", &leaves->number);
     for (size_t i = 0; i < sizeof answers / sizeof answers[0]; i++)
         if (strcmp(reader->token, answers[i].name) == 0)
             return read_answer(reader, &answers[i]);
     if (strcmp(reader->token, "why") == 0)
-        return stands_in(reader, true) && read_why(reader);
+        return stands_in(reader, LIST) && read_why(reader);
     if (strcmp(reader->token, "beam") == 0)
-        return stands_in(reader, true) && read_beam(reader);
+        return stands_in(reader, LIST) && read_beam(reader);
     if (strcmp(reader->token, "at") == 0)
         return read_at(reader, leaves->ram, leaves->ram_said);
     return read_register(reader, leaves->file, leaves->file_said);
@@ -155,8 +143,6 @@ static bool read_folds(struct reader *reader)
 {
     struct leaves *leaves = &reader->into->leaves;
 
-    if (!stands_in(reader, false))
-        return false;
     leaves->said = leaves->folds_said = true;
     if (!next_decimal(reader, "folds", SIZE_MAX, &leaves->folds_ram))
         return false;
@@ -171,10 +157,9 @@ static bool read_start(struct reader *reader)
 {
     uint32_t address = 0;
 
-    if (!stands_in(reader, true))
+    next_token(reader);
+    if (!address_token(reader, "start", &address))
         return false;
-    if (!next_token(reader) || !even_address(reader, &address))
-        return complain(reader, "start: '%.40s' isn't an even byte address of up to five hex digits", reader->token);
     reader->into->start = address / 2;
     return line_ends(reader);
 }
@@ -182,7 +167,7 @@ static bool read_start(struct reader *reader)
 /* lent N */
 static bool read_lent(struct reader *reader)
 {
-    return stands_in(reader, true) && read_number(reader, "lent", &reader->into->lent);
+    return last_number(reader, "lent", &reader->into->lent);
 }
 
 /* The token and all that follow on the line, as words of the job or of the list. */
@@ -192,32 +177,50 @@ static bool read_words(struct reader *reader)
 
     do {
         if (into->job_words == JOB_ROOM)
-            return complain(reader, "a %s of more than %d words", into->is_list ? "list" : "job", (int)JOB_ROOM);
+            return complain(reader, "a %s of more than %d words", into->kind == LIST ? "list" : "job", (int)JOB_ROOM);
         if (!word_token(reader, &into->job[into->job_words++]))
             return false;
     } while (next_token(reader));
     return true;
 }
 
+/* at ADDRESS WORD.. */
+static bool read_start_words(struct reader *reader)
+{
+    return read_at(reader, reader->into->ram, reader->into->ram_said);
+}
+
+/* register NAME VALUE */
+static bool read_start_register(struct reader *reader)
+{
+    return next_token(reader) ? read_register(reader, reader->into->file, reader->into->file_said)
+                              : complain(reader, "register: a name is missing");
+}
+
+/* A line by its first token, the kinds of file in which it stands, and the reading of what follows. */
+struct line {
+    const char *name;
+    unsigned kinds;
+    bool (*read)(struct reader *reader);
+};
+
+static const struct line lines[] = {
+    {"ram", JOB | LIST | PICTURE, read_ram}, {"at", JOB | LIST | PICTURE, read_start_words},
+    {"register", JOB | LIST | PICTURE, read_start_register}, {"leaves", JOB | LIST, read_leaves},
+    {"folds", JOB, read_folds}, {"start", LIST, read_start}, {"lent", LIST, read_lent},
+    {"planes", PICTURE, read_planes}, {"words", PICTURE, read_words_a_line}, {"rows", PICTURE, read_rows},
+    {"modulo", PICTURE, read_modulo}, {"delay", PICTURE, read_delay}, {"shows", PICTURE, read_shows},
+};
+
 static bool read_line(struct reader *reader)
 {
     if (!next_token(reader))
         return true;
-    if (strcmp(reader->token, "ram") == 0)
-        return read_ram(reader);
-    if (strcmp(reader->token, "at") == 0)
-        return read_at(reader, reader->into->ram, reader->into->ram_said);
-    if (strcmp(reader->token, "register") == 0)
-        return next_token(reader) ? read_register(reader, reader->into->file, reader->into->file_said)
-                                  : complain(reader, "register: a name is missing");
-    if (strcmp(reader->token, "leaves") == 0)
-        return read_leaves(reader);
-    if (strcmp(reader->token, "folds") == 0)
-        return read_folds(reader);
-    if (strcmp(reader->token, "start") == 0)
-        return read_start(reader);
-    if (strcmp(reader->token, "lent") == 0)
-        return read_lent(reader);
+    for (size_t i = 0; i < sizeof lines / sizeof lines[0]; i++)
+        if (strcmp(reader->token, lines[i].name) == 0)
+            return stands_in(reader, lines[i].kinds) && lines[i].read(reader);
+    if (reader->into->kind == PICTURE)
+        return complain(reader, "'%.40s' begins no line of a picture file", reader->token);
     return read_words(reader);
 }
 
@@ -251,10 +254,12 @@ static bool read_stream(FILE *stream, const char *name, struct jobfile *into)
         fprintf(stderr, "%s: %s\n", name, strerror(errno));
         return false;
     }
-    return !into->is_list || lay_list(name, into);
+    if (into->kind == LIST)
+        return lay_list(name, into);
+    return into->kind != PICTURE || picture_ends(&reader);
 }
 
-static struct jobfile *read_file(const char *name, bool is_list)
+static struct jobfile *read_file(const char *name, enum kind kind)
 {
     struct jobfile *jobfile = calloc(1, sizeof *jobfile);
     FILE *stream = jobfile == NULL ? NULL : fopen(name, "rb");
@@ -265,9 +270,10 @@ static struct jobfile *read_file(const char *name, bool is_list)
         free(jobfile);
         return NULL;
     }
-    jobfile->is_list = is_list;
+    jobfile->kind = kind;
     jobfile->lent = UINT32_MAX;
     jobfile->ram_words = RAM_WORDS;
+    jobfile->picture.rows = 1;
     good = read_stream(stream, name, jobfile);
     fclose(stream);
     if (good)
@@ -276,25 +282,31 @@ static struct jobfile *read_file(const char *name, bool is_list)
     return NULL;
 }
 
-bool is_list_name(const char *name)
+bool name_ends(const char *name, const char *ending)
 {
-    size_t length = strlen(name);
+    size_t length = strlen(name), behind = strlen(ending);
 
-    return length >= 5 && strcmp(name + length - 5, ".list") == 0;
+    return length >= behind && strcmp(name + length - behind, ending) == 0;
 }
 
-struct jobfile *jobfile_read(const char *name)
+enum kind kind_named(const char *name)
 {
-    if (!is_list_name(name))
-        return read_file(name, false);
-    fprintf(stderr, "%s: a Copper list, which 'desk copper' and 'desk check' take\n", name);
-    return NULL;
+    return name_ends(name, ".list") ? LIST : name_ends(name, ".picture") ? PICTURE : JOB;
 }
 
-struct jobfile *listfile_read(const char *name)
+struct jobfile *jobfile_read(const char *name, enum kind kind)
 {
-    if (is_list_name(name))
-        return read_file(name, true);
-    fprintf(stderr, "%s: not a Copper list, whose name ends in .list\n", name);
+    enum kind named = kind_named(name);
+
+    if (named == kind)
+        return read_file(name, kind);
+    if (named == LIST)
+        fprintf(stderr, "%s: a Copper list, which 'desk copper' and 'desk check' take\n", name);
+    else if (named == PICTURE)
+        fprintf(stderr, "%s: a picture, which 'desk picture' and 'desk check' take\n", name);
+    else if (kind == LIST)
+        fprintf(stderr, "%s: not a Copper list, whose name ends in .list\n", name);
+    else
+        fprintf(stderr, "%s: not a picture, whose name ends in .picture\n", name);
     return NULL;
 }

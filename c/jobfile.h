@@ -1,5 +1,6 @@
-/* A job file: a job, the memory and registers it starts with, and what it says that it leaves; and a list file, the same
- * for a Copper list. A list file's name ends in .list. The forms are told in docs/BENCH500.md. */
+/* A job file: a job, the memory and registers it starts with, and what it says that it leaves; a list file, the same
+ * for a Copper list; a picture file: memory, registers, and what the screen shows of them. A list file's name ends in
+ * .list, a picture file's in .picture. The forms are told in docs/BENCH500.md. */
 #ifndef JOBFILE_H
 #define JOBFILE_H
 
@@ -7,8 +8,12 @@
 #include <stddef.h>
 #include <stdint.h>
 
+#include "picturefile.h"
 #include "reader.h"
 #include "step.h"
+
+/* The kinds of file; together they make a set. */
+enum kind { JOB = 1, LIST = 2, PICTURE = 4 };
 
 /* There is room for more than a run takes, so that the archive refuses it, and not the reading. */
 enum { JOB_ROOM = 65536, RAM_ROOM = 262145, RAM_WORDS = 32768 };
@@ -33,7 +38,7 @@ struct leaves {
 };
 
 struct jobfile {
-    bool is_list;
+    enum kind kind;
     uint32_t start;                  /* the list's first word, by its number; memory holds the list from there on */
     uint32_t lent;                   /* the instructions lent where the list is checked */
     size_t job_words, ram_words;
@@ -43,16 +48,15 @@ struct jobfile {
     bool file_said[FILE_WORDS];
     uint16_t file[FILE_WORDS];
     struct leaves leaves;
+    struct picture picture;
 };
 
-/* Reads a job file. Null, after a message on standard error, if it can't be read, isn't well written or is a list file.
- * It is freed with free. */
-struct jobfile *jobfile_read(const char *name);
+/* Reads a file of a kind. Null, after a message on standard error, if it can't be read, isn't well written or has the
+ * name of another kind. A list's words are laid into memory last, over those of its at lines. It is freed with free. */
+struct jobfile *jobfile_read(const char *name, enum kind kind);
 
-/* The same of a list file. Its words are laid into memory last, over those of its at lines. */
-struct jobfile *listfile_read(const char *name);
-
-/* Whether the name is a list file's. */
-bool is_list_name(const char *name);
+/* The kind of a file by its name, and whether a name has an ending. */
+enum kind kind_named(const char *name);
+bool name_ends(const char *name, const char *ending);
 
 #endif

@@ -1,13 +1,9 @@
 #include "jobwrite.h"
 
-#include <errno.h>
 #include <stdio.h>
-#include <stdlib.h>
-#include <string.h>
-#include <sys/stat.h>
-#include <unistd.h>
 
 #include "listing.h"
+#include "outfile.h"
 
 enum { WORDS_A_LINE = 8 };
 
@@ -81,9 +77,18 @@ static void write_leaves(FILE *stream, const struct leaves *leaves)
         fprintf(stream, "leaves place %lu\n", (unsigned long)leaves->place);
 }
 
-static void write_lines(FILE *stream, const struct jobfile *jobfile, const char *original)
+/* A job file to be written, and the file that was folded. */
+struct folding {
+    const struct jobfile *jobfile;
+    const char *original;
+};
+
+static void write_lines(FILE *stream, const void *what)
 {
-    write_comment(stream, original, jobfile->ram_words);
+    const struct folding *folding = what;
+    const struct jobfile *jobfile = folding->jobfile;
+
+    write_comment(stream, folding->original, jobfile->ram_words);
     fprintf(stream, "ram %lu\n", (unsigned long)jobfile->ram_words);
     write_ram(stream, "", jobfile->ram, jobfile->ram_said);
     write_registers(stream, "register ", jobfile->file, jobfile->file_said);
@@ -95,61 +100,9 @@ static void write_lines(FILE *stream, const struct jobfile *jobfile, const char 
     }
 }
 
-/* Says why the file can't be written; false, so that it can be returned. */
-static bool tell(const char *name)
-{
-    fprintf(stderr, "%s: %s\n", name, strerror(errno));
-    return false;
-}
-
-/* Whether the name is free, or that of a regular file that may be written: a device isn't to be replaced. */
-static bool may_be_written(const char *name)
-{
-    struct stat about;
-
-    if (stat(name, &about) != 0)
-        return errno == ENOENT || tell(name);
-    if (!S_ISREG(about.st_mode)) {
-        fprintf(stderr, "%s: not a regular file\n", name);
-        return false;
-    }
-    return access(name, W_OK) == 0 || tell(name);
-}
-
-/* Writes all lines and closes the stream; false, with the reason in errno, if that can't be done. */
-static bool fill(FILE *stream, const struct jobfile *jobfile, const char *original)
-{
-    bool written;
-
-    write_lines(stream, jobfile, original);
-    written = !ferror(stream);
-    return fclose(stream) == 0 && written;
-}
-
-/* The same by way of the file part, which mustn't be there: it may be somebody's. */
-static bool write_by_way_of(const char *part, const struct jobfile *jobfile, const char *original, const char *name)
-{
-    FILE *stream = fopen(part, "wbx");
-
-    if (stream == NULL)
-        return tell(errno == EEXIST ? part : name);
-    if (fill(stream, jobfile, original) && rename(part, name) == 0)
-        return true;
-    tell(name);
-    remove(part);
-    return false;
-}
-
 bool jobfile_write(const struct jobfile *jobfile, const char *original, const char *name)
 {
-    static const char ending[] = ".part";
-    char *part = malloc(strlen(name) + sizeof ending);
-    bool written;
+    const struct folding folding = {jobfile, original};
 
-    if (part == NULL)
-        return tell(name);
-    strcat(strcpy(part, name), ending);
-    written = may_be_written(name) && write_by_way_of(part, jobfile, original, name);
-    free(part);
-    return written;
+    return write_whole(name, write_lines, &folding);
 }

@@ -7,8 +7,8 @@
 #include "jobfile.h"
 
 /* Writes a job file that reads back as what is given, but for a folds line, which it hasn't. Its first line is a
- * comment: the file original, folded for this memory. It is written whole to a file beside it, which is then renamed.
- * False, after a message on standard error, if that can't be done; then what stood under the name is as it was. */
+ * comment: the file original, folded for this memory. It is written whole or, after a message on standard error, not at
+ * all, and then this is false. */
 bool jobfile_write(const struct jobfile *jobfile, const char *original, const char *name);
 
 #endif

@@ -8,6 +8,11 @@ void print_answer(uint32_t number, uint32_t place)
     printf("place %lu\n", (unsigned long)place);
 }
 
+const char *picture_meaning(uint32_t number)
+{
+    return number == 10 ? "a bit plane with a word that memory doesn't have" : number_meaning(number);
+}
+
 void print_changed_words(const uint16_t *before, const uint16_t *after, size_t words)
 {
     unsigned long changed = 0;

@@ -12,6 +12,9 @@ enum { DONE = 0, ERROR = 1, REFUSED = 2 };
 /* The answer: number with its meaning, and place. */
 void print_answer(uint32_t number, uint32_t place);
 
+/* What a picture's number means: 10 is of a bit plane there, and of a store elsewhere. */
+const char *picture_meaning(uint32_t number);
+
 /* Each word that changed, with its byte address; each register that changed. */
 void print_changed_words(const uint16_t *before, const uint16_t *after, size_t words);
 void print_changed_registers(const uint16_t before[FILE_WORDS], const uint16_t after[FILE_WORDS]);

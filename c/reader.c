@@ -113,6 +113,12 @@ bool word_token(const struct reader *reader, uint16_t *value)
     return true;
 }
 
+bool address_token(const struct reader *reader, const char *what, uint32_t *address)
+{
+    return (hexadecimal(reader->token, 1, 5, address) && *address % 2 == 0)
+        || complain(reader, "%s: '%.40s' isn't an even byte address of up to five hex digits", what, reader->token);
+}
+
 bool next_decimal(struct reader *reader, const char *what, size_t limit, size_t *value)
 {
     if (!next_token(reader))
@@ -126,4 +132,14 @@ bool next_decimal(struct reader *reader, const char *what, size_t limit, size_t 
 bool line_ends(struct reader *reader)
 {
     return !next_token(reader) || complain(reader, "'%.40s' is too much on this line", reader->token);
+}
+
+bool last_number(struct reader *reader, const char *what, uint32_t *number)
+{
+    size_t value = 0;
+
+    if (!next_decimal(reader, what, UINT32_MAX, &value) || !line_ends(reader))
+        return false;
+    *number = (uint32_t)value;
+    return true;
 }

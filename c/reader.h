@@ -1,4 +1,4 @@
-/* The tokens of a job file or a list file, line by line. */
+/* The tokens of a job, list or picture file, line by line. */
 #ifndef READER_H
 #define READER_H
 
@@ -33,10 +33,13 @@ bool next_token(struct reader *reader);
 bool decimal(const char *text, size_t limit, size_t *value);
 bool hexadecimal(const char *text, size_t least, size_t most, uint32_t *value);
 
-/* The token as a word; the line's next token as a decimal number of at most limit; the line's end. Each complains and is
- * false where that isn't there. */
+/* The token as a word, or as an even byte address of up to five hex digits; the line's next token as a decimal number
+ * of at most limit; the line's end; a decimal number of up to 32 bits and the line's end. Each complains and is false
+ * where that isn't there. */
 bool word_token(const struct reader *reader, uint16_t *value);
+bool address_token(const struct reader *reader, const char *what, uint32_t *address);
 bool next_decimal(struct reader *reader, const char *what, size_t limit, size_t *value);
 bool line_ends(struct reader *reader);
+bool last_number(struct reader *reader, const char *what, uint32_t *number);
 
 #endif

@@ -66,6 +66,8 @@ static const char *const meanings[] = {
     "a MOVE to a forbidden offset",
     "a MOVE to a permitted offset that isn't modelled",
     "an instruction with a word that memory doesn't have",
+    "not 1 to 5 bit planes, not 1 to 40 words a line, or a delay above 15",
+    "an output shorter than the line",
 };
 
 const char *number_meaning(uint32_t number)

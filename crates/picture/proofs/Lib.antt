@@ -1,5 +1,10 @@
--- The laws of one line of picture.
+-- The laws of one line of picture, and the proofs of what is proved of it.
 pub mod NumbersLaws
 pub mod PlanesLaws
 pub mod PaintedLaws
 pub mod PictureLaws
+pub mod LineLaws
+pub mod OneAnswer
+pub mod DelayOfNought
+pub mod DelayMovesRight
+pub mod OnePlaneTwoColours

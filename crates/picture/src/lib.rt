@@ -3,6 +3,7 @@ pub mod answer;
 pub mod lay;
 pub mod refuse;
 pub mod show;
+pub mod theorems;
 pub mod types;
 
 ghost use mathlib.Core.Path.{_≡_};

@@ -1,2 +1,3 @@
 -- The laws of dependence.
+pub mod TableLaws
 pub mod DependsLaws

@@ -10,40 +10,19 @@ ghost use Rattle.picture.specs.Inner.Numbers.{room, Drawable, wordPixel,
 use crate::types::Numbers;
 
 // The leftmost pixel is bit 15.
-const MASKS: [u16; 16] = [
-    0x8000,
-    0x4000,
-    0x2000,
-    0x1000,
-    0x0800,
-    0x0400,
-    0x0200,
-    0x0100,
-    0x0080,
-    0x0040,
-    0x0020,
-    0x0010,
-    0x0008,
-    0x0004,
-    0x0002,
-    0x0001,
-];
-
-// Plane 1 is the lowest bit of the colour number.
-const WEIGHTS: [u16; 5] = [1, 2, 4, 8, 16];
-
 fn mask(pixel: usize) -> u16
     requires { ⌜ pixel < 16 ⌝ }
     ensures { λ mask. ⌜ mask ≡ 2 ^ (15 - pixel) ⌝ }
 {
-    MASKS[pixel]
+    0x8000 >> pixel
 }
 
+// Plane 1 is the lowest bit of the colour number.
 fn weight(place: usize) -> u16
     requires { ⌜ place < mostPlanes ⌝ }
     ensures { λ weight. ⌜ weight ≡ 2 ^ place ⌝ }
 {
-    WEIGHTS[place]
+    1 << place
 }
 
 // Plane 1, which is an odd one, stands at place 0.

@@ -1,7 +1,6 @@
 -- The laws of the definitions in specs/, a file for each.
 pub mod Base
 pub mod ChoiceLaws
-pub mod TableLaws
 pub mod RepeatLaws
 pub mod WordLaws
 pub mod LaidLaws

@@ -1,7 +1,7 @@
 -- `depends::table::entry` meets its contract: antt computes the rule at all 256 functions, and finds the table's entries.
 use Rattle.word.proofs.Base.{_%_, arith, needs}
 use Rattle.depends.specs.Depends.{changes, counts, entry}
-use Rattle.word.proofs.TableLaws.{values-at}
+use Rattle.depends.proofs.TableLaws.{values-at}
 use Rattle.depends.proofs.table.entry.Statement.{statement}
 use Rattle.depends.proofs.table.entry.Tie as tie
 

@@ -1,13 +1,19 @@
 -- Laws of colour numbers in an array: turns of the loops that lay a word's bits, a plane's words, and the planes.
 use Rattle.word.proofs.Base.{_≡_, refl, sym, ap, ap₂, _∙_, ℕ, zero, suc, _+_, _-_, _*_, _/_, _%_, _^_, _<_, _≤_, decLt}
-use Rattle.word.proofs.Base.{arith, lt-ltb, le-ltb, eqb, eqb-true, eqb-false, Bool, true, false, List, length, getD, set, length-set}
+use Rattle.word.proofs.Base.{arith, lt-ltb, le-ltb, eqb, eqb→eq, eqb-true, eqb-false, Bool, true, false, List, length, getD, set, length-set}
 use Rattle.word.proofs.Base.{getD-set-same, getD-set-other, add-zero, add-one}
 use lib.ListN.{replicate}
 use Rattle.word.specs.Word.{bit, ofBits}
+use Rattle.word.proofs.ChoiceLaws.{every-at}
 use Rattle.word.proofs.WordLaws.{bit-lt, bit-cases, ofBits-lt, ofBits-is-pointwise}
 use Rattle.picture.specs.Plane.{ownBit, planePixel}
 use Rattle.picture.specs.Playfield.{Playfield, playfield, planeDelay, pixelAt, colourNumber}
 use Rattle.picture.specs.Inner.Numbers.{room, wordPixel, wordsPixel, Grown, UpTo, placePixel, Numbered}
+
+-- a power of two, as a shift makes it
+pub power : (by k : ℕ) → by ≡ k → k < 16 → 1 * 2 ^ by % 2 ^ 16 ≡ 2 ^ k
+power by k same small =
+    rw same (eqb→eq _ _ (every-at (λ k. eqb (1 * 2 ^ k % 2 ^ 16) (2 ^ k)) 16 tt k small))
 
 -- the pixels of a word's first bits
 pub wordPixel-before : (word s n i : ℕ) → i < s → wordPixel word s n i ≡ 0
@@ -62,14 +68,18 @@ module _ (weight word s n : ℕ) (before numbers : List ℕ) (so-far : Grown wei
       wordPixel-within word s (n + 1) (s + n) (omega arith) (omega arith) ∙ ap (λ (k : ℕ). bit word (15 - k)) place
 
   -- a number and what a pixel adds to it are small
-  pub word-sum : (most share : ℕ) → UpTo most before → share ≡ bit word (15 - n) * weight → getD numbers (s + n) 0 + share ≤ most + weight
-  word-sum most share small is = omega (arith, small (s + n), word-kept, is, bit-times-le weight (bit word (15 - n)) (bit-lt word (15 - n)))
+  pub word-sum : (at most share : ℕ) → at ≡ s + n → UpTo most before → share ≡ bit word (15 - n) * weight → getD numbers at 0 + share ≤ most + weight
+  word-sum at most share there small is =
+      rw there (omega (arith, small (s + n), word-kept, is, bit-times-le weight (bit word (15 - n)) (bit-lt word (15 - n))))
 
-  pub word-turn : (share sum : ℕ) → s + n < room → share ≡ bit word (15 - n) * weight → sum ≡ getD numbers (s + n) 0 + share
-      → Grown weight (wordPixel word s (n + 1)) before (set numbers (s + n) sum)
-  word-turn share sum here is adds =
-      record { long = length-set numbers (s + n) sum ∙ so-far .long; each = λ i. by i (eqb i (s + n)) refl }
+  pub word-turn : (at share sum : ℕ) → at ≡ s + n → s + n < room → share ≡ bit word (15 - n) * weight → sum ≡ getD numbers at 0 + share
+      → Grown weight (wordPixel word s (n + 1)) before (set numbers at sum)
+  word-turn at share sum there here is gives =
+      rw there (record { long = length-set numbers (s + n) sum ∙ so-far .long; each = λ i. by i (eqb i (s + n)) refl })
     where
+      adds : sum ≡ getD numbers (s + n) 0 + share
+      adds = gives ∙ ap (λ (at : ℕ). getD numbers at 0 + share) there
+
       by : (i : ℕ) → (same : Bool) → eqb i (s + n) ≡ same → getD (set numbers (s + n) sum) i 0 ≡ getD before i 0 + wordPixel word s (n + 1) i * weight
       by i true same =
           let at : i ≡ s + n = eqb-true i (s + n) same in

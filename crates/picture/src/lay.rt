@@ -14,7 +14,7 @@ fn mask(pixel: usize) -> u16
     requires { ⌜ pixel < 16 ⌝ }
     ensures { λ mask. ⌜ mask ≡ 2 ^ (15 - pixel) ⌝ }
 {
-    0x8000 >> pixel
+    1 << (15 - pixel)
 }
 
 // Plane 1 is the lowest bit of the colour number.
@@ -46,6 +46,14 @@ fn share(word: u16, pixel: usize, weight: u16) -> u16
     weight
 }
 
+// Where a word's pixel stands, the first one at s. What a delay pushes past the line's end has its place behind the line.
+fn pixel_place(s: usize, pixel: usize) -> usize
+    requires { ⌜ s + pixel < room ⌝ }
+    ensures { λ at. ⌜ at ≡ s + pixel ⌝ }
+{
+    s + pixel
+}
+
 // The sixteen pixels of a word, from pixel s on.
 fn lay_word(word: u16, weight: u16, s: usize, numbers: &mut Numbers)
     requires { ⌜ (weight ≤ 16) × (s + 16 ≤ room) × (length (now numbers) ≡ room) × UpTo 32 (now numbers) ⌝ }
@@ -53,7 +61,8 @@ fn lay_word(word: u16, weight: u16, s: usize, numbers: &mut Numbers)
 {
     let mut pixel: usize = 0;
     while pixel < 16 {
-        numbers[s + pixel] = numbers[s + pixel] + share(word, pixel, weight);
+        let at = pixel_place(s, pixel);
+        numbers[at] = numbers[at] + share(word, pixel, weight);
         pixel = pixel + 1;
     }
 }

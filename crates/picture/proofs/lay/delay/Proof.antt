@@ -13,10 +13,10 @@ unfolding planeDelay
 planeDelay-of-even odd even place second = rw (ne-eqb ((place + 1) % 2) 1 (λ one. second (omega arith))) refl
 
 returns : tie.Need-returns
-returns c = search planeDelay-of-odd
+returns c = planeDelay-of-odd _ _ _ (omega arith)
 
 returns-2 : tie.Need-returns-2
-returns-2 c = search planeDelay-of-even
+returns-2 c = planeDelay-of-even _ _ _ (λ even. omega arith)
 
 pub delay-spec : {M : Type 1} → statement M
 delay-spec = tie.close (tie.spec returns returns-2)

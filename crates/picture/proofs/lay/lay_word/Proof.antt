@@ -14,16 +14,18 @@ abbrev μ-loop : tie.MeasureT-loop
 loop-holds : tie.Need-loop-holds Inv-loop μ-loop
 loop-holds c = (search needs, grown-none _ _ _ (search needs) (wordPixel-none _ _))
 
-add-numbers-2 : tie.Need-add-numbers-2 Inv-loop μ-loop
-add-numbers-2 c = omega (arith, word-sum _ _ _ _ _ _ (c .before .before .before .loop .inv .1) 32 _ (c .before .before .before .before .pre .3) (c .share .ensures))
+add-numbers : tie.Need-add-numbers Inv-loop μ-loop
+add-numbers c =
+    omega (arith, word-sum _ _ _ _ _ _ (c .before .before .before .before .loop .inv .1) _ 32 _ (c .before .before .pixel-place .ensures) (c .before .before .before .before .before .pre .3) (c .share .ensures))
 
 loop-again : tie.Need-loop-again Inv-loop μ-loop
-loop-again c = (search needs, word-turn _ _ _ _ _ _ (c .before .before .before .loop .inv .1) _ _ (search needs) (c .share .ensures) refl)
+loop-again c =
+    (search needs, word-turn _ _ _ _ _ _ (c .before .before .before .before .loop .inv .1) _ _ _ (c .before .before .pixel-place .ensures) (search needs) (c .share .ensures) refl)
 
 returns : tie.Need-returns Inv-loop μ-loop
 returns c = word-done _ _ _ _ _ _ (search needs) (search needs) (c .before .loop .inv .1)
 
 pub lay-word-spec : {M : Type 1} → statement M
 lay-word-spec =
-    tie.close (tie.spec Inv-loop μ-loop loop-holds (λ c. search needs) (λ c. search needs) (λ c. search needs) (λ c κs. search needs)
-    add-numbers-2 (λ c. search needs) (λ c. search needs) (λ c. search needs) (λ c. search needs) (λ c. search needs) loop-again returns)
+    tie.close (tie.spec Inv-loop μ-loop loop-holds (λ c κs. search needs) (λ c. search needs) (λ c. search needs) (λ c κs. search needs)
+    add-numbers (λ c. search needs) (λ c. search needs) (λ c. search needs) (λ c. search needs) loop-again returns)

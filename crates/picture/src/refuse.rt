@@ -1,7 +1,6 @@
 // What refuses a line of picture, but for memory's size and the register file.
 ghost use mathlib.Core.Path.{_≡_};
 ghost use Prim.Native.Nat.{_+_};
-ghost use lib.Dec.{leb};
 ghost use lib.ListN.{length};
 ghost use Rattle.word.specs.Choice.{every};
 ghost use Rattle.picture.specs.Playfield.{playfield};
@@ -28,20 +27,21 @@ pub fn bad_playfield(planes: &[u32], words: usize, odd: usize, even: usize) -> b
         | (MOST_DELAY < even)
 }
 
-// The plane's words lie in memory of n words. The sum is taken in 64 bits: nothing goes round.
-fn inside(n: usize, start: u32, words: u32) -> bool
-    ensures { λ is. ⌜ is ≡ leb (start + words) n ⌝ }
+// The word behind a plane's last. The sum is taken in 64 bits: nothing goes round.
+fn end(start: u32, words: u32) -> usize
+    ensures { λ end. ⌜ end ≡ start + words ⌝ }
 {
-    start as usize + words as usize <= n
+    start as usize + words as usize
 }
 
+// Every plane's words lie in memory of n words.
 pub fn all_inside(n: usize, planes: &[u32], words: u32) -> bool
     ensures { λ fine. ⌜ fine ≡ every (inside n words (now (planes .entry))) (length (now (planes .entry))) ⌝ }
 {
     let mut fine = true;
     let mut place: usize = 0;
     while place < planes.len() {
-        fine = inside(n, planes[place], words) & fine;
+        fine = (end(planes[place], words) <= n) & fine;
         place = place + 1;
     }
     fine

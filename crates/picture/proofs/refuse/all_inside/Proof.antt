@@ -1,15 +1,16 @@
 -- `picture::refuse::all_inside` meets its contract: it is told so far whether every plane lies in memory.
-use Rattle.word.proofs.Base.{_≡_, refl, ℕ, _+_, _-_, _≤_, Bool, _&&_, leb, needs, List, length, getD}
+use Rattle.word.proofs.Base.{_≡_, refl, ap, ℕ, _+_, _-_, _≤_, Bool, _&&_, leb, needs, List, length, getD}
 use Rattle.word.specs.Choice.{every}
 use Rattle.word.proofs.ChoiceLaws.{every-turn, every-done}
 use Rattle.picture.specs.Refusal.{inside}
 use Rattle.picture.proofs.refuse.all_inside.Statement.{statement}
 use Rattle.picture.proofs.refuse.all_inside.Tie as tie
 
-inside-turn : (n words place : ℕ) (planes : List ℕ) (here so-far : Bool) → here ≡ leb (getD planes place 0 + words) n
-    → so-far ≡ every (inside n words planes) place → (here && so-far) ≡ every (inside n words planes) (place + 1)
+inside-turn : (n words place end : ℕ) (planes : List ℕ) (so-far : Bool) → end ≡ getD planes place 0 + words
+    → so-far ≡ every (inside n words planes) place → (leb end n && so-far) ≡ every (inside n words planes) (place + 1)
 unfolding inside
-inside-turn n words place planes here so-far is same = every-turn (inside n words planes) place here so-far is same
+inside-turn n words place end planes so-far is same =
+    every-turn (inside n words planes) place (leb end n) so-far (ap (λ (end : ℕ). leb end n) is) same
 
 abbrev Inv-loop : tie.InvT-loop
 Inv-loop n planes words fine₀ place₀ fine place = (fine ≡ every (inside n words planes) place) × (place ≤ length planes)

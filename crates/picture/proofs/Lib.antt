@@ -8,3 +8,4 @@ pub mod OneAnswer
 pub mod DelayOfNought
 pub mod DelayMovesRight
 pub mod OnePlaneTwoColours
+pub mod TwelveBits

@@ -1,6 +1,6 @@
 -- Laws of a line that is done: its number, and what each of its pixels is.
-use Rattle.word.proofs.Base.{_≡_, refl, sym, ap, _∙_, ℕ, zero, suc, _+_, _-_, _<_, _≤_, decLt, arith, Bool, true, false, eqb}
-use Rattle.word.proofs.Base.{eqb-true, eqb-false, List, [], _∷_, _++_, length, getD, drop}
+use Rattle.word.proofs.Base.{_≡_, refl, sym, ap, _∙_, ℕ, zero, suc, _+_, _-_, _<_, decLt, arith, Bool, true, false, eqb}
+use Rattle.word.proofs.Base.{eqb-true, eqb-false, List, [], _∷_, _++_, getD, drop}
 use lib.ListN.{List·getD-append}
 use lib.Seq.{getD-at}
 use Rattle.word.specs.Choice.{if_then_else_}

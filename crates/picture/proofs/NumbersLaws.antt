@@ -1,14 +1,12 @@
 -- Laws of colour numbers in an array: turns of the loops that lay a word's bits, a plane's words, and the planes.
-use Rattle.word.proofs.Base.{_≡_, refl, sym, ap, ap₂, _∙_, ℕ, zero, suc, _+_, _-_, _*_, _/_, _%_, _^_, _<_, _≤_, decLt}
+use Rattle.word.proofs.Base.{_≡_, refl, sym, ap, ap₂, _∙_, ℕ, zero, suc, _+_, _-_, _*_, _%_, _^_, _<_, _≤_, decLt}
 use Rattle.word.proofs.Base.{arith, lt-ltb, le-ltb, eqb, eqb→eq, eqb-true, eqb-false, Bool, true, false, List, length, getD, set, length-set}
-use Rattle.word.proofs.Base.{getD-set-same, getD-set-other, add-zero, add-one}
+use Rattle.word.proofs.Base.{getD-set-same, getD-set-other}
 use lib.ListN.{replicate}
-use Rattle.word.specs.Word.{bit, ofBits}
+use Rattle.word.specs.Word.{bit}
 use Rattle.word.proofs.ChoiceLaws.{every-at}
-use Rattle.word.proofs.WordLaws.{bit-lt, bit-cases, ofBits-lt, ofBits-is-pointwise}
-use Rattle.picture.specs.Plane.{ownBit, planePixel}
-use Rattle.picture.specs.Playfield.{Playfield, playfield, planeDelay, pixelAt, colourNumber}
-use Rattle.picture.specs.Inner.Numbers.{room, wordPixel, wordsPixel, Grown, UpTo, placePixel, Numbered}
+use Rattle.word.proofs.WordLaws.{bit-lt, bit-cases}
+use Rattle.picture.specs.Inner.Numbers.{room, wordPixel, Grown, UpTo}
 
 -- a power of two, as a shift makes it
 pub power : (by k : ℕ) → by ≡ k → k < 16 → 1 * 2 ^ by % 2 ^ 16 ≡ 2 ^ k

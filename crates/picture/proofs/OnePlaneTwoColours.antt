@@ -1,5 +1,5 @@
 -- One plane shows two colours at most: its colour numbers have one bit.
-use Rattle.word.proofs.Base.{_≡_, refl, ap, _∙_, ℕ, _^_, _<_, subst, List, length}
+use Rattle.word.proofs.Base.{_≡_, refl, ℕ, _^_, _<_, subst, List, length}
 use mathlib.Core.Logic.{_⊎_, inl, inr}
 use Rattle.word.proofs.WordLaws.{bit-cases, ofBits-lt}
 use Rattle.picture.specs.Playfield.{Playfield, pixelAt, colourNumber}

@@ -1,9 +1,8 @@
 -- Laws of a whole line: the numbers that the planes make are the pixels' colour numbers, and the answers in their order.
-use Rattle.word.proofs.Base.{_≡_, refl, sym, ap, _∙_, ℕ, _+_, _*_, _<_, _≤_, arith, Bool, true, false, _||_, not, eqb, leb, not-false}
+use Rattle.word.proofs.Base.{_≡_, sym, ap, _∙_, ℕ, _+_, _<_, _≤_, arith, Bool, true, false, _||_, not, eqb, leb, not-false}
 use Rattle.word.proofs.Base.{lt-ltb, le-ltb, List, _++_, length, getD, drop}
 use lib.Dec.{leb→le}
 use Rattle.word.specs.Choice.{every, given}
-use Rattle.word.specs.Word.{ofBits}
 use Rattle.word.specs.Memory.{memorySize}
 use Rattle.file.specs.Places.{fileLength}
 use Rattle.file.specs.File.{accepted}
@@ -11,12 +10,12 @@ use Rattle.file.proofs.FileLaws.{accepted-has-length}
 use Rattle.word.proofs.ChoiceLaws.{or-left, or-right, within-when-passed, every-at}
 use Rattle.word.proofs.WordLaws.{ofBits-is-pointwise}
 use Rattle.picture.specs.Playfield.{Playfield, planeDelay, pixelAt, colourNumber}
-use Rattle.picture.specs.Line.{colour, pixelColour, pixels, linePixels, shownLine}
+use Rattle.picture.specs.Line.{colour, pixelColour, linePixels, shownLine}
 use Rattle.picture.specs.declared.types.Answer.the-variants.{Done, MemorySize, RegisterFile, BadPlayfield, TooShort, Leaves}
 use Rattle.picture.specs.Refusal.{mostPlanes, mostWords, mostDelay, refusal, badPlayfield, tooShort, leaves}
 use Rattle.picture.specs.Refusal as refusals
 use Rattle.picture.specs.Picture.{withLine, picture, left}
-use Rattle.picture.specs.Inner.Numbers.{Drawable, wordsPixel, placePixel, Numbered}
+use Rattle.picture.specs.Inner.Numbers.{Drawable, placePixel, Numbered}
 use Rattle.picture.specs.Inner.Painted.{painted, numberColour}
 use Rattle.picture.proofs.PlanesLaws.{wordsPixel-within}
 use Rattle.picture.proofs.PaintedLaws.{painted-in-front, pixels-are-pointwise}
@@ -61,7 +60,9 @@ module _ (memory file : List ℕ) (field : Playfield) (out : List ℕ) (size : B
         unfolding picture refusal given tooShort
         picture-of-tooShort short = rw (← of-size, passed, ← of-file, good, ← of-playfield, lawful, lt-ltb (length out) (linePixels field) short)
 
-        module _ (inside : Bool) (of-planes : inside ≡ every (refusals.inside (length memory) (field .words) (field .planes)) (length (field .planes))) (room : linePixels field ≤ length out) where
+        module _ (inside : Bool)
+            (of-planes : inside ≡ every (refusals.inside (length memory) (field .words) (field .planes)) (length (field .planes)))
+            (room : linePixels field ≤ length out) where
           pub picture-of-leaves : not inside ≡ true → left Leaves out ≡ picture memory file field out
           unfolding picture refusal given tooShort leaves
           picture-of-leaves refused =

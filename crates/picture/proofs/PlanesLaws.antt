@@ -1,13 +1,12 @@
 -- Laws of planes laid into the colour numbers: word by word, and plane by plane.
 use Rattle.word.proofs.Base.{_≡_, refl, sym, ap, ap₂, _∙_, ℕ, _+_, _-_, _*_, _/_, _%_, _^_, _<_, _≤_, zero-add, add-mul, add-one, decLt}
 use Rattle.word.proofs.Base.{arith, eqb, lt-ltb, le-ltb, List, length, getD}
-use native.Mathlib.Nat.{lt-of-lt-of-le}
 use lib.Pow.{pow-mono}
 use Rattle.word.specs.Word.{bit, ofBits}
 use Rattle.word.proofs.ChoiceLaws.{if-either}
-use Rattle.word.proofs.WordLaws.{bit-lt, ofBits-lt, ofBits-is-pointwise}
+use Rattle.word.proofs.WordLaws.{bit-lt, ofBits-lt}
 use Rattle.picture.specs.Plane.{ownBit, planePixel}
-use Rattle.picture.specs.Playfield.{Playfield, planeDelay, pixelAt, colourNumber}
+use Rattle.picture.specs.Playfield.{Playfield, planeDelay}
 use Rattle.picture.specs.Refusal.{mostDelay}
 use Rattle.picture.specs.Inner.Numbers.{room, Drawable, wordPixel, wordsPixel, Grown, UpTo, placePixel, Numbered}
 use Rattle.picture.proofs.NumbersLaws.{wordPixel-before, wordPixel-within, wordPixel-behind, bit-times-le}

@@ -1,4 +1,5 @@
--- What a reader must believe of one line of picture, in the order of paper 02's W9, and what is proved of it; Inner apart.
+-- What a reader must believe of one line of picture, in the order of paper 02's W9, and what is proved of it; Inner
+-- apart.
 pub mod Plane
 pub mod Playfield
 pub mod Line
@@ -8,4 +9,5 @@ pub mod OneAnswer
 pub mod DelayOfNought
 pub mod DelayMovesRight
 pub mod OnePlaneTwoColours
+pub mod TwelveBits
 pub mod Inner

@@ -1,5 +1,5 @@
--- Paper 02, W9: "From each plane's word number, the words per line (1 to 40) and the register file, write one 12-bit colour
--- per pixel".
+-- Paper 02, W9: "From each plane's word number, the words per line (1 to 40) and the register file, write one 12-bit
+-- colour per pixel".
 use Prim.Native.Nat.{ℕ, zero, suc, _+_, _*_}
 use mathlib.Core.List.{List, [], _∷_, _++_}
 use lib.ListN.{getD}

@@ -6,8 +6,8 @@ use lib.ListN.{getD}
 use Rattle.word.specs.Choice.{if_then_else_}
 use Rattle.word.specs.Word.{bit}
 
--- "low resolution": sixteen pixels a word, the leftmost of them bit 15. Bit j of a plane's own stream, which begins at the
--- plane's word number
+-- "low resolution": sixteen pixels a word, the leftmost of them bit 15. Bit j of a plane's own stream, which begins at
+-- the plane's word number
 unfoldable pub ownBit : (memory : List ℕ) → (start j : ℕ) → ℕ
 ownBit memory start j = bit (getD memory (start + j / 16) 0) (15 - j % 16)
 

@@ -1,8 +1,8 @@
-// The colour numbers of a line: plane by plane each word's bits are laid from the delay on. Nothing is shifted, so that a
-// delay of nought is a place like the others.
+// The colour numbers of a line: plane by plane each word's bits are laid from the delay on. Nothing is shifted, so that
+// a delay of nought is a place like the others.
 ghost use mathlib.Core.Path.{_≡_};
-ghost use Prim.Native.Nat.{ℕ, _+_, _-_, _*_, _^_, _<_, _≤_};
-ghost use lib.ListN.{length, getD};
+ghost use Prim.Native.Nat.{_+_, _-_, _*_, _^_, _<_, _≤_};
+ghost use lib.ListN.{length};
 ghost use Rattle.word.specs.Word.{bit};
 ghost use Rattle.picture.specs.Playfield.{playfield, planeDelay};
 ghost use Rattle.picture.specs.Refusal.{mostPlanes, mostWords, mostDelay};
@@ -46,7 +46,8 @@ fn share(word: u16, pixel: usize, weight: u16) -> u16
     weight
 }
 
-// Where a word's pixel stands, the first one at s. What a delay pushes past the line's end has its place behind the line.
+// Where a word's pixel stands, the first one at s. What a delay pushes past the line's end has its place behind the
+// line.
 fn pixel_place(s: usize, pixel: usize) -> usize
     requires { ⌜ s + pixel < room ⌝ }
     ensures { λ at. ⌜ at ≡ s + pixel ⌝ }
@@ -77,7 +78,8 @@ fn lay_plane(
 )
     requires { ⌜ (start + words ≤ length (now ram)) × (words ≤ mostWords) × (delay ≤ mostDelay) × (weight ≤ 16)
         × (length (now numbers) ≡ room) × UpTo 15 (now numbers) ⌝ }
-    ensures { λ _. ⌜ Grown weight (wordsPixel (now (ram .entry)) start delay words) (now (numbers .entry)) (now (numbers .exit)) ⌝ }
+    ensures { λ _. ⌜ Grown weight (wordsPixel (now (ram .entry)) start delay words)
+        (now (numbers .entry)) (now (numbers .exit)) ⌝ }
 {
     let mut word: usize = 0;
     while word < words {

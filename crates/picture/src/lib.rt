@@ -30,7 +30,8 @@ fn draw(
         × (length (now file) ≡ fileLength) × (16 * words ≤ length (now out)) ⌝ }
     ensures { λ _. ⌜
         now (out .exit)
-        ≡ withLine (now (ram .entry)) (now (file .entry)) (playfield (now (planes .entry)) words odd even) (now (out .entry)) ⌝ }
+        ≡ withLine (now (ram .entry)) (now (file .entry)) (playfield (now (planes .entry)) words odd even)
+        (now (out .entry)) ⌝ }
 {
     let mut numbers: Numbers = [0; 656];
     lay::lay_planes(ram, planes, words, odd, even, &mut numbers);
@@ -49,7 +50,8 @@ pub fn picture(
 ) -> Answer
     ensures { λ answer. ⌜
         left answer (now (out .exit))
-        ≡ picture (now (ram .entry)) (now (file .entry)) (playfield (now (planes .entry)) words odd even) (now (out .entry)) ⌝ }
+        ≡ picture (now (ram .entry)) (now (file .entry)) (playfield (now (planes .entry)) words odd even)
+        (now (out .entry)) ⌝ }
 {
     if word::memory::memory_size(ram.len()) {
         return Answer::MemorySize;

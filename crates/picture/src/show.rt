@@ -19,7 +19,8 @@ fn colour(file: &[u16], number: u16) -> u16
 
 // The sixteen pixels of a word.
 fn show_word(file: &[u16], numbers: &Numbers, s: usize, out: &mut [u16])
-    requires { ⌜ (length (now file) ≡ fileLength) × UpTo 31 (now numbers) × (s + 16 ≤ room) × (s + 16 ≤ length (now out)) ⌝ }
+    requires { ⌜ (length (now file) ≡ fileLength) × UpTo 31 (now numbers) × (s + 16 ≤ room)
+        × (s + 16 ≤ length (now out)) ⌝ }
     ensures { λ _. ⌜
         now (out .exit)
         ≡ painted (numberColour (now (file .entry)) (now (numbers .entry))) s 16 (now (out .entry)) ⌝ }
@@ -32,7 +33,8 @@ fn show_word(file: &[u16], numbers: &Numbers, s: usize, out: &mut [u16])
 }
 
 pub fn show(file: &[u16], numbers: &Numbers, words: usize, out: &mut [u16])
-    requires { ⌜ (length (now file) ≡ fileLength) × UpTo 31 (now numbers) × (words ≤ mostWords) × (16 * words ≤ length (now out)) ⌝ }
+    requires { ⌜ (length (now file) ≡ fileLength) × UpTo 31 (now numbers) × (words ≤ mostWords)
+        × (16 * words ≤ length (now out)) ⌝ }
     ensures { λ _. ⌜
         now (out .exit)
         ≡ painted (numberColour (now (file .entry)) (now (numbers .entry))) 0 (16 * words) (now (out .entry)) ⌝ }

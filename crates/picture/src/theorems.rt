@@ -3,6 +3,7 @@ ghost use Rattle.picture.specs.OneAnswer.{OneAnswer};
 ghost use Rattle.picture.specs.DelayOfNought.{DelayOfNought};
 ghost use Rattle.picture.specs.DelayMovesRight.{DelayMovesRight};
 ghost use Rattle.picture.specs.OnePlaneTwoColours.{OnePlaneTwoColours};
+ghost use Rattle.picture.specs.TwelveBits.{TwelveBits};
 
 pub fn one_answer()
     ensures { λ _. ⌜ OneAnswer ⌝ }
@@ -18,4 +19,8 @@ pub fn delay_moves_right()
 
 pub fn one_plane_two_colours()
     ensures { λ _. ⌜ OnePlaneTwoColours ⌝ }
+{}
+
+pub fn twelve_bits()
+    ensures { λ _. ⌜ TwelveBits ⌝ }
 {}

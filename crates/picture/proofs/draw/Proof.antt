@@ -1,5 +1,5 @@
 -- `picture::draw` meets its contract: the planes make the pixels' colour numbers, which are written as colours.
-use Rattle.word.proofs.Base.{refl, arith, needs}
+use Rattle.word.proofs.Base.{refl, needs}
 use Rattle.picture.specs.Inner.Numbers.{room}
 use Rattle.picture.proofs.NumbersLaws.{zeros-small}
 use Rattle.picture.proofs.PlanesLaws.{numbered-small}

@@ -47,7 +47,8 @@ UpTo most numbers = (i : ℕ) → getD numbers i 0 ≤ most
 -- what the words of the plane at a place give pixel i
 unfoldable pub placePixel : (memory : List ℕ) → Playfield → (i place : ℕ) → ℕ
 placePixel memory field i place =
-    wordsPixel memory (getD (field .planes) place 0) (planeDelay (field .odd) (field .even) (place + 1)) (field .words) i
+    wordsPixel memory (getD (field .planes) place 0)
+    (planeDelay (field .odd) (field .even) (place + 1)) (field .words) i
 
 -- the first planes are laid
 pub record Numbered (memory : List ℕ) (field : Playfield) (planes : ℕ) (numbers : List ℕ) : Type 0 where

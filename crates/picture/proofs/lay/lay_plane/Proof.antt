@@ -1,5 +1,5 @@
 -- `picture::lay::lay_plane` meets its contract: each turn lays one word more.
-use Rattle.word.proofs.Base.{_-_, _≤_, arith, needs}
+use Rattle.word.proofs.Base.{_-_, _≤_, needs}
 use Rattle.picture.specs.Inner.Numbers.{wordsPixel, Grown}
 use Rattle.picture.proofs.NumbersLaws.{grown-none}
 use Rattle.picture.proofs.PlanesLaws.{wordsPixel-none, wordsPixel-lt, grown-small, plane-turn, plane-done}

@@ -9,4 +9,6 @@ colour-at : (file : List ℕ) (place number : ℕ) → place ≡ colour0 + numbe
 colour-at file place number is = ap (λ (place : ℕ). getD file place 0) is
 
 pub colour-spec : {M : Type 1} → statement M
-colour-spec = tie.close (tie.spec (λ c. search needs) (λ c. search needs) (λ c. search needs) (λ c. search needs) (λ c. colour-at (c .before .args .file .now) (colour0 + c .before .args .number) (c .before .args .number) (search needs)))
+colour-spec =
+    tie.close (tie.spec (λ c. search needs) (λ c. search needs) (λ c. search needs) (λ c. search needs)
+    (λ c. colour-at (c .before .args .file .now) (colour0 + c .before .args .number) (c .before .args .number) (search needs)))

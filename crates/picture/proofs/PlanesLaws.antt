@@ -72,7 +72,8 @@ wordsPixel-next memory start delay k i = by (decLt i (delay + 16 * k)) (decLt i 
         ap₂ _+_ (wordsPixel-within memory start delay k i before) (wordPixel-before word (delay + 16 * k) 16 i before)
         ∙ omega (arith, wordsPixel-within memory start delay (k + 1) i (omega arith))
     by (no from) (yes to) =
-        ap₂ _+_ (wordsPixel-behind memory start delay k i (omega arith)) (wordPixel-within word (delay + 16 * k) 16 i (omega arith) (omega arith) ∙ own (omega arith) to)
+        ap₂ _+_ (wordsPixel-behind memory start delay k i (omega arith))
+        (wordPixel-within word (delay + 16 * k) 16 i (omega arith) (omega arith) ∙ own (omega arith) to)
         ∙ zero-add (ownBit memory start (i - delay))
         ∙ sym (wordsPixel-within memory start delay (k + 1) i to ∙ planePixel-from memory start delay i (omega arith))
     by (no from) (no behind) =
@@ -95,10 +96,12 @@ plane-turn weight start delay k memory before numbers next so-far laid = record 
         let one : ℕ = wordsPixel memory start delay k i in
         let other : ℕ = wordPixel (getD memory (start + k) 0) (delay + 16 * k) 16 i in
         let sum : (one + other) * weight ≡ one * weight + other * weight = add-mul one other weight in
-        let next : (one + other) * weight ≡ wordsPixel memory start delay (k + 1) i * weight = ap (λ (pixel : ℕ). pixel * weight) (wordsPixel-next memory start delay k i) in
+        let next : (one + other) * weight ≡ wordsPixel memory start delay (k + 1) i * weight =
+        ap (λ (pixel : ℕ). pixel * weight) (wordsPixel-next memory start delay k i) in
         omega (arith, laid .each i, so-far .each i, sum, next)
 
-pub plane-done : (weight start delay k words : ℕ) (memory before numbers : List ℕ) → k ≤ words → words ≤ k → Grown weight (wordsPixel memory start delay k) before numbers
+pub plane-done : (weight start delay k words : ℕ) (memory before numbers : List ℕ) → k ≤ words → words ≤ k
+    → Grown weight (wordsPixel memory start delay k) before numbers
     → Grown weight (wordsPixel memory start delay words) before numbers
 plane-done weight start delay k words memory before numbers most least so-far = let all : k ≡ words = omega arith in rw all at so-far
 

@@ -35,7 +35,8 @@ colour-lt file number fine small =
     let place : ℕ = colour0 + number in
     let word : ℕ = getD file place 0 in
     let keeps : bitAnd word (getD keptBits place 0) ≡ word =
-    eqb→eq _ _ (every-at (keptAt file) fileLength (rw (and-right (eqb (length file) fileLength) (every (keptAt file) fileLength) fine) tt) place (omega arith)) in
+    eqb→eq _ _ (every-at (keptAt file) fileLength
+    (rw (and-right (eqb (length file) fileLength) (every (keptAt file) fileLength) fine) tt) place (omega arith)) in
     let bits : 0x0FFF ≡ getD keptBits place 0 = keptBits-of-colour place (omega arith) (omega arith) in
     subst (λ (word : ℕ). word < 0x1000) (ap (bitAnd word) bits ∙ keeps) (mask-lt word 12)
 

@@ -23,7 +23,8 @@ returns-5 c = search picture-of-leaves
 
 draw-requires : tie.Need-draw-requires
 draw-requires c κs = (
-  drawable-when-passed _ _ _ _ (c .before .before .before .before .before .bad-playfield .ensures) (c .before .before .before .before .if3 .left) (c .before .before .all-inside .ensures) (c .before .if5 .left),
+  drawable-when-passed _ _ _ _ (c .before .before .before .before .before .bad-playfield .ensures) (c .before .before .before .before .if3 .left)
+      (c .before .before .all-inside .ensures) (c .before .if5 .left),
   search file-length-told,
   search needs,
 )

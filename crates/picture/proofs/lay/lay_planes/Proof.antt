@@ -35,7 +35,8 @@ lay-plane-requires c κs =
 loop-again : tie.Need-loop-again Inv-loop μ-loop
 loop-again c = (
   search needs,
-  numbered-turn _ _ _ _ _ _ _ _ (c .before .before .before .before .word-number .ensures) (c .before .before .before .delay .ensures) (c .before .before .weight .ensures)
+  numbered-turn _ _ _ _ _ _ _ _ (c .before .before .before .before .word-number .ensures)
+      (c .before .before .before .delay .ensures) (c .before .before .weight .ensures)
       (c .before .before .before .before .before .before .before .loop .inv .1) (c .lay-plane .ensures),
 )
 

@@ -16,11 +16,18 @@ loop-holds c = (search needs, grown-none _ _ _ (search needs) (wordPixel-none _ 
 
 add-numbers : tie.Need-add-numbers Inv-loop μ-loop
 add-numbers c =
-    omega (arith, word-sum _ _ _ _ _ _ (c .before .before .before .before .loop .inv .1) _ 32 _ (c .before .before .pixel-place .ensures) (c .before .before .before .before .before .pre .3) (c .share .ensures))
+    omega (
+      arith,
+      word-sum _ _ _ _ _ _ (c .before .before .before .before .loop .inv .1) _ 32 _
+          (c .before .before .pixel-place .ensures) (c .before .before .before .before .before .pre .3) (c .share .ensures),
+    )
 
 loop-again : tie.Need-loop-again Inv-loop μ-loop
-loop-again c =
-    (search needs, word-turn _ _ _ _ _ _ (c .before .before .before .before .loop .inv .1) _ _ _ (c .before .before .pixel-place .ensures) (search needs) (c .share .ensures) refl)
+loop-again c = (
+  search needs,
+  word-turn _ _ _ _ _ _ (c .before .before .before .before .loop .inv .1) _ _ _
+      (c .before .before .pixel-place .ensures) (search needs) (c .share .ensures) refl,
+)
 
 returns : tie.Need-returns Inv-loop μ-loop
 returns c = word-done _ _ _ _ _ _ (search needs) (search needs) (c .before .loop .inv .1)

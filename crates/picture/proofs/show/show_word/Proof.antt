@@ -16,7 +16,9 @@ loop-holds : tie.Need-loop-holds Inv-loop μ-loop
 loop-holds c = (search needs, painted-none _ _ _, search needs)
 
 colour-requires : tie.Need-colour-requires Inv-loop μ-loop
-colour-requires c κs = (search needs, omega (arith, c .before .before .before .before .before .pre .1 (c .before .before .before .before .before .args .s + c .before .before .loop .pixel)))
+colour-requires c κs =
+    let start = c .before .before .before .before .before in
+    (search needs, omega (arith, start .pre .1 (start .args .s + c .before .before .loop .pixel)))
 
 loop-again : tie.Need-loop-again Inv-loop μ-loop
 unfolding numberColour

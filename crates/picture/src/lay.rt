@@ -1,5 +1,5 @@
-// The colour numbers of a line: plane by plane each word's bits are laid from the delay on. Nothing is shifted, so that
-// a delay of nought is a place like the others.
+// The colour numbers of a line: plane by plane each word's bits are laid from the delay on. No word is shifted: a delay
+// of nought is a place like the others.
 ghost use mathlib.Core.Path.{_≡_};
 ghost use Prim.Native.Nat.{_+_, _-_, _*_, _^_, _<_, _≤_};
 ghost use lib.ListN.{length};
@@ -57,7 +57,7 @@ fn pixel_place(s: usize, pixel: usize) -> usize
 
 // The sixteen pixels of a word, from pixel s on.
 fn lay_word(word: u16, weight: u16, s: usize, numbers: &mut Numbers)
-    requires { ⌜ (weight ≤ 16) × (s + 16 ≤ room) × (length (now numbers) ≡ room) × UpTo 32 (now numbers) ⌝ }
+    requires { ⌜ (weight ≤ 16) × (s + 16 ≤ room) × (length (now numbers) ≡ room) × UpTo 31 (now numbers) ⌝ }
     ensures { λ _. ⌜ Grown weight (wordPixel word s 16) (now (numbers .entry)) (now (numbers .exit)) ⌝ }
 {
     let mut pixel: usize = 0;

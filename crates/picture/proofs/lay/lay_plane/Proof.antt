@@ -19,7 +19,7 @@ lay-word-requires : tie.Need-lay-word-requires Inv-loop μ-loop
 lay-word-requires c κs =
     let so-far = c .before .before .before .loop .inv .1 in
     let pre = c .before .before .before .before .before .pre in
-    (search needs, search needs, so-far .long, grown-small _ 15 32 _ _ _ (wordsPixel-lt _ _ _ _) (search needs) (pre .5) so-far)
+    (search needs, search needs, so-far .long, grown-small _ 15 31 _ _ _ (wordsPixel-lt _ _ _ _) (search needs) (pre .5) so-far)
 
 loop-again : tie.Need-loop-again Inv-loop μ-loop
 loop-again c = (search needs, plane-turn _ _ _ _ _ _ _ _ (c .before .before .before .before .loop .inv .1) (c .lay-word .ensures))

@@ -18,7 +18,7 @@ add-numbers : tie.Need-add-numbers Inv-loop μ-loop
 add-numbers c =
     omega (
       arith,
-      word-sum _ _ _ _ _ _ (c .before .before .before .before .loop .inv .1) _ 32 _
+      word-sum _ _ _ _ _ _ (c .before .before .before .before .loop .inv .1) _ 31 _
           (c .before .before .pixel-place .ensures) (c .before .before .before .before .before .pre .3) (c .share .ensures),
     )
 

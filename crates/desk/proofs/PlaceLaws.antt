@@ -15,7 +15,7 @@ use Rattle.widen.specs.declared.types.Answer as widenAnswer
 use Rattle.widen.specs.Widen as widenings
 use Rattle.widen.specs.Widen.{widening}
 use Rattle.picture.specs.declared.types.Answer as pictureAnswer
-use Rattle.picture.specs.Playfield.{Playfield}
+use Rattle.playfield.specs.Playfield.{Playfield}
 use Rattle.picture.specs.Picture as pictures
 use Rattle.picture.specs.Picture.{picture}
 use Rattle.copper.specs.declared.types.Answer as copperAnswer

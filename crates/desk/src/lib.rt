@@ -7,7 +7,7 @@ ghost use Rattle.folder.specs.Folding.{folding};
 ghost use Rattle.widen.specs.Widen.{widening};
 ghost use Rattle.instruction.specs.Effect as copper;
 ghost use Rattle.copper.specs.Frame.{stopped, frameFrom, frame, told};
-ghost use Rattle.picture.specs.Playfield.{playfield};
+ghost use Rattle.playfield.specs.Playfield.{playfield};
 ghost use Rattle.picture.specs.Picture.{picture};
 
 // Does one area blit.

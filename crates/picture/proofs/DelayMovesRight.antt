@@ -7,13 +7,13 @@ use lib.Seq.{ext-getD, getD-take, getD-append-add}
 use Rattle.word.specs.Word.{ofBits}
 use Rattle.word.proofs.ChoiceLaws.{if-either}
 use Rattle.word.proofs.WordLaws.{ofBits-is-pointwise}
-use Rattle.picture.specs.Plane.{ownBit, planePixel}
-use Rattle.picture.specs.Playfield.{Playfield, playfield, planeDelay, pixelAt, colourNumber}
+use Rattle.playfield.specs.Plane.{ownBit, planePixel}
+use Rattle.playfield.specs.Playfield.{mostDelay, Playfield, playfield, planeDelay, pixelAt, colourNumber}
 use Rattle.picture.specs.Line.{colour, pixelColour, linePixels, shownLine}
-use Rattle.picture.specs.Refusal.{mostDelay, badPlayfield, tooShort, leaves, refusal}
+use Rattle.picture.specs.Refusal.{badPlayfield, tooShort, leaves, refusal}
 use Rattle.picture.specs.Picture.{withLine}
 use Rattle.picture.specs.DelayMovesRight.{delayedBy, DelayMovesRight}
-use Rattle.picture.proofs.PlanesLaws.{planePixel-before, planePixel-from}
+use Rattle.playfield.proofs.PlanesLaws.{planePixel-before, planePixel-from}
 use Rattle.picture.proofs.PaintedLaws.{pixels-length}
 use Rattle.picture.proofs.LineLaws.{pixels-at, picture-number, picture-writes}
 use Rattle.picture.proofs.DelayOfNought.{planePixel-by-zero}

@@ -2,10 +2,10 @@
 use Rattle.word.proofs.Base.{_≡_, ap, _∙_, ℕ, _+_, _-_, _<_, arith, List, length, getD}
 use Rattle.word.specs.Word.{bit}
 use Rattle.word.proofs.WordLaws.{bit-of-ofBits}
-use Rattle.picture.specs.Plane.{ownBit, planePixel}
-use Rattle.picture.specs.Playfield.{Playfield, planeDelay, pixelAt, colourNumber}
+use Rattle.playfield.specs.Plane.{ownBit, planePixel}
+use Rattle.playfield.specs.Playfield.{Playfield, planeDelay, pixelAt, colourNumber}
 use Rattle.picture.specs.DelayOfNought.{DelayOfNought}
-use Rattle.picture.proofs.PlanesLaws.{planePixel-from, planePixel-lt}
+use Rattle.playfield.proofs.PlanesLaws.{planePixel-from, planePixel-lt}
 use Rattle.picture.proofs.LineLaws.{picture-shows}
 
 -- a pixel's bits are the planes' pixels

@@ -1,6 +1,4 @@
 -- The laws of one line of picture, and the proofs of what is proved of it.
-pub mod NumbersLaws
-pub mod PlanesLaws
 pub mod PaintedLaws
 pub mod PictureLaws
 pub mod LineLaws

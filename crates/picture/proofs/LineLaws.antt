@@ -4,7 +4,7 @@ use Rattle.word.proofs.Base.{eqb-true, eqb-false, List, [], _∷_, _++_, getD, 
 use lib.ListN.{List·getD-append}
 use lib.Seq.{getD-at}
 use Rattle.word.specs.Choice.{if_then_else_}
-use Rattle.picture.specs.Playfield.{Playfield}
+use Rattle.playfield.specs.Playfield.{Playfield}
 use Rattle.picture.specs.Line.{pixelColour, pixels, linePixels, shownLine}
 use Rattle.picture.specs.Refusal.{refusal}
 use Rattle.picture.specs.Picture.{Picture, ended, withLine, picture}

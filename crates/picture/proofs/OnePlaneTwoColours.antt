@@ -2,7 +2,7 @@
 use Rattle.word.proofs.Base.{_≡_, refl, ℕ, _^_, _<_, subst, List, length}
 use mathlib.Core.Logic.{_⊎_, inl, inr}
 use Rattle.word.proofs.WordLaws.{bit-cases, ofBits-lt}
-use Rattle.picture.specs.Playfield.{Playfield, pixelAt, colourNumber}
+use Rattle.playfield.specs.Playfield.{Playfield, pixelAt, colourNumber}
 use Rattle.picture.specs.Line.{colour}
 use Rattle.picture.specs.OnePlaneTwoColours.{OnePlaneTwoColours}
 use Rattle.picture.proofs.DelayOfNought.{pixelAt-lt}

@@ -9,15 +9,15 @@ use Rattle.file.specs.File.{accepted}
 use Rattle.file.proofs.FileLaws.{accepted-has-length}
 use Rattle.word.proofs.ChoiceLaws.{or-left, or-right, within-when-passed, every-at}
 use Rattle.word.proofs.WordLaws.{ofBits-is-pointwise}
-use Rattle.picture.specs.Playfield.{Playfield, planeDelay, pixelAt, colourNumber}
+use Rattle.playfield.specs.Playfield.{mostPlanes, mostWords, mostDelay, Playfield, planeDelay, pixelAt, colourNumber}
 use Rattle.picture.specs.Line.{colour, pixelColour, linePixels, shownLine}
 use Rattle.picture.specs.declared.types.Answer.the-variants.{Done, MemorySize, RegisterFile, BadPlayfield, TooShort, Leaves}
-use Rattle.picture.specs.Refusal.{mostPlanes, mostWords, mostDelay, refusal, badPlayfield, tooShort, leaves}
+use Rattle.picture.specs.Refusal.{refusal, badPlayfield, tooShort, leaves}
 use Rattle.picture.specs.Refusal as refusals
 use Rattle.picture.specs.Picture.{withLine, picture, left}
-use Rattle.picture.specs.Inner.Numbers.{Drawable, placePixel, Numbered}
+use Rattle.playfield.specs.Inner.Numbers.{Drawable, placePixel, Numbered}
 use Rattle.picture.specs.Inner.Painted.{painted, numberColour}
-use Rattle.picture.proofs.PlanesLaws.{wordsPixel-within}
+use Rattle.playfield.proofs.PlanesLaws.{wordsPixel-within}
 use Rattle.picture.proofs.PaintedLaws.{painted-in-front, pixels-are-pointwise}
 
 -- within the line a plane's words give what the plane shows

@@ -12,9 +12,9 @@ use Rattle.word.proofs.WordLaws.{ofBits-lt}
 use Rattle.file.specs.Places.{fileLength, colour0, colourCount}
 use Rattle.file.specs.File.{kept, keptAt, keptBits, accepted}
 use Rattle.file.proofs.FileLaws.{keptBits-of-colour}
-use Rattle.picture.specs.Playfield.{Playfield, pixelAt, colourNumber}
+use Rattle.playfield.specs.Playfield.{mostPlanes, Playfield, pixelAt, colourNumber}
 use Rattle.picture.specs.Line.{colour, linePixels}
-use Rattle.picture.specs.Refusal.{mostPlanes, badPlayfield, tooShort, inside, leaves, rules, refusal}
+use Rattle.picture.specs.Refusal.{badPlayfield, tooShort, inside, leaves, rules, refusal}
 use Rattle.picture.specs.Picture.{picture}
 use Rattle.picture.specs.TwelveBits.{TwelveBits}
 use Rattle.picture.proofs.PictureLaws.{drawable-when-passed}

@@ -4,9 +4,8 @@ use Prim.Native.Nat.{ℕ, _≤_}
 use mathlib.Core.Path.{_≡_}
 use mathlib.Core.List.{List, _++_}
 use lib.ListN.{take, drop, replicate}
-use Rattle.picture.specs.Playfield.{playfield}
+use Rattle.playfield.specs.Playfield.{mostDelay, playfield}
 use Rattle.picture.specs.Line.{colour, linePixels}
-use Rattle.picture.specs.Refusal.{mostDelay}
 use Rattle.picture.specs.Picture.{Picture, picture}
 
 -- the picture with a delay on both

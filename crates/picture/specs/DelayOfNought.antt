@@ -4,8 +4,8 @@ use mathlib.Core.Path.{_≡_}
 use mathlib.Core.List.{List}
 use lib.ListN.{length, getD}
 use Rattle.word.specs.Word.{bit}
-use Rattle.picture.specs.Plane.{ownBit}
-use Rattle.picture.specs.Playfield.{Playfield, planeDelay, colourNumber}
+use Rattle.playfield.specs.Plane.{ownBit}
+use Rattle.playfield.specs.Playfield.{Playfield, planeDelay, colourNumber}
 use Rattle.picture.specs.Line.{colour, linePixels}
 use Rattle.picture.specs.Picture.{picture}
 

@@ -1,7 +1,5 @@
 -- What a reader must believe of one line of picture, in the order of paper 02's W9, and what is proved of it; Inner
 -- apart.
-pub mod Plane
-pub mod Playfield
 pub mod Line
 pub mod Refusal
 pub mod Picture

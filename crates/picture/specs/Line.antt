@@ -4,7 +4,7 @@ use Prim.Native.Nat.{ℕ, zero, suc, _+_, _*_}
 use mathlib.Core.List.{List, [], _∷_, _++_}
 use lib.ListN.{getD}
 use Rattle.file.specs.Places.{colour0}
-use Rattle.picture.specs.Playfield.{Playfield, colourNumber}
+use Rattle.playfield.specs.Playfield.{Playfield, colourNumber}
 
 -- the colour of a number is what the file's register of that number holds, that of 0 too
 abbrev pub colour : (file : List ℕ) → (number : ℕ) → ℕ

@@ -3,7 +3,7 @@ use Prim.Native.Nat.{ℕ}
 use mathlib.Core.Path.{_≡_}
 use mathlib.Core.List.{List}
 use Rattle.picture.specs.declared.types.Answer.{Answer}
-use Rattle.picture.specs.Playfield.{Playfield}
+use Rattle.playfield.specs.Playfield.{Playfield}
 use Rattle.picture.specs.Picture.{picture, left}
 
 -- an answer with what the lent run holds as it is given

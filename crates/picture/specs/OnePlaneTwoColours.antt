@@ -4,7 +4,7 @@ use mathlib.Core.Path.{_≡_}
 use mathlib.Core.List.{List}
 use mathlib.Core.Logic.{_⊎_}
 use lib.ListN.{length, getD}
-use Rattle.picture.specs.Playfield.{Playfield}
+use Rattle.playfield.specs.Playfield.{Playfield}
 use Rattle.picture.specs.Line.{colour, linePixels}
 use Rattle.picture.specs.Picture.{picture}
 

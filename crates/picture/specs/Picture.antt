@@ -7,7 +7,7 @@ use Rattle.word.specs.Choice.{if_then_else_}
 use Rattle.picture.specs.declared.types.Answer.{Answer}
 use Rattle.picture.specs.declared.types.Answer.the-variants.{Done, MemorySize, RegisterFile, BadPlayfield}
 use Rattle.picture.specs.declared.types.Answer.the-variants.{TooShort, Leaves}
-use Rattle.picture.specs.Playfield.{Playfield}
+use Rattle.playfield.specs.Playfield.{Playfield}
 use Rattle.picture.specs.Line.{linePixels, shownLine}
 use Rattle.picture.specs.Refusal.{refusal}
 

@@ -7,20 +7,8 @@ use lib.ListN.{length, getD}
 use Rattle.word.specs.Choice.{Rule, _when_, given, every}
 use Rattle.word.specs.Memory.{memorySize}
 use Rattle.file.specs.File.{accepted}
-use Rattle.picture.specs.Playfield.{Playfield}
+use Rattle.playfield.specs.Playfield.{mostPlanes, mostWords, mostDelay, Playfield}
 use Rattle.picture.specs.Line.{linePixels}
-
--- "one to five bit planes"
-abbrev pub mostPlanes : ℕ
-mostPlanes = 5
-
--- "words per line (1 to 40)"
-abbrev pub mostWords : ℕ
-mostWords = 40
-
--- "delay of 0 to 15 pixels"
-abbrev pub mostDelay : ℕ
-mostDelay = 15
 
 -- a number is "bad" that isn't from 1 to a most
 unfoldable pub bad : (number most : ℕ) → Bool

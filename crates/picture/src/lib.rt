@@ -1,6 +1,5 @@
 // One line of picture: what the screen shows of a playfield of one to five bit planes, in colours.
 pub mod answer;
-pub mod lay;
 pub mod refuse;
 pub mod show;
 pub mod theorems;
@@ -10,11 +9,11 @@ ghost use mathlib.Core.Path.{_≡_};
 ghost use Prim.Native.Nat.{_*_, _≤_};
 ghost use lib.ListN.{length};
 ghost use Rattle.file.specs.Places.{fileLength};
-ghost use Rattle.picture.specs.Playfield.{playfield};
+ghost use Rattle.playfield.specs.Playfield.{playfield};
 ghost use Rattle.picture.specs.Picture.{withLine, picture, left};
-ghost use Rattle.picture.specs.Inner.Numbers.{Drawable};
+ghost use Rattle.playfield.specs.Inner.Numbers.{Drawable};
 use crate::types::Answer;
-use crate::types::Numbers;
+use playfield::types::Numbers;
 
 // The line's colours into the front of the run.
 fn draw(
@@ -34,7 +33,7 @@ fn draw(
         (now (out .entry)) ⌝ }
 {
     let mut numbers: Numbers = [0; 656];
-    lay::lay_planes(ram, planes, words, odd, even, &mut numbers);
+    playfield::lay_planes(ram, planes, words, odd, even, &mut numbers);
     show::show(file, &numbers, words, out);
 }
 

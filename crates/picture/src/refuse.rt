@@ -3,7 +3,7 @@ ghost use mathlib.Core.Path.{_≡_};
 ghost use Prim.Native.Nat.{_+_};
 ghost use lib.ListN.{length};
 ghost use Rattle.word.specs.Choice.{every};
-ghost use Rattle.picture.specs.Playfield.{playfield};
+ghost use Rattle.playfield.specs.Playfield.{playfield};
 ghost use Rattle.picture.specs.Refusal.{bad, badPlayfield, inside};
 
 pub const MOST_PLANES: usize = 5;

@@ -4,10 +4,10 @@ ghost use Prim.Native.Nat.{_+_, _*_, _<_, _≤_};
 ghost use lib.ListN.{length};
 ghost use Rattle.file.specs.Places.{fileLength, colourCount};
 ghost use Rattle.picture.specs.Line.{colour};
-ghost use Rattle.picture.specs.Refusal.{mostWords};
-ghost use Rattle.picture.specs.Inner.Numbers.{room, UpTo};
+ghost use Rattle.playfield.specs.Playfield.{mostWords};
+ghost use Rattle.playfield.specs.Inner.Numbers.{room, UpTo};
 ghost use Rattle.picture.specs.Inner.Painted.{painted, numberColour};
-use crate::types::Numbers;
+use playfield::types::Numbers;
 
 // The register of that number holds the colour, of number 0 too.
 fn colour(file: &[u16], number: u16) -> u16

@@ -1,8 +1,8 @@
 -- `picture::draw` meets its contract: the planes make the pixels' colour numbers, which are written as colours.
 use Rattle.word.proofs.Base.{refl, needs}
-use Rattle.picture.specs.Inner.Numbers.{room}
-use Rattle.picture.proofs.NumbersLaws.{zeros-small}
-use Rattle.picture.proofs.PlanesLaws.{numbered-small}
+use Rattle.playfield.specs.Inner.Numbers.{room}
+use Rattle.playfield.proofs.NumbersLaws.{zeros-small}
+use Rattle.playfield.proofs.PlanesLaws.{numbered-small}
 use Rattle.picture.proofs.PictureLaws.{withLine-of-numbers}
 use Rattle.picture.proofs.draw.Statement.{statement}
 use Rattle.picture.proofs.draw.Tie as tie

@@ -1,8 +1,8 @@
 -- `picture::refuse::bad_playfield` meets its contract: the four tests in the definition's order.
 use Rattle.word.proofs.Base.{_≡_, ℕ, Bool, _||_, ltb, List, length, needs}
 use Rattle.word.proofs.ChoiceLaws.{beyond-is-not-within}
-use Rattle.picture.specs.Playfield.{playfield}
-use Rattle.picture.specs.Refusal.{mostPlanes, mostWords, mostDelay, bad, badPlayfield}
+use Rattle.playfield.specs.Playfield.{mostPlanes, mostWords, mostDelay, playfield}
+use Rattle.picture.specs.Refusal.{bad, badPlayfield}
 use Rattle.picture.proofs.refuse.bad_playfield.Statement.{statement}
 use Rattle.picture.proofs.refuse.bad_playfield.Tie as tie
 

@@ -1,12 +1,13 @@
 // The colour numbers of a line: plane by plane each word's bits are laid from the delay on. No word is shifted: a delay
 // of nought is a place like the others.
+pub mod types;
+
 ghost use mathlib.Core.Path.{_≡_};
 ghost use Prim.Native.Nat.{_+_, _-_, _*_, _^_, _<_, _≤_};
 ghost use lib.ListN.{length};
 ghost use Rattle.word.specs.Word.{bit};
-ghost use Rattle.picture.specs.Playfield.{playfield, planeDelay};
-ghost use Rattle.picture.specs.Refusal.{mostPlanes, mostWords, mostDelay};
-ghost use Rattle.picture.specs.Inner.Numbers.{room, Drawable, wordPixel, wordsPixel, Grown, UpTo, Numbered};
+ghost use Rattle.playfield.specs.Playfield.{mostPlanes, mostWords, mostDelay, playfield, planeDelay};
+ghost use Rattle.playfield.specs.Inner.Numbers.{room, Drawable, wordPixel, wordsPixel, Grown, UpTo, Numbered};
 use crate::types::Numbers;
 
 // The leftmost pixel is bit 15.

@@ -6,9 +6,9 @@ use lib.Dec.{ltb}
 use lib.ListN.{length, getD}
 use Rattle.word.specs.Choice.{if_then_else_}
 use Rattle.word.specs.Word.{bit, ofBits}
-use Rattle.picture.specs.Plane.{planePixel}
-use Rattle.picture.specs.Playfield.{Playfield, planeDelay}
-use Rattle.picture.specs.Refusal.{mostPlanes, mostWords, mostDelay}
+use Rattle.playfield.specs.Plane.{planePixel}
+use Rattle.playfield.specs.Playfield.{Playfield, planeDelay}
+use Rattle.playfield.specs.Playfield.{mostPlanes, mostWords, mostDelay}
 
 -- the longest line, and room for what the longest delay pushes past its end
 abbrev pub room : ℕ

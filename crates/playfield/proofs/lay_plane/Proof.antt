@@ -1,10 +1,10 @@
--- `picture::lay::lay_plane` meets its contract: each turn lays one word more.
+-- `playfield::lay_plane` meets its contract: each turn lays one word more.
 use Rattle.word.proofs.Base.{_-_, _≤_, needs}
-use Rattle.picture.specs.Inner.Numbers.{wordsPixel, Grown}
-use Rattle.picture.proofs.NumbersLaws.{grown-none}
-use Rattle.picture.proofs.PlanesLaws.{wordsPixel-none, wordsPixel-lt, grown-small, plane-turn, plane-done}
-use Rattle.picture.proofs.lay.lay_plane.Statement.{statement}
-use Rattle.picture.proofs.lay.lay_plane.Tie as tie
+use Rattle.playfield.specs.Inner.Numbers.{wordsPixel, Grown}
+use Rattle.playfield.proofs.NumbersLaws.{grown-none}
+use Rattle.playfield.proofs.PlanesLaws.{wordsPixel-none, wordsPixel-lt, grown-small, plane-turn, plane-done}
+use Rattle.playfield.proofs.lay_plane.Statement.{statement}
+use Rattle.playfield.proofs.lay_plane.Tie as tie
 
 abbrev Inv-loop : tie.InvT-loop
 Inv-loop ram start words delay weight numbers₀ word₀ numbers word = (word ≤ words) × Grown weight (wordsPixel ram start delay word) numbers₀ numbers

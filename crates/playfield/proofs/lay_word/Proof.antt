@@ -1,9 +1,9 @@
--- `picture::lay::lay_word` meets its contract: each turn lays one bit more.
+-- `playfield::lay_word` meets its contract: each turn lays one bit more.
 use Rattle.word.proofs.Base.{refl, _-_, _≤_, arith, needs}
-use Rattle.picture.specs.Inner.Numbers.{wordPixel, Grown}
-use Rattle.picture.proofs.NumbersLaws.{wordPixel-none, grown-none, word-sum, word-turn, word-done}
-use Rattle.picture.proofs.lay.lay_word.Statement.{statement}
-use Rattle.picture.proofs.lay.lay_word.Tie as tie
+use Rattle.playfield.specs.Inner.Numbers.{wordPixel, Grown}
+use Rattle.playfield.proofs.NumbersLaws.{wordPixel-none, grown-none, word-sum, word-turn, word-done}
+use Rattle.playfield.proofs.lay_word.Statement.{statement}
+use Rattle.playfield.proofs.lay_word.Tie as tie
 
 abbrev Inv-loop : tie.InvT-loop
 Inv-loop word weight s numbers₀ pixel₀ numbers pixel = (pixel ≤ 16) × Grown weight (wordPixel word s pixel) numbers₀ numbers

@@ -1,11 +1,11 @@
--- `picture::lay::lay_planes` meets its contract: each turn lays one plane more, whose pixels are the numbers' next bit.
+-- `playfield::lay_planes` meets its contract: each turn lays one plane more, whose pixels are the numbers' next bit.
 use Rattle.word.proofs.Base.{_-_, _≤_, arith, needs, length}
-use Rattle.picture.specs.Playfield.{playfield}
-use Rattle.picture.specs.Inner.Numbers.{Numbered}
-use Rattle.picture.proofs.PlanesLaws.{numbered-none, numbered-turn, numbered-done}
-use Rattle.picture.proofs.PlanesLaws.{drawable-inside, drawable-delay, drawable-weight, drawable-small}
-use Rattle.picture.proofs.lay.lay_planes.Statement.{statement}
-use Rattle.picture.proofs.lay.lay_planes.Tie as tie
+use Rattle.playfield.specs.Playfield.{playfield}
+use Rattle.playfield.specs.Inner.Numbers.{Numbered}
+use Rattle.playfield.proofs.PlanesLaws.{numbered-none, numbered-turn, numbered-done}
+use Rattle.playfield.proofs.PlanesLaws.{drawable-inside, drawable-delay, drawable-weight, drawable-small}
+use Rattle.playfield.proofs.lay_planes.Statement.{statement}
+use Rattle.playfield.proofs.lay_planes.Tie as tie
 
 abbrev Inv-loop : tie.InvT-loop
 Inv-loop ram planes words odd even numbers₀ place₀ numbers place =

@@ -5,11 +5,11 @@ use lib.Pow.{pow-mono}
 use Rattle.word.specs.Word.{bit, ofBits}
 use Rattle.word.proofs.ChoiceLaws.{if-either}
 use Rattle.word.proofs.WordLaws.{bit-lt, ofBits-lt}
-use Rattle.picture.specs.Plane.{ownBit, planePixel}
-use Rattle.picture.specs.Playfield.{Playfield, planeDelay}
-use Rattle.picture.specs.Refusal.{mostDelay}
-use Rattle.picture.specs.Inner.Numbers.{room, Drawable, wordPixel, wordsPixel, Grown, UpTo, placePixel, Numbered}
-use Rattle.picture.proofs.NumbersLaws.{wordPixel-before, wordPixel-within, wordPixel-behind, bit-times-le}
+use Rattle.playfield.specs.Plane.{ownBit, planePixel}
+use Rattle.playfield.specs.Playfield.{Playfield, planeDelay}
+use Rattle.playfield.specs.Playfield.{mostDelay}
+use Rattle.playfield.specs.Inner.Numbers.{room, Drawable, wordPixel, wordsPixel, Grown, UpTo, placePixel, Numbered}
+use Rattle.playfield.proofs.NumbersLaws.{wordPixel-before, wordPixel-within, wordPixel-behind, bit-times-le}
 
 -- a plane's pixel, before it begins and from there on
 pub planePixel-before : (memory : List ℕ) (start delay i : ℕ) → i < delay → planePixel memory start delay i ≡ 0

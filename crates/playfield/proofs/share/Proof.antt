@@ -1,12 +1,12 @@
--- `picture::lay::share` meets its contract: a word masked to one bit is nought where that bit is.
+-- `playfield::share` meets its contract: a word masked to one bit is nought where that bit is.
 use Rattle.word.proofs.Base.{_≡_, sym, ap, _∙_, ℕ, _+_, _-_, _*_, _^_, one-add, arith, needs, bitAnd}
 use lib.Bits.{and-high}
 use lib.Pow.{pow-pos}
 use native.Mathlib.Nat.{pow-succ'}
 use Rattle.word.specs.Word.{bit}
 use Rattle.word.proofs.WordLaws.{bit-lt, bit-cases}
-use Rattle.picture.proofs.lay.share.Statement.{statement}
-use Rattle.picture.proofs.lay.share.Tie as tie
+use Rattle.playfield.proofs.share.Statement.{statement}
+use Rattle.playfield.proofs.share.Tie as tie
 
 -- a word masked to one bit
 and-of-bit : (word k : ℕ) → bitAnd word (2 ^ k) ≡ bit word k * 2 ^ k

@@ -5,7 +5,19 @@ use lib.Dec.{eqb}
 use lib.ListN.{length, getD}
 use Rattle.word.specs.Choice.{if_then_else_}
 use Rattle.word.specs.Word.{ofBits}
-use Rattle.picture.specs.Plane.{planePixel}
+use Rattle.playfield.specs.Plane.{planePixel}
+
+-- "one to five bit planes"
+abbrev pub mostPlanes : ℕ
+mostPlanes = 5
+
+-- "words per line (1 to 40)"
+abbrev pub mostWords : ℕ
+mostWords = 40
+
+-- "delay of 0 to 15 pixels"
+abbrev pub mostDelay : ℕ
+mostDelay = 15
 
 -- "each plane's word number", that of plane 1 first; "the words per line"; the delays
 pub record Playfield : Type 0 where

@@ -6,7 +6,7 @@ use lib.ListN.{replicate}
 use Rattle.word.specs.Word.{bit}
 use Rattle.word.proofs.ChoiceLaws.{every-at}
 use Rattle.word.proofs.WordLaws.{bit-lt, bit-cases}
-use Rattle.picture.specs.Inner.Numbers.{room, wordPixel, Grown, UpTo}
+use Rattle.playfield.specs.Inner.Numbers.{room, wordPixel, Grown, UpTo}
 
 -- a power of two, as a shift makes it
 pub power : (by k : ℕ) → by ≡ k → k < 16 → 1 * 2 ^ by % 2 ^ 16 ≡ 2 ^ k

@@ -1,8 +1,8 @@
--- `picture::lay::delay` meets its contract: at an even place stands a plane with an odd number.
+-- `playfield::delay` meets its contract: at an even place stands a plane with an odd number.
 use Rattle.word.proofs.Base.{_≡_, refl, ℕ, _+_, _%_, arith, eq-eqb, ne-eqb}
-use Rattle.picture.specs.Playfield.{planeDelay}
-use Rattle.picture.proofs.lay.delay.Statement.{statement}
-use Rattle.picture.proofs.lay.delay.Tie as tie
+use Rattle.playfield.specs.Playfield.{planeDelay}
+use Rattle.playfield.proofs.delay.Statement.{statement}
+use Rattle.playfield.proofs.delay.Tie as tie
 
 planeDelay-of-odd : (odd even place : ℕ) → place % 2 ≡ 0 → odd ≡ planeDelay odd even (place + 1)
 unfolding planeDelay

@@ -1,0 +1,3 @@
+-- The laws of a playfield's colour numbers.
+pub mod NumbersLaws
+pub mod PlanesLaws

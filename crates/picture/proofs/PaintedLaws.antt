@@ -11,7 +11,7 @@ unfolding painted
 painted-keeps-length pixel s zero run = refl
 painted-keeps-length pixel s (suc n) run = length-set (painted pixel s n run) (s + n) (pixel (s + n)) ∙ painted-keeps-length pixel s n run
 
--- a turn of the loop that writes a word's pixels, and its end
+-- a loop that writes pixels: none, a turn, and its end
 pub painted-none : (pixel : ℕ → ℕ) (s : ℕ) (run : List ℕ) → run ≡ painted pixel s 0 run
 unfolding painted
 painted-none pixel s run = refl
@@ -21,7 +21,11 @@ pub painted-turn : (pixel : ℕ → ℕ) (s n here : ℕ) (run now : List ℕ) �
 unfolding painted
 painted-turn pixel s n here run now so-far is = rw (add-one n) (ap₂ (λ (now : List ℕ) (here : ℕ). set now (s + n) here) so-far is)
 
--- and of the one that writes the words' pixels
+pub painted-done : (pixel : ℕ → ℕ) (s n all : ℕ) (run now : List ℕ) → n ≤ all → all ≤ n
+    → now ≡ painted pixel s n run → now ≡ painted pixel s all run
+painted-done pixel s n all run now most least so-far = let same : n ≡ all = omega arith in so-far ∙ ap (λ (n : ℕ). painted pixel s n run) same
+
+-- the pixels of one word behind those of others
 pub painted-more : (pixel : ℕ → ℕ) (n more : ℕ) (run : List ℕ) → painted pixel n more (painted pixel 0 n run) ≡ painted pixel 0 (n + more) run
 unfolding painted
 painted-more pixel n zero run = rw (add-zero n)
@@ -50,9 +54,6 @@ unfolding pixels
 pixels-are-pointwise one other zero same = refl
 pixels-are-pointwise one other (suc n) same =
     ap₂ (λ (front : List ℕ) (last : ℕ). front ++ (last ∷ [])) (pixels-are-pointwise one other n (λ i below. same i (omega arith))) (same n (omega arith))
-
-pub painted-done : (pixel : ℕ → ℕ) (s n all : ℕ) (run now : List ℕ) → n ≤ all → all ≤ n → now ≡ painted pixel s n run → now ≡ painted pixel s all run
-painted-done pixel s n all run now most least so-far = let same : n ≡ all = omega arith in so-far ∙ ap (λ (n : ℕ). painted pixel s n run) same
 
 -- a turn of the loop that writes a line's words
 module _ (pixel : ℕ → ℕ) (word : ℕ) (run now next : List ℕ) (writes : next ≡ painted pixel (16 * word) 16 now) where

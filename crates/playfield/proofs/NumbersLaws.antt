@@ -55,7 +55,7 @@ zeros-small (suc n) (suc i) = zeros-small n i
 pub grown-none : (weight : ℕ) (pixel : ℕ → ℕ) (numbers : List ℕ) → length numbers ≡ room → ((i : ℕ) → pixel i ≡ 0) → Grown weight pixel numbers numbers
 grown-none weight pixel numbers long none = record { long = long; each = λ i. rw (none i) (omega arith) }
 
--- a turn of the loop that lays a word's bits, and its end
+-- a turn of the loop that lays a word's bits
 module _ (weight word s n : ℕ) (before numbers : List ℕ) (so-far : Grown weight (wordPixel word s n) before numbers) where
   word-kept : getD numbers (s + n) 0 ≡ getD before (s + n) 0
   word-kept = so-far .each (s + n) ∙ rw (wordPixel-behind word s n (s + n) (omega arith)) (omega arith)
@@ -86,7 +86,3 @@ module _ (weight word s n : ℕ) (before numbers : List ℕ) (so-far : Grown wei
       by i false other =
           getD-set-other numbers (s + n) i sum 0 (eqb-false i (s + n) other) ∙ so-far .each i
           ∙ ap (λ (pixel : ℕ). getD before i 0 + pixel * weight) (wordPixel-next word s n i (eqb-false i (s + n) other))
-
-pub word-done : (weight word s n : ℕ) (before numbers : List ℕ) → n ≤ 16 → 16 ≤ n → Grown weight (wordPixel word s n) before numbers
-    → Grown weight (wordPixel word s 16) before numbers
-word-done weight word s n before numbers most least so-far = let all : n ≡ 16 = omega arith in rw all at so-far

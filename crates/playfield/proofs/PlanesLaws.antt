@@ -86,7 +86,7 @@ pub grown-small : (weight most more : ℕ) (pixel : ℕ → ℕ) (before numbers
 grown-small weight most more pixel before numbers bits room small grown i =
     omega (arith, grown .each i, small i, bit-times-le weight (pixel i) (bits i))
 
--- a turn of the loop that lays a plane's words, and its end
+-- a turn of the loop that lays a plane's words
 pub plane-turn : (weight start delay k : ℕ) (memory before numbers next : List ℕ) → Grown weight (wordsPixel memory start delay k) before numbers
     → Grown weight (wordPixel (getD memory (start + k) 0) (delay + 16 * k) 16) numbers next → Grown weight (wordsPixel memory start delay (k + 1)) before next
 plane-turn weight start delay k memory before numbers next so-far laid = record { long = laid .long; each = each }
@@ -99,11 +99,6 @@ plane-turn weight start delay k memory before numbers next so-far laid = record 
         let next : (one + other) * weight ≡ wordsPixel memory start delay (k + 1) i * weight =
         ap (λ (pixel : ℕ). pixel * weight) (wordsPixel-next memory start delay k i) in
         omega (arith, laid .each i, so-far .each i, sum, next)
-
-pub plane-done : (weight start delay k words : ℕ) (memory before numbers : List ℕ) → k ≤ words → words ≤ k
-    → Grown weight (wordsPixel memory start delay k) before numbers
-    → Grown weight (wordsPixel memory start delay words) before numbers
-plane-done weight start delay k words memory before numbers most least so-far = let all : k ≡ words = omega arith in rw all at so-far
 
 -- numbers made of so many bits are small
 pub numbered-small : (memory : List ℕ) (field : Playfield) (place most : ℕ) (numbers : List ℕ) → place ≤ most → Numbered memory field place numbers
@@ -152,7 +147,3 @@ module _ (n : ℕ) (field : Playfield) (drawable : Drawable n field) (place : �
 
   pub drawable-small : (memory numbers : List ℕ) → Numbered memory field place numbers → UpTo 15 numbers
   drawable-small memory numbers so-far = numbered-small memory field place 4 numbers (omega (arith, drawable .planes)) so-far
-
-pub numbered-done : (memory : List ℕ) (field : Playfield) (place planes : ℕ) (numbers : List ℕ) → place ≤ planes → planes ≤ place
-    → Numbered memory field place numbers → Numbered memory field planes numbers
-numbered-done memory field place planes numbers most least so-far = let all : place ≡ planes = omega arith in rw all at so-far

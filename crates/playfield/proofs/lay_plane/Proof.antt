@@ -1,8 +1,8 @@
 -- `playfield::lay_plane` meets its contract: each turn lays one word more.
-use Rattle.word.proofs.Base.{_-_, _≤_, needs}
+use Rattle.word.proofs.Base.{_≡_, _-_, _≤_, needs, arith}
 use Rattle.playfield.specs.Inner.Numbers.{wordsPixel, Grown}
 use Rattle.playfield.proofs.NumbersLaws.{grown-none}
-use Rattle.playfield.proofs.PlanesLaws.{wordsPixel-none, wordsPixel-lt, grown-small, plane-turn, plane-done}
+use Rattle.playfield.proofs.PlanesLaws.{wordsPixel-none, wordsPixel-lt, grown-small, plane-turn}
 use Rattle.playfield.proofs.lay_plane.Statement.{statement}
 use Rattle.playfield.proofs.lay_plane.Tie as tie
 
@@ -25,7 +25,7 @@ loop-again : tie.Need-loop-again Inv-loop μ-loop
 loop-again c = (search needs, plane-turn _ _ _ _ _ _ _ _ (c .before .before .before .before .loop .inv .1) (c .lay-word .ensures))
 
 returns : tie.Need-returns Inv-loop μ-loop
-returns c = plane-done _ _ _ _ _ _ _ _ (search needs) (search needs) (c .before .loop .inv .1)
+returns c = let all : c .before .loop .word ≡ c .before .before .before .args .words = omega arith in rw all at (c .before .loop .inv .1)
 
 pub lay-plane-spec : {M : Type 1} → statement M
 lay-plane-spec =

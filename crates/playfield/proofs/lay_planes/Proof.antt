@@ -1,8 +1,8 @@
 -- `playfield::lay_planes` meets its contract: each turn lays one plane more, whose pixels are the numbers' next bit.
-use Rattle.word.proofs.Base.{_-_, _≤_, arith, needs, length}
+use Rattle.word.proofs.Base.{_≡_, _-_, _≤_, arith, needs, length}
 use Rattle.playfield.specs.Playfield.{playfield}
 use Rattle.playfield.specs.Inner.Numbers.{Numbered}
-use Rattle.playfield.proofs.PlanesLaws.{numbered-none, numbered-turn, numbered-done}
+use Rattle.playfield.proofs.PlanesLaws.{numbered-none, numbered-turn}
 use Rattle.playfield.proofs.PlanesLaws.{drawable-inside, drawable-delay, drawable-weight, drawable-small}
 use Rattle.playfield.proofs.lay_planes.Statement.{statement}
 use Rattle.playfield.proofs.lay_planes.Tie as tie
@@ -41,7 +41,7 @@ loop-again c = (
 )
 
 returns : tie.Need-returns Inv-loop μ-loop
-returns c = numbered-done _ _ _ _ _ (search needs) (search needs) (c .before .loop .inv .1)
+returns c = let all : c .before .loop .place ≡ length (c .before .before .before .before .args .planes .now) = omega arith in rw all at (c .before .loop .inv .1)
 
 pub lay-planes-spec : {M : Type 1} → statement M
 lay-planes-spec =

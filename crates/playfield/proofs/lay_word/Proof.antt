@@ -1,7 +1,7 @@
 -- `playfield::lay_word` meets its contract: each turn lays one bit more.
-use Rattle.word.proofs.Base.{refl, _-_, _≤_, arith, needs}
+use Rattle.word.proofs.Base.{_≡_, refl, _-_, _≤_, arith, needs}
 use Rattle.playfield.specs.Inner.Numbers.{wordPixel, Grown}
-use Rattle.playfield.proofs.NumbersLaws.{wordPixel-none, grown-none, word-sum, word-turn, word-done}
+use Rattle.playfield.proofs.NumbersLaws.{wordPixel-none, grown-none, word-sum, word-turn}
 use Rattle.playfield.proofs.lay_word.Statement.{statement}
 use Rattle.playfield.proofs.lay_word.Tie as tie
 
@@ -30,7 +30,7 @@ loop-again c = (
 )
 
 returns : tie.Need-returns Inv-loop μ-loop
-returns c = word-done _ _ _ _ _ _ (search needs) (search needs) (c .before .loop .inv .1)
+returns c = let all : c .before .loop .pixel ≡ 16 = omega arith in rw all at (c .before .loop .inv .1)
 
 pub lay-word-spec : {M : Type 1} → statement M
 lay-word-spec =

@@ -1,4 +1,4 @@
--- Laws of colour numbers in an array: turns of the loops that lay a word's bits, a plane's words, and the planes.
+-- Laws of colour numbers in an array: what a word's bits give each pixel, and the loop that lays them.
 use Rattle.word.proofs.Base.{_≡_, refl, sym, ap, ap₂, _∙_, ℕ, zero, suc, _+_, _-_, _*_, _%_, _^_, _<_, _≤_, decLt}
 use Rattle.word.proofs.Base.{arith, lt-ltb, le-ltb, eqb, eqb→eq, eqb-true, eqb-false, Bool, true, false, List, length, getD, set, length-set}
 use Rattle.word.proofs.Base.{getD-set-same, getD-set-other}

@@ -6,8 +6,7 @@ use Rattle.word.specs.Word.{bit, ofBits}
 use Rattle.word.proofs.ChoiceLaws.{if-either}
 use Rattle.word.proofs.WordLaws.{bit-lt, ofBits-lt}
 use Rattle.playfield.specs.Plane.{ownBit, planePixel}
-use Rattle.playfield.specs.Playfield.{Playfield, planeDelay}
-use Rattle.playfield.specs.Playfield.{mostDelay}
+use Rattle.playfield.specs.Playfield.{mostDelay, Playfield, planeDelay}
 use Rattle.playfield.specs.Inner.Numbers.{room, Drawable, wordPixel, wordsPixel, Grown, UpTo, placePixel, Numbered}
 use Rattle.playfield.proofs.NumbersLaws.{wordPixel-before, wordPixel-within, wordPixel-behind, bit-times-le}
 

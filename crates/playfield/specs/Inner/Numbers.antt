@@ -7,8 +7,7 @@ use lib.ListN.{length, getD}
 use Rattle.word.specs.Choice.{if_then_else_}
 use Rattle.word.specs.Word.{bit, ofBits}
 use Rattle.playfield.specs.Plane.{planePixel}
-use Rattle.playfield.specs.Playfield.{Playfield, planeDelay}
-use Rattle.playfield.specs.Playfield.{mostPlanes, mostWords, mostDelay}
+use Rattle.playfield.specs.Playfield.{mostPlanes, mostWords, mostDelay, Playfield, planeDelay}
 
 -- the longest line, and room for what the longest delay pushes past its end
 abbrev pub room : ℕ

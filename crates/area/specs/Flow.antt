@@ -1,19 +1,14 @@
 -- Paper 01, "The area blit": what changes as a blit goes on, how it starts, and memory beside it.
-use Prim.Native.Nat.{ℕ, _+_}
+use Prim.Native.Nat.{ℕ}
 use mathlib.Core.Bool.{true, false}
 use mathlib.Core.List.{List}
 use lib.ListN.{getD}
-use Rattle.word.specs.declared.types.Pointer.{Pointer}
-use Rattle.word.specs.Pointer.{pointer}
 use Rattle.file.specs.Places.{pointerA, pointerB, pointerC, pointerD, sourceA, sourceB, sourceC}
+use Rattle.file.specs.Pointers.{pointerAt}
 use Rattle.area.specs.declared.types.Pointers.{Pointers}
 use Rattle.area.specs.declared.types.Sources.{Sources}
 use Rattle.area.specs.declared.types.Pending.{Pending}
 use Rattle.area.specs.declared.types.Flow.{Flow}
-
--- the pointer whose high half stands at a place of the file
-unfoldable pub pointerAt : (file : List ℕ) → (place : ℕ) → Pointer
-pointerAt file place = pointer (getD file place 0) (getD file (place + 1) 0)
 
 unfoldable pub pointers : (file : List ℕ) → Pointers
 pointers file =

@@ -1,31 +1,19 @@
 // What changes as a blit goes on, as it starts from the register file.
 ghost use mathlib.Core.Path.{_≡_};
-ghost use Prim.Native.Nat.{_<_};
-ghost use Rattle.file.specs.Places.{fileLength};
-ghost use Rattle.area.specs.Flow.{pointerAt, pointers, sources, nothing, startFrom, start};
+ghost use Rattle.area.specs.Flow.{pointers, sources, nothing, startFrom, start};
 use crate::types::Earlier;
 use crate::types::Flow;
 use crate::types::Pending;
 use crate::types::Pointers;
 use crate::types::Sources;
-use word::types::Pointer;
-
-fn pointer_at(file: &[u16], place: u32) -> Pointer
-    requires { ⌜ place < fileLength ⌝ }
-    ensures { λ held. ⌜ held ≡ pointerAt (now (file .entry)) place ⌝ }
-{
-    let high = word::memory::read(file, place);
-    let low = word::memory::read(file, place + 1);
-    word::pointer::pointer(high, low)
-}
 
 pub fn pointers(file: &[u16]) -> Pointers
     ensures { λ held. ⌜ held ≡ pointers (now (file .entry)) ⌝ }
 {
-    let a = pointer_at(file, file::POINTER_A);
-    let b = pointer_at(file, file::POINTER_B);
-    let c = pointer_at(file, file::POINTER_C);
-    let d = pointer_at(file, file::POINTER_D);
+    let a = file::pointer_at(file, file::POINTER_A);
+    let b = file::pointer_at(file, file::POINTER_B);
+    let c = file::pointer_at(file, file::POINTER_C);
+    let d = file::pointer_at(file, file::POINTER_D);
     Pointers { a, b, c, d }
 }
 

@@ -16,7 +16,8 @@ use Rattle.area.specs.Setup.{setup}
 use Rattle.area.specs.Flow.{State, state, sources, start}
 use Rattle.area.proofs.SixteenBitsLaws.{Bounded, areaBlit-bounded}
 use Rattle.refusal.specs.Refusal.{stepRefusal, refusal}
-use Rattle.blit.specs.WriteBack.{putPointer, putPointers, putSource, putSources, putFlag}
+use Rattle.file.specs.Pointers.{putFlag}
+use Rattle.blit.specs.WriteBack.{putPointer, putPointers, putSource, putSources}
 use Rattle.blit.specs.Blit.{Outcome, finished, done, refused, answered, blitStep, blit}
 use Rattle.blit.specs.AcceptedAgain.{Ready, AcceptedAgain}
 use Rattle.blit.proofs.BlitLaws.{answered-either, answered-keeps-memory-length}

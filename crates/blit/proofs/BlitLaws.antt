@@ -8,7 +8,6 @@ use Rattle.word.specs.Pointer.{pointerEnd, high, low}
 use Rattle.word.specs.Size.{height, width}
 use Rattle.word.proofs.ChoiceLaws.{if-either}
 use Rattle.word.proofs.SizeLaws.{height-le, words-le}
-use Rattle.file.specs.Places.{flag}
 use Rattle.area.specs.declared.types.Pointers.{Pointers}
 use Rattle.area.specs.declared.types.Flow.{Flow}
 use Rattle.refusal.specs.declared.types.Refusal.{Refusal}
@@ -25,7 +24,8 @@ use Rattle.area.proofs.RowsLaws.{areaBlit-keeps-length}
 use Rattle.area.proofs.CountLaws.{each, rows-count-all}
 use Rattle.refusal.specs.Refusal.{plan, stepRefusal, refusal, verdictNumber, handed}
 use Rattle.refusal.proofs.RefusalLaws.{plan-lt-a, plan-lt-b, plan-lt-c, plan-lt-d, refusal-is-some}
-use Rattle.blit.specs.WriteBack.{putPointer, putPointers, putSource, putSources, putFlag, writeBack}
+use Rattle.file.specs.Pointers.{putFlag}
+use Rattle.blit.specs.WriteBack.{putPointer, putPointers, putSource, putSources, writeBack}
 use Rattle.blit.specs.Blit.{Outcome, finished, done, refused, answered, blitStep, blit, left}
 
 pub putPointer-when-used : (used : Bool) (place up down : ℕ) (pointer : Pointer) (file one two : List ℕ)
@@ -34,14 +34,6 @@ pub putPointer-when-used : (used : Bool) (place up down : ℕ) (pointer : Pointe
 unfolding putPointer
 putPointer-when-used used place up down pointer file one two uses upper first lower second =
     rw (uses, second, first, upper, lower)
-
-pub putFlag-when-zero : (allzero : Bool) (file after : List ℕ) → allzero ≡ true → after ≡ set file flag 1 → after ≡ putFlag allzero file
-unfolding putFlag
-putFlag-when-zero allzero file after none same = rw none same
-
-pub putFlag-when-some : (allzero : Bool) (file after : List ℕ) → allzero ≡ false → after ≡ set file flag 0 → after ≡ putFlag allzero file
-unfolding putFlag
-putFlag-when-some allzero file after some same = rw some same
 
 pub writeBack-of-parts : (uses : Uses) (end : Flow) (file one two three : List ℕ)
     → one ≡ putPointers uses (end .pointers) file

@@ -14,7 +14,7 @@ use Rattle.file.specs.File.{con1}
 use Rattle.area.specs.Setup.{direction, setup}
 use Rattle.area.specs.Flow.{pointers, start}
 use Rattle.quiet.specs.Stream.{standing, standingAt}
-use Rattle.refusal.proofs.RefusalLaws.{pointerAt-lt}
+use Rattle.file.proofs.PointersLaws.{pointerAt-lt}
 use Rattle.blit.specs.CopyOfOneRow.{plain, spot, CopyOfOneRow}
 use Rattle.blit.specs.CopyOfARectangle.{fromA, toD}
 use Rattle.blit.proofs.CopyOfARectangle.{setup-copies, copy-of-a-rectangle}

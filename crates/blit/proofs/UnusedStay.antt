@@ -12,7 +12,8 @@ use Rattle.area.specs.declared.types.Sources.{Sources}
 use Rattle.area.specs.Setup.{setup}
 use Rattle.refusal.specs.Touch.{among}
 use Rattle.refusal.specs.Refusal.{refusal}
-use Rattle.blit.specs.WriteBack.{putPointer, putPointers, putSource, putSources, putFlag}
+use Rattle.file.specs.Pointers.{putFlag}
+use Rattle.blit.specs.WriteBack.{putPointer, putPointers, putSource, putSources}
 use Rattle.blit.specs.Blit.{Outcome, finished, done, refused, blit}
 use Rattle.blit.proofs.BlitLaws.{answered-either}
 use Rattle.blit.specs.UnusedStay.{pointerPlaces, sourcePlaces, changeable, UnusedStay}

@@ -1,12 +1,12 @@
 -- Paper 01, "The area blit": what a blit writes back to the register file.
-use Prim.Native.Nat.{ℕ, _+_}
+use Prim.Native.Nat.{ℕ}
 use mathlib.Core.Bool.{Bool}
 use mathlib.Core.List.{List}
 use lib.ListN.{set}
 use Rattle.word.specs.declared.types.Pointer.{Pointer}
 use Rattle.word.specs.Choice.{if_then_else_}
-use Rattle.word.specs.Pointer.{high, low}
-use Rattle.file.specs.Places.{pointerA, pointerB, pointerC, pointerD, sourceA, sourceB, sourceC, flag}
+use Rattle.file.specs.Places.{pointerA, pointerB, pointerC, pointerD, sourceA, sourceB, sourceC}
+use Rattle.file.specs.Pointers.{withPointer, putFlag}
 use Rattle.word.specs.declared.types.Uses.{Uses}
 use Rattle.area.specs.declared.types.Pointers.{Pointers}
 use Rattle.area.specs.declared.types.Sources.{Sources}
@@ -15,7 +15,7 @@ use Rattle.area.specs.declared.types.Flow.{Flow}
 -- "Unused pointers stay"; a used one is written to its two registers
 unfoldable pub putPointer : (used : Bool) → (place : ℕ) → Pointer → (file : List ℕ) → List ℕ
 putPointer used place pointer file =
-    if used then set (set file place (high pointer)) (place + 1) (low pointer) else file
+    if used then withPointer place pointer file else file
 
 unfoldable pub putPointers : Uses → Pointers → (file : List ℕ) → List ℕ
 putPointers uses pointers file =
@@ -33,10 +33,6 @@ putSources uses sources file =
     putSource (uses .c) sourceC (sources .c)
     (putSource (uses .b) sourceB (sources .b)
     (putSource (uses .a) sourceA (sources .a) file))
-
--- "The zero flag becomes 1 exactly when every final word was zero"
-unfoldable pub putFlag : (allzero : Bool) → (file : List ℕ) → List ℕ
-putFlag allzero file = set file flag (if allzero then 1 else 0)
 
 -- all of it, from where a blit's flow ends
 abbrev pub writeBack : Uses → Flow → (file : List ℕ) → List ℕ

@@ -2,7 +2,7 @@
 ghost use mathlib.Core.Path.{_≡_};
 ghost use Prim.Native.Nat.{_<_};
 ghost use Rattle.file.specs.Places.{fileLength};
-ghost use Rattle.blit.specs.WriteBack.{putPointer, putPointers, putSource, putSources, putFlag, writeBack};
+ghost use Rattle.blit.specs.WriteBack.{putPointer, putPointers, putSource, putSources, writeBack};
 use area::types::Flow;
 use area::types::Pointers;
 use area::types::Sources;
@@ -14,8 +14,7 @@ fn put_pointer(file: &mut [u16], used: bool, place: u32, pointer: Pointer)
     ensures { λ _. ⌜ now (file .exit) ≡ putPointer used place pointer (now (file .entry)) ⌝ }
 {
     if used {
-        word::memory::write(file, place, pointer.high());
-        word::memory::write(file, place + 1, pointer.low());
+        file::put_pointer(file, place, pointer);
     }
 }
 
@@ -48,16 +47,6 @@ fn put_sources(file: &mut [u16], uses: Uses, sources: Sources)
     put_source(file, uses.c, file::SOURCE_C, sources.c);
 }
 
-fn put_flag(file: &mut [u16], allzero: bool)
-    ensures { λ _. ⌜ now (file .exit) ≡ putFlag allzero (now (file .entry)) ⌝ }
-{
-    if allzero {
-        word::memory::write(file, file::FLAG, 1);
-    } else {
-        word::memory::write(file, file::FLAG, 0);
-    }
-}
-
 fn put_all(file: &mut [u16], uses: Uses, end: Flow)
     ensures { λ _. ⌜ now (file .exit) ≡ writeBack uses end (now (file .entry)) ⌝ }
 {
@@ -65,7 +54,7 @@ fn put_all(file: &mut [u16], uses: Uses, end: Flow)
     let sources = end.sources;
     put_pointers(file, uses, pointers);
     put_sources(file, uses, sources);
-    put_flag(file, end.allzero);
+    file::put_flag(file, end.allzero);
 }
 
 // The same calls where the file is whole: there the compiler sees that every register has its place, and tests none.
@@ -80,5 +69,5 @@ pub fn write_back(file: &mut [u16], uses: Uses, end: Flow)
     let sources = end.sources;
     put_pointers(file, uses, pointers);
     put_sources(file, uses, sources);
-    put_flag(file, end.allzero);
+    file::put_flag(file, end.allzero);
 }

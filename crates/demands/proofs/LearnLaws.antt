@@ -10,7 +10,8 @@ use Rattle.file.specs.File.{con0}
 use Rattle.word.specs.Control.{uses}
 use Rattle.area.specs.Flow.{start}
 use Rattle.refusal.specs.Refusal.{stepRefusal}
-use Rattle.blit.specs.WriteBack.{putPointer, putPointers, putSource, putSources, putFlag}
+use Rattle.file.specs.Pointers.{putFlag}
+use Rattle.blit.specs.WriteBack.{putPointer, putPointers, putSource, putSources}
 use Rattle.blit.specs.Blit.{Outcome, finished, done, refused, blitStep}
 use Rattle.blit.proofs.BlitLaws.{answered-either}
 use Rattle.knowledge.specs.declared.types.Known.{Known}

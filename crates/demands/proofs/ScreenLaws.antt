@@ -10,8 +10,10 @@ use Rattle.word.specs.Pointer.{high, low}
 use Rattle.file.specs.File.{kept}
 use Rattle.file.specs.Places.{blitterLength, control0, control1, firstMask, lastMask, pointerA, pointerB, pointerC, pointerD, moduloA, moduloB, moduloC, moduloD, sourceA, sourceB, sourceC, copcon, flag}
 use Rattle.area.specs.Setup.{masks, modulos, setup}
-use Rattle.area.specs.Flow.{State, pointerAt, pointers, sources, start}
-use Rattle.blit.specs.WriteBack.{putPointer, putPointers, putSource, putSources, putFlag}
+use Rattle.file.specs.Pointers.{pointerAt}
+use Rattle.area.specs.Flow.{State, pointers, sources, start}
+use Rattle.file.specs.Pointers.{putFlag}
+use Rattle.blit.specs.WriteBack.{putPointer, putPointers, putSource, putSources}
 use Rattle.refusal.specs.Refusal.{stepRefusal}
 use Rattle.blit.specs.Blit.{finished, done, refused, answered, blitStep}
 use Rattle.knowledge.specs.declared.types.Known.{Known}

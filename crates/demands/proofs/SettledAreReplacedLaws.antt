@@ -7,9 +7,10 @@ use Rattle.word.specs.Pointer.{pointerEnd}
 use Rattle.word.specs.Size.{height, width}
 use Rattle.file.specs.Places.{pointerD}
 use Rattle.area.specs.Setup.{setup}
-use Rattle.area.specs.Flow.{state, pointerAt, pointers, start}
+use Rattle.file.specs.Pointers.{pointerAt}
+use Rattle.area.specs.Flow.{state, pointers, start}
 use Rattle.refusal.proofs.TouchLaws.{touches-stay}
-use Rattle.refusal.proofs.RefusalLaws.{pointerAt-lt}
+use Rattle.file.proofs.PointersLaws.{pointerAt-lt}
 use Rattle.job.specs.declared.types.Step.{Step}
 use Rattle.job.specs.declared.types.Read.{Read}
 use Rattle.job.specs.Step.{operands, found, front}

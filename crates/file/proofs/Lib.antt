@@ -1,3 +1,4 @@
 -- The laws of the register file.
 pub mod PlaceLaws
 pub mod FileLaws
+pub mod PointersLaws

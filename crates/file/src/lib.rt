@@ -1,10 +1,12 @@
 // The register file: where each register stands, and which of its bits are kept.
 ghost use mathlib.Core.Path.{_≡_};
-ghost use Prim.Native.Nat.{_+_, _≤_};
+ghost use Prim.Native.Nat.{_+_, _<_, _≤_};
 ghost use lib.ListN.{length, getD};
 ghost use Rattle.word.specs.Choice.{every};
 ghost use Rattle.file.specs.Places.{fileLength, colourCount, colour0};
 ghost use Rattle.file.specs.File.{place, keptBits, kept, keptAt, accepted};
+ghost use Rattle.file.specs.Pointers.{pointerAt, withPointer, putFlag};
+use word::types::Pointer;
 
 // How many words a file has.
 pub const WORDS: usize = 53;
@@ -163,4 +165,32 @@ pub fn accepted(file: &[u16]) -> bool
     }
     let flag = file[FLAG as usize];
     (kept(FLAG, flag) == flag) & (colours_keep(file) & keeps(file, COLOUR_0))
+}
+
+// The pointer in the two registers from a place on.
+pub fn pointer_at(file: &[u16], place: u32) -> Pointer
+    requires { ⌜ place < fileLength ⌝ }
+    ensures { λ held. ⌜ held ≡ pointerAt (now (file .entry)) place ⌝ }
+{
+    let high = word::memory::read(file, place);
+    let low = word::memory::read(file, place + 1);
+    word::pointer::pointer(high, low)
+}
+
+pub fn put_pointer(file: &mut [u16], place: u32, pointer: Pointer)
+    requires { ⌜ place < fileLength ⌝ }
+    ensures { λ _. ⌜ now (file .exit) ≡ withPointer place pointer (now (file .entry)) ⌝ }
+{
+    word::memory::write(file, place, pointer.high());
+    word::memory::write(file, place + 1, pointer.low());
+}
+
+pub fn put_flag(file: &mut [u16], allzero: bool)
+    ensures { λ _. ⌜ now (file .exit) ≡ putFlag allzero (now (file .entry)) ⌝ }
+{
+    if allzero {
+        word::memory::write(file, FLAG, 1);
+    } else {
+        word::memory::write(file, FLAG, 0);
+    }
 }

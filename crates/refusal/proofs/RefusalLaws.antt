@@ -8,7 +8,8 @@ use Rattle.file.specs.File.{accepted, con1}
 use Rattle.file.specs.Places.{pointerA, pointerB, pointerC, pointerD}
 use Rattle.area.specs.Setup.{setup}
 use Rattle.word.specs.Control.{line}
-use Rattle.area.specs.Flow.{pointerAt, pointers}
+use Rattle.file.proofs.PointersLaws.{pointerAt-lt}
+use Rattle.area.specs.Flow.{pointers}
 use Rattle.refusal.specs.declared.types.Plan.{Plan}
 use Rattle.refusal.specs.declared.types.Verdict.{Verdict}
 use Rattle.refusal.specs.declared.types.Refusal.{Refusal}
@@ -18,10 +19,6 @@ use Rattle.refusal.specs.Refusal.{bothFills, fillUpward, plan, goesOut, 
 use Rattle.word.specs.Memory.{memorySize}
 use Rattle.word.specs.declared.types.Pointer.{Pointer}
 use Rattle.refusal.proofs.TouchLaws.{channelLeaves-at-end}
-
-pub pointerAt-lt : (file : List ℕ) (place : ℕ) → pointerAt file place .word < pointerEnd
-unfolding pointerAt pointer
-pointerAt-lt file place = omega arith
 
 module _ (file : List ℕ) (size : ℕ) (by : Plan) (same : by ≡ plan file size) where
   pub plan-lt-a : by .pointers .a .word < pointerEnd

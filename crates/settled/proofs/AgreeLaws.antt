@@ -10,7 +10,8 @@ use Rattle.word.specs.declared.types.Uses.{Uses}
 use Rattle.area.specs.Setup.{shifts, direction, fill, masks, modulos, setup}
 use Rattle.file.specs.File.{con0, con1}
 use Rattle.word.specs.Control.{uses, function, carryIn, line}
-use Rattle.area.specs.Flow.{pointerAt, pointers, sources, start}
+use Rattle.file.specs.Pointers.{pointerAt}
+use Rattle.area.specs.Flow.{pointers, sources, start}
 use Rattle.refusal.specs.Touch.{touches, leaves, channelLeaves}
 use Rattle.refusal.specs.declared.types.Plan.{Plan}
 use Rattle.refusal.specs.Refusal.{bothFills, fillUpward, plan, leaving, stepRefusal}

@@ -16,9 +16,11 @@ use Rattle.area.specs.Store.{memoryWith, countWith, storePending}
 use Rattle.area.specs.Rows.{areaBlit}
 use Rattle.area.proofs.CountLaws.{each, each-of-used, rows-count-all}
 use Rattle.refusal.specs.Refusal.{plan, stepRefusal}
-use Rattle.blit.specs.WriteBack.{putPointer, putPointers, putSource, putSources, putFlag}
+use Rattle.file.specs.Pointers.{putFlag}
+use Rattle.blit.specs.WriteBack.{putPointer, putPointers, putSource, putSources}
 use Rattle.blit.specs.Blit.{Outcome, finished, done, answered, blitStep}
-use Rattle.refusal.proofs.RefusalLaws.{stepRefusal-of-none, leaving-of-d, pointerAt-lt}
+use Rattle.file.proofs.PointersLaws.{pointerAt-lt}
+use Rattle.refusal.proofs.RefusalLaws.{stepRefusal-of-none, leaving-of-d}
 use Rattle.runner.specs.Run.{machine, after, runFrom}
 use Rattle.stores.specs.Stores.{Store, stores, allZero, finalD}
 use Rattle.stores.proofs.OnlyDLaws.{OnlyD}

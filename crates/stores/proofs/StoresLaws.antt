@@ -17,7 +17,7 @@ use Rattle.area.specs.Store.{wait, storePending}
 use Rattle.area.specs.Move.{moveOn, rowEnd}
 use Rattle.area.specs.Rows.{finishedWord, storedBefore, oneWord, words, rowStart, oneRow, rows}
 use Rattle.area.proofs.ChannelLaws.{oneRow-moves-d}
-use Rattle.refusal.proofs.RefusalLaws.{pointerAt-lt}
+use Rattle.file.proofs.PointersLaws.{pointerAt-lt}
 use Rattle.stores.specs.Stores.{Store, rowStores, blitStores, stores, allZero, finalD}
 
 pub rowStores-length : (setup : Setup) (width remaining : ℕ) (now : State) → length (rowStores setup width remaining now) ≡ remaining

@@ -11,7 +11,8 @@ use Rattle.word.specs.Pointer.{pointer, half, moved, passed, nextRow}
 use Rattle.file.specs.File.{registers, placeIn, place, isRegister, keptBits, kept, keptAt, accepted}
 use Rattle.area.specs.Setup.{shifts, direction, fill, masks, modulos, setup}
 use Rattle.word.specs.Control.{uses}
-use Rattle.area.specs.Flow.{pointerAt, pointers, sources, start}
+use Rattle.file.specs.Pointers.{pointerAt}
+use Rattle.area.specs.Flow.{pointers, sources, start}
 use Rattle.area.specs.Fetch.{fetched, fetch}
 use Rattle.area.specs.Finish.{maskedA, result, final, finish}
 use Rattle.area.specs.Store.{wait, memoryWith, countWith, storePending}

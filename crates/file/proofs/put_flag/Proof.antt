@@ -1,8 +1,8 @@
--- `blit::registers::put_flag` meets its contract: 1 or 0.
-use Rattle.blit.proofs.BlitLaws.{putFlag-when-zero, putFlag-when-some}
+-- `file::put_flag` meets its contract: 1 or 0.
+use Rattle.file.proofs.PointersLaws.{putFlag-when-zero, putFlag-when-some}
 use Rattle.word.proofs.Base.{needs}
-use Rattle.blit.proofs.registers.put_flag.Statement.{statement}
-use Rattle.blit.proofs.registers.put_flag.Tie as tie
+use Rattle.file.proofs.put_flag.Statement.{statement}
+use Rattle.file.proofs.put_flag.Tie as tie
 
 returns : tie.Need-returns
 returns c = search putFlag-when-zero

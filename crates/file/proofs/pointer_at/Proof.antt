@@ -1,8 +1,8 @@
--- `area::flow::pointer_at` meets its contract: the two halves, made one.
+-- `file::pointer_at` meets its contract: the two halves, made one.
 use Rattle.word.proofs.Base.{refl, needs}
-use Rattle.area.specs.Flow.{pointerAt}
-use Rattle.area.proofs.flow.pointer_at.Statement.{statement}
-use Rattle.area.proofs.flow.pointer_at.Tie as tie
+use Rattle.file.specs.Pointers.{pointerAt}
+use Rattle.file.proofs.pointer_at.Statement.{statement}
+use Rattle.file.proofs.pointer_at.Tie as tie
 
 returns : tie.Need-returns
 unfolding pointerAt

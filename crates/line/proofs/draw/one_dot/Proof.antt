@@ -1,0 +1,11 @@
+-- `line::draw::one_dot` meets its contract: the dot, and what follows it.
+use Rattle.line.proofs.LineLaws.{oneDot-of-parts}
+use Rattle.word.proofs.Base.{needs}
+use Rattle.line.proofs.draw.one_dot.Statement.{statement}
+use Rattle.line.proofs.draw.one_dot.Tie as tie
+
+returns : tie.Need-returns
+returns c = search oneDot-of-parts
+
+pub one-dot-spec : {M : Type 1} → statement M
+one-dot-spec = tie.close (tie.spec (λ c κs. search needs) (λ c κs. search needs) (λ c. search needs) returns)

@@ -11,7 +11,7 @@ use Rattle.word.proofs.SizeLaws.{height-le, words-le}
 use Rattle.area.specs.declared.types.Pointers.{Pointers}
 use Rattle.area.specs.declared.types.Flow.{Flow}
 use Rattle.refusal.specs.declared.types.Refusal.{Refusal}
-use Rattle.refusal.specs.declared.types.Plan.{Plan}
+use Rattle.refusal.specs.declared.types.AreaPlan.{AreaPlan}
 use Rattle.refusal.specs.declared.types.Verdict.{Verdict}
 use Rattle.refusal.specs.declared.types.Verdict.the-variants as verdicts
 use Rattle.blit.specs.declared.types.Answer.{Answer}
@@ -22,7 +22,7 @@ use Rattle.area.specs.Store.{storePending, countWith}
 use Rattle.area.specs.Rows.{areaBlit}
 use Rattle.area.proofs.RowsLaws.{areaBlit-keeps-length}
 use Rattle.area.proofs.CountLaws.{each, rows-count-all}
-use Rattle.refusal.specs.Refusal.{plan, stepRefusal, refusal, verdictNumber, handed}
+use Rattle.refusal.specs.Refusal.{areaPlan, stepRefusal, refusal, verdictNumber, handed}
 use Rattle.refusal.proofs.RefusalLaws.{plan-lt-a, plan-lt-b, plan-lt-c, plan-lt-d, refusal-is-some}
 use Rattle.file.specs.Pointers.{putFlag}
 use Rattle.blit.specs.WriteBack.{putPointer, putPointers, putSource, putSources, writeBack}
@@ -43,7 +43,7 @@ pub writeBack-of-parts : (uses : Uses) (end : Flow) (file one two three : List �
 writeBack-of-parts uses end file one two three points sources flags = rw (flags, sources, points)
 
 -- what a blit goes by
-module _ (file : List ℕ) (size : ℕ) (by : Plan) (same : by ≡ plan file size) where
+module _ (file : List ℕ) (size : ℕ) (by : AreaPlan) (same : by ≡ areaPlan file size) where
   pub plan-shifts-a : by .setup .shifts .a < 16
   unfolding setup shifts
   plan-shifts-a = rw same (omega arith)
@@ -53,7 +53,7 @@ module _ (file : List ℕ) (size : ℕ) (by : Plan) (same : by ≡ plan file siz
   plan-shifts-b = rw same (omega arith)
 
 -- how a blit starts: where its pointers stand, with none waiting and none stored
-module _ (file : List ℕ) (size : ℕ) (by : Plan) (flow : Flow) (same : by ≡ plan file size) (starts : flow ≡ startFrom (by .pointers) (sources file)) where
+module _ (file : List ℕ) (size : ℕ) (by : AreaPlan) (flow : Flow) (same : by ≡ areaPlan file size) (starts : flow ≡ startFrom (by .pointers) (sources file)) where
   pub start-a : flow .pointers .a .word < pointerEnd
   start-a = rw starts (plan-lt-a file size by same)
 
@@ -72,30 +72,30 @@ module _ (file : List ℕ) (size : ℕ) (by : Plan) (flow : Flow) (same : by ≡
   pub start-room : flow .stored + by .height * 64 < 4294967232
   start-room = rw (starts, same) (omega (arith, height-le size))
 
-pub finished-of-parts : (file : List ℕ) (size : ℕ) (by : Plan) (memory after : List ℕ) (flow end : Flow)
-    → by ≡ plan file size
+pub finished-of-parts : (file : List ℕ) (size : ℕ) (by : AreaPlan) (memory after : List ℕ) (flow end : Flow)
+    → by ≡ areaPlan file size
     → flow ≡ startFrom (by .pointers) (sources file)
     → state after end ≡ areaBlit (by .setup) (by .width) (by .height) (state memory flow)
     → state after end ≡ finished memory file size
 unfolding finished start
 finished-of-parts file size by memory after flow end same starts does = rw (starts, same) at does
 
-pub done-of-parts : (file : List ℕ) (size : ℕ) (by : Plan) (memory after changed : List ℕ) (end : Flow)
-    → by ≡ plan file size
+pub done-of-parts : (file : List ℕ) (size : ℕ) (by : AreaPlan) (memory after changed : List ℕ) (end : Flow)
+    → by ≡ areaPlan file size
     → state after end ≡ finished memory file size
     → changed ≡ writeBack (by .setup .uses) end file
     → left (Done (end .stored)) after changed ≡ done file (finished memory file size)
 unfolding done
 done-of-parts file size by memory after changed end same does writes = rw (← does, writes, same)
 
-pub answered-when-done : (memory file after changed : List ℕ) (size stored : ℕ) (verdict : Verdict) (by : Plan)
+pub answered-when-done : (memory file after changed : List ℕ) (size stored : ℕ) (verdict : Verdict) (by : AreaPlan)
     → verdict ≡ verdicts.Lawful by → left (Done stored) after changed ≡ done file (finished memory file size)
     → left (Done stored) after changed ≡ answered (verdictNumber verdict) memory file size
 unfolding answered
 answered-when-done memory file after changed size stored verdict by lawful does = rw lawful does
 
-pub plan-of-verdict : (file : List ℕ) (size : ℕ) (verdict : Verdict) (by : Plan) → verdict ≡ verdicts.Lawful by
-    → handed verdict (plan file size) ≡ plan file size → by ≡ plan file size
+pub plan-of-verdict : (file : List ℕ) (size : ℕ) (verdict : Verdict) (by : AreaPlan) → verdict ≡ verdicts.Lawful by
+    → handed verdict (areaPlan file size) ≡ areaPlan file size → by ≡ areaPlan file size
 plan-of-verdict file size verdict by lawful hands = rw lawful at hands
 
 pub answered-when-refused : (memory file : List ℕ) (size : ℕ) (why : Refusal) (verdict : Verdict)

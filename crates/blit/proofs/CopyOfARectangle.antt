@@ -20,7 +20,7 @@ use Rattle.quiet.specs.Stream.{standing, standingAt, laidAt}
 use Rattle.quiet.proofs.StreamLaws.{laidAt-found}
 use Rattle.quiet.proofs.CopyLaws.{Copying, areaBlit-copies}
 use Rattle.refusal.specs.Touch.{rowTouches, touches, leaves}
-use Rattle.refusal.specs.Refusal.{refusal, plan}
+use Rattle.refusal.specs.Refusal.{refusal, areaPlan}
 use Rattle.refusal.proofs.TouchLaws.{leaves-of-append}
 use Rattle.refusal.proofs.RefusalLaws.{refusal-of-none, leaving-of-d}
 use Rattle.blit.specs.Blit.{finished, done, answered, blit}
@@ -99,7 +99,7 @@ copy-of-a-rectangle way memory file size all copies lawful apart =
     let inside : (k : ℕ) → k < words → toD file size k < length memory =
     standingAt-inside (setup file .direction) (setup file .uses .d) (length memory) (width size) (setup file .modulos .d) (height size)
     (start file .pointers .d) (copying .d) (width-positive size)
-    (leaving-of-d (length memory) (plan file size) (copying .d) (refusal-of-none (length memory) file size lawful)) in
+    (leaving-of-d (length memory) (areaPlan file size) (copying .d) (refusal-of-none (length memory) file size lawful)) in
     record {
       laid = laid;
       found =

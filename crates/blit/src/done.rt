@@ -2,15 +2,15 @@
 ghost use mathlib.Core.Path.{_≡_};
 ghost use Rattle.area.specs.Flow.{state};
 ghost use Rattle.blit.specs.Blit.{finished, done, answered, left};
-ghost use Rattle.refusal.specs.Refusal.{plan, verdictNumber, handed};
+ghost use Rattle.refusal.specs.Refusal.{areaPlan, verdictNumber, handed};
 use crate::types::Answer;
 use area::types::Flow;
-use refusal::types::Plan;
+use refusal::types::AreaPlan;
 use refusal::types::Verdict;
 
 // All rows of a blit that nothing refuses, by its plan.
-fn finished(ram: &mut [u16], file: &[u16], size: u16, by: Plan) -> Flow
-    requires { ⌜ by ≡ plan (now file) size ⌝ }
+fn finished(ram: &mut [u16], file: &[u16], size: u16, by: AreaPlan) -> Flow
+    requires { ⌜ by ≡ areaPlan (now file) size ⌝ }
     ensures { λ end. ⌜ state (now (ram .exit)) end ≡ finished (now (ram .entry)) (now (file .entry)) size ⌝ }
 {
     let setup = by.setup;
@@ -20,8 +20,8 @@ fn finished(ram: &mut [u16], file: &[u16], size: u16, by: Plan) -> Flow
 }
 
 // Does it, writes back what it leaves, and answers the count of words stored.
-fn done(ram: &mut [u16], file: &mut [u16], size: u16, by: Plan) -> u32
-    requires { ⌜ by ≡ plan (now file) size ⌝ }
+fn done(ram: &mut [u16], file: &mut [u16], size: u16, by: AreaPlan) -> u32
+    requires { ⌜ by ≡ areaPlan (now file) size ⌝ }
     ensures { λ stored. ⌜
         left (Answer.Done stored) (now (ram .exit)) (now (file .exit))
         ≡ done (now (file .entry)) (finished (now (ram .entry)) (now (file .entry)) size) ⌝ }
@@ -33,7 +33,7 @@ fn done(ram: &mut [u16], file: &mut [u16], size: u16, by: Plan) -> u32
 
 // Does a blit, or refuses it as the verdict says.
 pub fn answered(ram: &mut [u16], file: &mut [u16], size: u16, verdict: Verdict) -> Answer
-    requires { ⌜ handed verdict (plan (now file) size) ≡ plan (now file) size ⌝ }
+    requires { ⌜ handed verdict (areaPlan (now file) size) ≡ areaPlan (now file) size ⌝ }
     ensures { λ answer. ⌜
         left answer (now (ram .exit)) (now (file .exit))
         ≡ answered (verdictNumber verdict) (now (ram .entry)) (now (file .entry)) size ⌝ }

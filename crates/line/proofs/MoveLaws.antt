@@ -1,5 +1,5 @@
 -- Laws of the moves after a dot.
-use Rattle.word.proofs.Base.{_≡_, ℕ, _+_, _%_, _<_, arith, Bool, true, false, eq-eqb, ne-eqb}
+use Rattle.word.proofs.Base.{_≡_, ℕ, _+_, _%_, _<_, arith, Bool, true, false, eqb, eq-eqb, ne-eqb}
 use Rattle.word.specs.declared.types.Pointer.{Pointer}
 use Rattle.word.specs.Pointer.{pointerEnd, up, down, plus, minus}
 use Rattle.word.proofs.ChoiceLaws.{if-either}
@@ -50,29 +50,52 @@ module _ (line : Line) (sign : Bool) (from : Spot) where
   unfolding movedSpot
   movedSpot-when-clear between end clear first then = rw clear (rw first at then)
 
--- a shift stays one of 0 to 15, and C's pointer a word number below 262,144
+-- what holds of a spot after any move of one that has it holds after the moves of a dot
+module _ (Holds : Spot → Type 0)
+    (again : (row : ℕ) (upward : Bool) (from : Spot) → Holds from → Holds (vertical row upward from))
+    (along : (leftward : Bool) (from : Spot) → Holds from → Holds (horizontal leftward from)) where
+  sometimes-holds : (line : Line) (from : Spot) → Holds from → Holds (sometimes line from)
+  unfolding sometimes
+  sometimes-holds line from holds =
+      if-either Holds (line .octant .sud) (vertical (line .row) (line .octant .sul) from) (horizontal (line .octant .sul) from)
+      (again (line .row) (line .octant .sul) from holds) (along (line .octant .sul) from holds)
+
+  always-holds : (line : Line) (from : Spot) → Holds from → Holds (always line from)
+  unfolding always
+  always-holds line from holds =
+      if-either Holds (line .octant .sud) (horizontal (line .octant .aul) from) (vertical (line .row) (line .octant .aul) from)
+      (along (line .octant .aul) from holds) (again (line .row) (line .octant .aul) from holds)
+
+  movedSpot-holds : (line : Line) (sign : Bool) (from : Spot) → Holds from → Holds (movedSpot line sign from)
+  unfolding movedSpot
+  movedSpot-holds line true from holds = always-holds line from holds
+  movedSpot-holds line false from holds = always-holds line (sometimes line from) (sometimes-holds line from holds)
+
+-- a shift stays one of 0 to 15
 vertical-shift-lt : (row : ℕ) (upward : Bool) (from : Spot) → from .shift < 16 → vertical row upward from .shift < 16
 unfolding vertical
 vertical-shift-lt row upward from small = small
 
-horizontal-shift-lt : (leftward : Bool) (from : Spot) → horizontal leftward from .shift < 16
+horizontal-shift-lt : (leftward : Bool) (from : Spot) → from .shift < 16 → horizontal leftward from .shift < 16
 unfolding left right
-horizontal-shift-lt true from = omega arith
-horizontal-shift-lt false from = omega arith
-
-sometimes-shift-lt : (line : Line) (from : Spot) → from .shift < 16 → sometimes line from .shift < 16
-unfolding sometimes
-sometimes-shift-lt line from small =
-    if-either (λ (to : Spot). to .shift < 16) (line .octant .sud) (vertical (line .row) (line .octant .sul) from) (horizontal (line .octant .sul) from)
-    (vertical-shift-lt (line .row) (line .octant .sul) from small) (horizontal-shift-lt (line .octant .sul) from)
-
-always-shift-lt : (line : Line) (from : Spot) → from .shift < 16 → always line from .shift < 16
-unfolding always
-always-shift-lt line from small =
-    if-either (λ (to : Spot). to .shift < 16) (line .octant .sud) (horizontal (line .octant .aul) from) (vertical (line .row) (line .octant .aul) from)
-    (horizontal-shift-lt (line .octant .aul) from) (vertical-shift-lt (line .row) (line .octant .aul) from small)
+horizontal-shift-lt true from small = omega arith
+horizontal-shift-lt false from small = omega arith
 
 pub movedSpot-shift-lt : (line : Line) (sign : Bool) (from : Spot) → from .shift < 16 → movedSpot line sign from .shift < 16
-unfolding movedSpot
-movedSpot-shift-lt line true from small = always-shift-lt line from small
-movedSpot-shift-lt line false from small = always-shift-lt line (sometimes line from) (sometimes-shift-lt line from small)
+movedSpot-shift-lt = movedSpot-holds (λ (to : Spot). to .shift < 16) vertical-shift-lt horizontal-shift-lt
+
+-- C's pointer stays a word number below 262,144
+vertical-at-lt : (row : ℕ) (upward : Bool) (from : Spot) → from .at .word < pointerEnd → vertical row upward from .at .word < pointerEnd
+unfolding vertical
+vertical-at-lt row true from small = omega arith
+vertical-at-lt row false from small = omega arith
+
+horizontal-at-lt : (leftward : Bool) (from : Spot) → from .at .word < pointerEnd → horizontal leftward from .at .word < pointerEnd
+unfolding left right
+horizontal-at-lt true from small =
+    if-either (λ (to : Pointer). to .word < pointerEnd) (eqb (from .shift) 0) (down (from .at)) (from .at) (omega arith) small
+horizontal-at-lt false from small =
+    if-either (λ (to : Pointer). to .word < pointerEnd) (eqb (from .shift) 15) (up (from .at)) (from .at) (omega arith) small
+
+pub movedSpot-at-lt : (line : Line) (sign : Bool) (from : Spot) → from .at .word < pointerEnd → movedSpot line sign from .at .word < pointerEnd
+movedSpot-at-lt = movedSpot-holds (λ (to : Spot). to .at .word < pointerEnd) vertical-at-lt horizontal-at-lt

@@ -1,5 +1,6 @@
 -- The laws of the definitions in specs/, a file for each.
 pub mod RowTouchLaws
 pub mod TouchLaws
+pub mod LineTouchLaws
 pub mod RefusalLaws
 pub mod OneAnswerLaws

@@ -2,11 +2,12 @@
 use Rattle.word.proofs.Base.{_≡_, refl, sym, ap, _∙_, ℕ, Bool, true, eqb, eq-eqb, eqb-false}
 use Rattle.word.specs.Choice.{if_then_else_}
 use Rattle.refusal.specs.declared.types.Refusal.{Refusal}
-use Rattle.refusal.specs.declared.types.Refusal.the-variants.{MemorySize, RegisterFile, Line, BothFills, FillUpward, ALeaves, BLeaves, CLeaves, DLeaves}
+use Rattle.refusal.specs.declared.types.Refusal.the-variants.{MemorySize, RegisterFile, BothFills, FillUpward, ALeaves, BLeaves, CLeaves, DLeaves, LineForm, LineApart}
 use Rattle.refusal.specs.declared.types.Plan.{Plan}
 use Rattle.refusal.specs.declared.types.Verdict.{Verdict}
 use Rattle.refusal.specs.declared.types.Verdict.the-variants.{Lawful, Refused}
-use Rattle.refusal.specs.Refusal.{plan, refusalNumber, verdictNumber, handed}
+use Rattle.refusal.specs.Plan.{plan}
+use Rattle.refusal.specs.Refusal.{refusalNumber, verdictNumber, handed}
 use Rattle.refusal.specs.OneAnswer.{OneAnswer, OneStepAnswer}
 use Rattle.refusal.proofs.RefusalLaws.{refusal-is-some}
 
@@ -15,25 +16,27 @@ unfoldable pub refusalOf : ℕ → Refusal
 refusalOf number =
     if eqb number 1 then MemorySize else
     if eqb number 2 then RegisterFile else
-    if eqb number 7 then Line else
     if eqb number 8 then BothFills else
     if eqb number 9 then FillUpward else
     if eqb number 14 then ALeaves else
     if eqb number 15 then BLeaves else
     if eqb number 16 then CLeaves else
-    DLeaves
+    if eqb number 17 then DLeaves else
+    if eqb number 18 then LineForm else
+    LineApart
 
 pub refusalNumber-tells : (why : Refusal) → refusalOf (refusalNumber why) ≡ why
 unfolding refusalOf
 refusalNumber-tells MemorySize = refl
 refusalNumber-tells RegisterFile = refl
-refusalNumber-tells Line = refl
 refusalNumber-tells BothFills = refl
 refusalNumber-tells FillUpward = refl
 refusalNumber-tells ALeaves = refl
 refusalNumber-tells BLeaves = refl
 refusalNumber-tells CLeaves = refl
 refusalNumber-tells DLeaves = refl
+refusalNumber-tells LineForm = refl
+refusalNumber-tells LineApart = refl
 
 -- a number that a blit's refusal has
 abbrev pub isOwn : ℕ → Bool

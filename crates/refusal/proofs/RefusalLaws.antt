@@ -4,23 +4,31 @@ use Rattle.word.specs.Choice.{if_then_else_, given}
 use Rattle.word.specs.Pointer.{pointerEnd, pointer}
 use Rattle.word.specs.Size.{height, width}
 use Rattle.word.proofs.SizeLaws.{height-positive, height-le, width-le, width-positive}
-use Rattle.file.specs.File.{accepted, con1}
+use Rattle.word.specs.declared.types.Uses.{Uses}
+use Rattle.file.specs.File.{accepted, con0, con1}
 use Rattle.file.specs.Places.{pointerA, pointerB, pointerC, pointerD}
 use Rattle.area.specs.Setup.{setup}
-use Rattle.word.specs.Control.{line}
+use Rattle.word.specs.Control.{uses, line}
+use Rattle.line.specs.Setup.{lineSetup}
+use Rattle.line.specs.Dot.{firstDot}
+use Rattle.file.specs.Pointers.{pointerAt}
 use Rattle.file.proofs.PointersLaws.{pointerAt-lt}
 use Rattle.area.specs.Flow.{pointers}
-use Rattle.refusal.specs.declared.types.Plan.{Plan}
+use Rattle.refusal.specs.declared.types.AreaPlan.{AreaPlan}
+use Rattle.refusal.specs.declared.types.LinePlan.{LinePlan}
+use Rattle.refusal.specs.declared.types.Plan.the-variants as plans
 use Rattle.refusal.specs.declared.types.Verdict.{Verdict}
+use Rattle.refusal.specs.declared.types.Verdict.the-variants as verdicts
 use Rattle.refusal.specs.declared.types.Refusal.{Refusal}
-use Rattle.refusal.specs.declared.types.Refusal.the-variants.{MemorySize, RegisterFile, Line, BothFills, FillUpward, ALeaves, BLeaves, CLeaves, DLeaves}
-use Rattle.refusal.specs.Touch.{touches, leaves, channelLeaves}
-use Rattle.refusal.specs.Refusal.{bothFills, fillUpward, plan, goesOut, leaving, stepRefusal, refusal, refusalNumber, handed}
+use Rattle.refusal.specs.declared.types.Refusal.the-variants.{MemorySize, RegisterFile, BothFills, FillUpward, ALeaves, BLeaves, CLeaves, DLeaves, LineForm, LineApart}
+use Rattle.refusal.specs.Touch.{touches, lineTouches, leaves, channelLeaves}
+use Rattle.refusal.specs.Plan.{areaPlan, linePlan, plan}
+use Rattle.refusal.specs.Refusal.{bothFills, fillUpward, goesOut, leaving, areaRules, otherForm, pointersDiffer, lineRules, blitRules, stepRefusal, refusal, refusalNumber, handed}
 use Rattle.word.specs.Memory.{memorySize}
 use Rattle.word.specs.declared.types.Pointer.{Pointer}
 use Rattle.refusal.proofs.TouchLaws.{channelLeaves-at-end}
 
-module _ (file : List ℕ) (size : ℕ) (by : Plan) (same : by ≡ plan file size) where
+module _ (file : List ℕ) (size : ℕ) (by : AreaPlan) (same : by ≡ areaPlan file size) where
   pub plan-lt-a : by .pointers .a .word < pointerEnd
   unfolding pointers
   plan-lt-a = rw same (pointerAt-lt file pointerA)
@@ -50,7 +58,7 @@ module _ (file : List ℕ) (size : ℕ) (by : Plan) (same : by ≡ plan file siz
   plan-few-rows = rw same (height-le size)
 
 -- the channels one after the other: the first that leaves decides
-module _ (n : ℕ) (by : Plan) (a : Bool)
+module _ (n : ℕ) (by : AreaPlan) (a : Bool)
     (of-a : a ≡ channelLeaves n (by .setup .direction) (by .setup .uses .a) (by .width) (by .setup .modulos .a) (by .height) (by .pointers .a)) where
   pub leaving-by-a : a ≡ true → 14 ≡ leaving n by
   unfolding leaving given
@@ -79,7 +87,7 @@ module _ (n : ℕ) (by : Plan) (a : Bool)
         leaving-by-none stays = rw (← of-a, ← of-b, ← of-c, ← of-d, a-stays, b-stays, c-stays, stays)
 
 -- memory as long as a pointer reaches is left by none
-pub leaving-at-end : (n : ℕ) (by : Plan) → pointerEnd ≤ n → by .pointers .a .word < pointerEnd → by .pointers .b .word < pointerEnd
+pub leaving-at-end : (n : ℕ) (by : AreaPlan) → pointerEnd ≤ n → by .pointers .a .word < pointerEnd → by .pointers .b .word < pointerEnd
     → by .pointers .c .word < pointerEnd → by .pointers .d .word < pointerEnd → 0 ≡ leaving n by
 leaving-at-end n by long a b c d =
     leaving-by-none n by false (stays (by .setup .uses .a) (by .setup .modulos .a) (by .pointers .a) a) refl
@@ -91,31 +99,86 @@ leaving-at-end n by long a b c d =
         → false ≡ channelLeaves n (by .setup .direction) used (by .width) modulo (by .height) pointer
     stays used modulo pointer small = channelLeaves-at-end n (by .setup .direction) used (by .width) modulo (by .height) pointer long small
 
--- the rules of a blit, one after the other
-module _ (n size : ℕ) (file : List ℕ) (control : ℕ) (reads : control ≡ con1 file) (lines : Bool) (of-lines : lines ≡ line control) where
-  pub refused-by-line : lines ≡ true → 7 ≡ stepRefusal n file size
-  unfolding stepRefusal given
-  refused-by-line holds = rw (← reads, ← of-lines, holds)
+-- the rules of an area blit, one after the other
+module _ (n size : ℕ) (file : List ℕ) (control : ℕ) (reads : control ≡ con1 file) (both : Bool) (of-both : both ≡ bothFills control) where
+  pub area-by-both-fills : both ≡ true → 8 ≡ given (areaRules n file size)
+  unfolding given
+  area-by-both-fills holds = rw (← reads, ← of-both, holds)
 
-  module _ (area : lines ≡ false) (both : Bool) (of-both : both ≡ bothFills control) where
-    pub refused-by-both-fills : both ≡ true → 8 ≡ stepRefusal n file size
-    unfolding stepRefusal given
-    refused-by-both-fills holds = rw (← reads, ← of-lines, area, ← of-both, holds)
+  module _ (one : both ≡ false) (upward : Bool) (of-upward : upward ≡ fillUpward control) where
+    pub area-by-fill-upward : upward ≡ true → 9 ≡ given (areaRules n file size)
+    unfolding given
+    area-by-fill-upward holds = rw (← reads, ← of-both, one, ← of-upward, holds)
 
-    module _ (one : both ≡ false) (upward : Bool) (of-upward : upward ≡ fillUpward control) where
-      pub refused-by-fill-upward : upward ≡ true → 9 ≡ stepRefusal n file size
-      unfolding stepRefusal given
-      refused-by-fill-upward holds = rw (← reads, ← of-lines, area, ← of-both, one, ← of-upward, holds)
+    pub area-by-leaving : upward ≡ false → (by : AreaPlan) (number : ℕ)
+        → by ≡ areaPlan file size → number ≡ leaving n by → number ≡ given (areaRules n file size)
+    unfolding given leaving
+    area-by-leaving downward by number of-by gives =
+        rw (← reads, ← of-both, one, ← of-upward, downward) (rw of-by at gives)
 
-      pub refused-by-leaving : upward ≡ false → (by : Plan) (number : ℕ)
-          → by ≡ plan file size → number ≡ leaving n by → number ≡ stepRefusal n file size
-      unfolding stepRefusal given leaving
-      refused-by-leaving downward by number of-by gives =
-          rw (← reads, ← of-lines, area, ← of-both, one, ← of-upward, downward) (rw of-by at gives)
+-- the rules of a line
+module _ (n size : ℕ) (file : List ℕ) (control : ℕ) (channels : Uses) (across : ℕ) (other : Bool)
+    (reads : control ≡ con0 file) (of-uses : channels ≡ uses control) (of-width : across ≡ width size) (of-other : other ≡ otherForm channels across) where
+  pub line-by-form : other ≡ true → 18 ≡ given (lineRules n file size)
+  unfolding given
+  line-by-form holds = rw (← reads, ← of-uses, ← of-width, ← of-other, holds)
+
+  module _ (formed : other ≡ false) (differ : Bool) (of-differ : differ ≡ pointersDiffer file) where
+    pub line-by-pointers : differ ≡ true → 19 ≡ given (lineRules n file size)
+    unfolding given
+    line-by-pointers holds = rw (← reads, ← of-uses, ← of-width, ← of-other, formed, ← of-differ, holds)
+
+    module _ (together : differ ≡ false) (by : LinePlan) (outside : Bool) (of-by : by ≡ linePlan file size)
+        (of-outside : outside ≡ leaves n (lineTouches (by .line) (by .dots) (by .first))) where
+      touches-outside : outside ≡ leaves n (lineTouches (lineSetup file) (height size) (firstDot file))
+      touches-outside = rw of-by at of-outside
+
+      pub line-by-leaving : outside ≡ true → 16 ≡ given (lineRules n file size)
+      unfolding given
+      line-by-leaving holds = rw (← reads, ← of-uses, ← of-width, ← of-other, formed, ← of-differ, together, ← touches-outside, holds)
+
+      pub line-by-none : outside ≡ false → 0 ≡ given (lineRules n file size)
+      unfolding given
+      line-by-none holds = rw (← reads, ← of-uses, ← of-width, ← of-other, formed, ← of-differ, together, ← touches-outside, holds)
+
+pub pointersDiffer-of-two : (file : List ℕ) (c d : Pointer) → c ≡ pointerAt file pointerC → d ≡ pointerAt file pointerD
+    → not (eqb (c .word) (d .word)) ≡ pointersDiffer file
+unfolding pointersDiffer
+pointersDiffer-of-two file c d of-c of-d = rw (of-c, of-d)
+
+pub first-lt : (file : List ℕ) (size : ℕ) (by : LinePlan) → by ≡ linePlan file size → by .first .spot .at .word < pointerEnd
+unfolding firstDot
+first-lt file size by same = rw same (pointerAt-lt file pointerC)
+
+pub handed-of-line : (file : List ℕ) (size : ℕ) (by : LinePlan) → by ≡ linePlan file size
+    → handed (verdicts.Lawful (plans.Line by)) (plans.Line (linePlan file size)) ≡ plans.Line (linePlan file size)
+handed-of-line file size by same = rw same
+
+-- a line's rules, or an area blit's, and what either hands on
+module _ (n size : ℕ) (file : List ℕ) (control : ℕ) (lines : Bool) (number : ℕ) (verdict : Verdict)
+    (reads : control ≡ con1 file) (of-lines : lines ≡ line control) where
+  line-bit : (told : Bool) → lines ≡ told → line (con1 file) ≡ told
+  line-bit told same = rw (← reads, ← of-lines) same
+
+  pub refused-by-line : lines ≡ true → number ≡ given (lineRules n file size) → number ≡ stepRefusal n file size
+  unfolding stepRefusal
+  refused-by-line holds gives = rw (line-bit true holds) gives
+
+  pub refused-by-area : lines ≡ false → number ≡ given (areaRules n file size) → number ≡ stepRefusal n file size
+  unfolding stepRefusal
+  refused-by-area holds gives = rw (line-bit false holds) gives
+
+  pub handed-by-line : lines ≡ true → handed verdict (plans.Line (linePlan file size)) ≡ plans.Line (linePlan file size)
+      → handed verdict (plan file size) ≡ plan file size
+  handed-by-line holds hands = rw (line-bit true holds) hands
+
+  pub handed-by-area : lines ≡ false → handed verdict (plans.Area (areaPlan file size)) ≡ plans.Area (areaPlan file size)
+      → handed verdict (plan file size) ≡ plan file size
+  handed-by-area holds hands = rw (line-bit false holds) hands
 
 -- what is handed on
-pub handed-of-plan : (file : List ℕ) (size : ℕ) (by : Plan) (verdict : Verdict) → by ≡ plan file size → handed verdict by ≡ by
-    → handed verdict (plan file size) ≡ plan file size
+pub handed-of-plan : (file : List ℕ) (size : ℕ) (by : AreaPlan) (verdict : Verdict) → by ≡ areaPlan file size → handed verdict (plans.Area by) ≡ plans.Area by
+    → handed verdict (plans.Area (areaPlan file size)) ≡ plans.Area (areaPlan file size)
 handed-of-plan file size by verdict same hands = rw same at hands
 
 -- memory and file, then the rules of the blit
@@ -137,15 +200,16 @@ module _ (n size : ℕ) (file : List ℕ) (bad : Bool) (of-bad : bad ≡ memoryS
 pub refusal-is-some : (why : Refusal) → eqb (refusalNumber why) 0 ≡ false
 refusal-is-some MemorySize = refl
 refusal-is-some RegisterFile = refl
-refusal-is-some Line = refl
 refusal-is-some BothFills = refl
 refusal-is-some FillUpward = refl
 refusal-is-some ALeaves = refl
 refusal-is-some BLeaves = refl
 refusal-is-some CLeaves = refl
 refusal-is-some DLeaves = refl
+refusal-is-some LineForm = refl
+refusal-is-some LineApart = refl
 
--- the numbers by their tests alone: of the channels, and of all
+-- the channels' numbers by their tests alone
 abbrev pub channelNumbered : (a b c d : Bool) → ℕ
 channelNumbered a b c d =
     if a then 14 else
@@ -154,42 +218,30 @@ channelNumbered a b c d =
     if d then 17 else
     0
 
-abbrev pub numbered : (memory file line both upward : Bool) → (channel : ℕ) → ℕ
-numbered memory file line both upward channel =
-    if memory then 1 else
-    if file then 2 else
-    if line then 7 else
-    if both then 8 else
-    if upward then 9 else
-    channel
+-- an area blit that nothing refuses doesn't leave memory
+areaRules-of-none : (n : ℕ) (file : List ℕ) (size : ℕ) → given (areaRules n file size) ≡ 0 → leaving n (areaPlan file size) ≡ 0
+unfolding given leaving
+areaRules-of-none n file size lawful = by-fills (bothFills (con1 file)) (fillUpward (con1 file)) (leaving n (areaPlan file size)) lawful
+  where
+    by-fills : (both upward : Bool) (channel : ℕ) → (if both then 8 else if upward then 9 else channel) ≡ 0 → channel ≡ 0
+    by-fills true upward channel none = absurd (omega arith)
+    by-fills false true channel none = absurd (omega arith)
+    by-fills false false channel none = none
 
-pub refusal-is-numbered : (n : ℕ) (file : List ℕ) (size : ℕ)
-    → refusal n file size
-    ≡ numbered (memorySize n) (not (accepted file)) (line (con1 file)) (bothFills (con1 file)) (fillUpward (con1 file))
-    (leaving n (plan file size))
-unfolding refusal given leaving
-refusal-is-numbered n file size = refl
+pub stepRefusal-of-none : (n : ℕ) (file : List ℕ) (size : ℕ) → line (con1 file) ≡ false → stepRefusal n file size ≡ 0
+    → leaving n (areaPlan file size) ≡ 0
+unfolding stepRefusal
+stepRefusal-of-none n file size area lawful = areaRules-of-none n file size (rw area at lawful)
 
-numbered-of-none : (memory file line both upward : Bool) (channel : ℕ) → numbered memory file line both upward channel ≡ 0 → channel ≡ 0
-numbered-of-none true file line both upward channel lawful = absurd (omega arith)
-numbered-of-none false true line both upward channel lawful = absurd (omega arith)
-numbered-of-none false false true both upward channel lawful = absurd (omega arith)
-numbered-of-none false false false true upward channel lawful = absurd (omega arith)
-numbered-of-none false false false false true channel lawful = absurd (omega arith)
-numbered-of-none false false false false false channel lawful = lawful
-
--- a blit that nothing refuses doesn't leave memory
-pub refusal-of-none : (n : ℕ) (file : List ℕ) (size : ℕ) → refusal n file size ≡ 0 → leaving n (plan file size) ≡ 0
-refusal-of-none n file size lawful =
-    numbered-of-none (memorySize n) (not (accepted file)) (line (con1 file)) (bothFills (con1 file)) (fillUpward (con1 file))
-    (leaving n (plan file size)) (sym (refusal-is-numbered n file size) ∙ lawful)
-
--- the same of a job's blit
-pub stepRefusal-of-none : (n : ℕ) (file : List ℕ) (size : ℕ) → stepRefusal n file size ≡ 0 → leaving n (plan file size) ≡ 0
-unfolding stepRefusal given leaving
-stepRefusal-of-none n file size lawful =
-    numbered-of-none false false (line (con1 file)) (bothFills (con1 file)) (fillUpward (con1 file))
-    (leaving n (plan file size)) lawful
+-- the blit called alone is refused by memory, by the file, or as a job's
+pub refusal-of-none : (n : ℕ) (file : List ℕ) (size : ℕ) → refusal n file size ≡ 0 → stepRefusal n file size ≡ 0
+unfolding refusal stepRefusal given
+refusal-of-none n file size lawful = by-tests (memorySize n) (not (accepted file)) (given (blitRules n file size)) lawful
+  where
+    by-tests : (memory file : Bool) (rest : ℕ) → (if memory then 1 else if file then 2 else rest) ≡ 0 → rest ≡ 0
+    by-tests true file rest none = absurd (omega arith)
+    by-tests false true rest none = absurd (omega arith)
+    by-tests false false rest none = none
 
 -- then D, if it is used, stays inside
 last-of-none : (a b c used outside : Bool) → used ≡ true → channelNumbered a b c (used && outside) ≡ 0 → outside ≡ false
@@ -200,7 +252,7 @@ last-of-none false false false true true uses none = absurd (omega arith)
 last-of-none false false false false true uses none = sym uses
 last-of-none false false false used false uses none = refl
 
-pub leaving-of-d : (n : ℕ) (by : Plan) → by .setup .uses .d ≡ true → leaving n by ≡ 0
+pub leaving-of-d : (n : ℕ) (by : AreaPlan) → by .setup .uses .d ≡ true → leaving n by ≡ 0
     → leaves n (touches (by .setup .direction) (by .width) (by .setup .modulos .d) (by .height) (by .pointers .d)) ≡ false
 unfolding leaving given channelLeaves
 leaving-of-d n by uses none =

@@ -4,7 +4,8 @@ use Prim.Native.Nat.{ℕ}
 use mathlib.Core.Path.{_≡_}
 use mathlib.Core.List.{List}
 use Rattle.refusal.specs.declared.types.Verdict.{Verdict}
-use Rattle.refusal.specs.Refusal.{plan, stepRefusal, refusal, verdictNumber, handed}
+use Rattle.refusal.specs.Plan.{plan}
+use Rattle.refusal.specs.Refusal.{stepRefusal, refusal, verdictNumber, handed}
 
 -- what the calls promise
 abbrev pub Meets : (n : ℕ) → (file : List ℕ) → (size : ℕ) → Verdict → Type 0

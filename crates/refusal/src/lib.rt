@@ -1,4 +1,5 @@
 // The refusals of a blit, in the order of the paper, and what a lawful one goes by.
+mod line_rules;
 pub mod theorems;
 mod touch;
 pub mod types;
@@ -6,8 +7,12 @@ pub mod types;
 ghost use mathlib.Core.Path.{_≡_};
 ghost use Prim.Native.Nat.{_<_, _≤_};
 ghost use Rattle.word.specs.Pointer.{pointerEnd};
-ghost use Rattle.refusal.specs.Refusal.{bothFills, fillUpward, plan, leaving, stepRefusal, refusal};
+ghost use Rattle.word.specs.Choice.{given};
+ghost use Rattle.file.specs.File.{con1};
+ghost use Rattle.refusal.specs.Plan.{areaPlan, plan};
+ghost use Rattle.refusal.specs.Refusal.{bothFills, fillUpward, leaving, areaRules, stepRefusal, refusal};
 ghost use Rattle.refusal.specs.Refusal.{refusalNumber, verdictNumber, handed};
+use crate::types::AreaPlan;
 use crate::types::Plan;
 use crate::types::Refusal;
 use crate::types::Verdict;
@@ -26,15 +31,15 @@ fn fill_upward(con1: u16) -> bool
     filled & !word::control::descending(con1)
 }
 
-// What a blit goes by.
-fn plan(file: &[u16], size: u16) -> Plan
-    ensures { λ by. ⌜ by ≡ plan (now (file .entry)) size ⌝ }
+// What an area blit goes by.
+fn area_plan(file: &[u16], size: u16) -> AreaPlan
+    ensures { λ by. ⌜ by ≡ areaPlan (now (file .entry)) size ⌝ }
 {
     let setup = area::setup::setup(file);
     let pointers = area::flow::pointers(file);
     let width = word::size::width(size) as u8;
     let height = word::size::height(size) as u16;
-    Plan {
+    AreaPlan {
         setup,
         pointers,
         width,
@@ -43,11 +48,11 @@ fn plan(file: &[u16], size: u16) -> Plan
 }
 
 // The channels in the order A, B, C, D: the first that leaves memory is told.
-fn first_leaving(n: usize, by: Plan) -> Verdict
+fn first_leaving(n: usize, by: AreaPlan) -> Verdict
     requires { ⌜ (n < pointerEnd) × (by .pointers .a .word < pointerEnd) × (by .pointers .b .word < pointerEnd)
         × (by .pointers .c .word < pointerEnd) × (by .pointers .d .word < pointerEnd)
         × (1 ≤ by .width) × (by .width ≤ 64) ⌝ }
-    ensures { λ verdict. ⌜ (verdictNumber verdict ≡ leaving n by) × (handed verdict by ≡ by) ⌝ }
+    ensures { λ verdict. ⌜ (verdictNumber verdict ≡ leaving n by) × (handed verdict (Plan.Area by) ≡ Plan.Area by) ⌝ }
 {
     let setup = by.setup;
     let pointers = by.pointers;
@@ -72,20 +77,36 @@ fn first_leaving(n: usize, by: Plan) -> Verdict
     if crate::touch::channel_leaves(n, direction, uses.d, width, modulos.d, height, d) {
         return Verdict::Refused(Refusal::DLeaves);
     }
-    Verdict::Lawful(by)
+    Verdict::Lawful(Plan::Area(by))
 }
 
 // Memory as long as a pointer reaches is left by none.
-fn leaving(n: usize, by: Plan) -> Verdict
+fn leaving(n: usize, by: AreaPlan) -> Verdict
     requires { ⌜ (by .pointers .a .word < pointerEnd) × (by .pointers .b .word < pointerEnd)
         × (by .pointers .c .word < pointerEnd) × (by .pointers .d .word < pointerEnd)
         × (1 ≤ by .width) × (by .width ≤ 64) ⌝ }
-    ensures { λ verdict. ⌜ (verdictNumber verdict ≡ leaving n by) × (handed verdict by ≡ by) ⌝ }
+    ensures { λ verdict. ⌜ (verdictNumber verdict ≡ leaving n by) × (handed verdict (Plan.Area by) ≡ Plan.Area by) ⌝ }
 {
     if n < POINTER_END as usize {
         return first_leaving(n, by);
     }
-    Verdict::Lawful(by)
+    Verdict::Lawful(Plan::Area(by))
+}
+
+// The refusal of an area blit.
+fn area_refusal(n: usize, file: &[u16], size: u16, control: u16) -> Verdict
+    requires { ⌜ control ≡ con1 (now file) ⌝ }
+    ensures { λ verdict. ⌜ (verdictNumber verdict ≡ given (areaRules n (now (file .entry)) size))
+        × (handed verdict (Plan.Area (areaPlan (now (file .entry)) size)) ≡ Plan.Area (areaPlan (now (file .entry)) size)) ⌝ }
+{
+    if both_fills(control) {
+        return Verdict::Refused(Refusal::BothFills);
+    }
+    if fill_upward(control) {
+        return Verdict::Refused(Refusal::FillUpward);
+    }
+    let by = area_plan(file, size);
+    leaving(n, by)
 }
 
 // The refusal of a job's blit, whose memory and file have been taken.
@@ -93,18 +114,11 @@ pub fn step_refusal(n: usize, file: &[u16], size: u16) -> Verdict
     ensures { λ verdict. ⌜ (verdictNumber verdict ≡ stepRefusal n (now (file .entry)) size)
         × (handed verdict (plan (now (file .entry)) size) ≡ plan (now (file .entry)) size) ⌝ }
 {
-    let con1 = word::memory::read(file, file::CONTROL_1);
-    if word::control::line(con1) {
-        return Verdict::Refused(Refusal::Line);
+    let control = word::memory::read(file, file::CONTROL_1);
+    if word::control::line(control) {
+        return crate::line_rules::line_refusal(n, file, size);
     }
-    if both_fills(con1) {
-        return Verdict::Refused(Refusal::BothFills);
-    }
-    if fill_upward(con1) {
-        return Verdict::Refused(Refusal::FillUpward);
-    }
-    let by = plan(file, size);
-    leaving(n, by)
+    area_refusal(n, file, size, control)
 }
 
 // The refusal alone, from N, file and size: whether a blit on n words of memory would be done.
@@ -128,12 +142,13 @@ pub fn refusal_number(why: Refusal) -> u32
     match why {
         Refusal::MemorySize => 1,
         Refusal::RegisterFile => 2,
-        Refusal::Line => 7,
         Refusal::BothFills => 8,
         Refusal::FillUpward => 9,
         Refusal::ALeaves => 14,
         Refusal::BLeaves => 15,
         Refusal::CLeaves => 16,
         Refusal::DLeaves => 17,
+        Refusal::LineForm => 18,
+        Refusal::LineApart => 19,
     }
 }

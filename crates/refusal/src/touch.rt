@@ -2,7 +2,10 @@
 ghost use mathlib.Core.Path.{_≡_};
 ghost use Prim.Native.Nat.{_<_, _≤_};
 ghost use Rattle.word.specs.Pointer.{pointerEnd};
-ghost use Rattle.refusal.specs.Touch.{rowTouches, touches, leaves, channelLeaves};
+ghost use Rattle.refusal.specs.Touch.{rowTouches, touches, lineTouches, leaves, channelLeaves};
+use line::types::Dot;
+use line::types::Line;
+use word::pointer::POINTER_END;
 use word::types::Direction;
 use word::types::Pointer;
 
@@ -65,4 +68,30 @@ pub fn channel_leaves(
         return rows_leave(n as u32, direction, width, modulo, rows, pointer);
     }
     false
+}
+
+fn dots_leave(n: u32, line: Line, dots: u32, first: Dot) -> bool
+    ensures { λ outside. ⌜ outside ≡ leaves n (lineTouches line dots first) ⌝ }
+{
+    let mut dot = first;
+    let mut remaining = dots;
+    while 0 < remaining {
+        if n <= dot.spot.at.word {
+            return true;
+        }
+        dot = line::moves::next(line, dot);
+        remaining = remaining - 1;
+    }
+    false
+}
+
+// Memory as long as a pointer reaches is left by no dot.
+pub fn line_leaves(n: usize, line: Line, dots: u32, first: Dot) -> bool
+    requires { ⌜ first .spot .at .word < pointerEnd ⌝ }
+    ensures { λ outside. ⌜ outside ≡ leaves n (lineTouches line dots first) ⌝ }
+{
+    if (POINTER_END as usize) <= n {
+        return false;
+    }
+    dots_leave(n as u32, line, dots, first)
 }

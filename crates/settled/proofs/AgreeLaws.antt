@@ -13,8 +13,8 @@ use Rattle.word.specs.Control.{uses, function, carryIn, line}
 use Rattle.file.specs.Pointers.{pointerAt}
 use Rattle.area.specs.Flow.{pointers, sources, start}
 use Rattle.refusal.specs.Touch.{touches, leaves, channelLeaves}
-use Rattle.refusal.specs.declared.types.Plan.{Plan}
-use Rattle.refusal.specs.Refusal.{bothFills, fillUpward, plan, leaving, stepRefusal}
+use Rattle.refusal.specs.declared.types.AreaPlan.{AreaPlan}
+use Rattle.refusal.specs.Refusal.{bothFills, fillUpward, areaPlan, leaving, stepRefusal}
 use Rattle.refusal.proofs.RefusalLaws.{channelNumbered, numbered}
 use Rattle.depends.specs.Depends.{counts}
 use Rattle.stores.specs.Stores.{stores, finalD}
@@ -40,7 +40,7 @@ last-alone : (a b c d x y z w : Bool) → a ≡ false → b ≡ false → c ≡ 
     → channelNumbered (a && x) (b && y) (c && z) (d && w) ≡ channelNumbered false false false w
 last-alone a b c d x y z w no-a no-b no-c yes-d = rw (no-a, no-b, no-c, yes-d)
 
-leaving-of-only-d : (n : ℕ) (by : Plan) → OnlyD (by .setup .uses)
+leaving-of-only-d : (n : ℕ) (by : AreaPlan) → OnlyD (by .setup .uses)
     → leaving n by
     ≡ channelNumbered false false false (leaves n (touches (by .setup .direction) (by .width) (by .setup .modulos .d) (by .height) (by .pointers .d)))
 unfolding leaving given channelLeaves
@@ -104,10 +104,10 @@ module _ (this other : List ℕ) (agree : Agree this other) where
   stepRefusal-alike n size only =
       ap₂ (λ (control channel : ℕ). numbered false false (line control) (bothFills control) (fillUpward control) channel)
       (agree .control1)
-      (leaving-of-only-d n (plan this size) only
+      (leaving-of-only-d n (areaPlan this size) only
       ∙ touches-alike n (width size) (height size) (setup this .direction) (setup other .direction) (setup this .modulos .d) (setup other .modulos .d) (pointers this .d) (pointers other .d)
       (setup-alike .direction) (setup-alike .modulo) pointers-alike
-      ∙ sym (leaving-of-only-d n (plan other size) (uses-alike only)))
+      ∙ sym (leaving-of-only-d n (areaPlan other size) (uses-alike only)))
 
   pub finalD-alike : (size : ℕ) → finalD this size ≡ finalD other size
   unfolding finalD

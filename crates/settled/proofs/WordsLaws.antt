@@ -15,7 +15,7 @@ use Rattle.area.specs.Flow.{state, pointers, start}
 use Rattle.area.specs.Store.{memoryWith, countWith, storePending}
 use Rattle.area.specs.Rows.{areaBlit}
 use Rattle.area.proofs.CountLaws.{each, each-of-used, rows-count-all}
-use Rattle.refusal.specs.Refusal.{plan, stepRefusal}
+use Rattle.refusal.specs.Refusal.{areaPlan, stepRefusal}
 use Rattle.file.specs.Pointers.{putFlag}
 use Rattle.blit.specs.WriteBack.{putPointer, putPointers, putSource, putSources}
 use Rattle.blit.specs.Blit.{Outcome, finished, done, answered, blitStep}
@@ -96,7 +96,7 @@ module _ (memory file : List ℕ) (size : ℕ) (only : OnlyD (setup file .uses))
     unfolding stores start pointers
     stores-inside =
         blitStores-inside (setup file) only (width size) (length memory) (height size) (state [] (start file)) (pointerAt-lt file pointerD)
-        (leaving-of-d (length memory) (plan file size) (only .d) (stepRefusal-of-none (length memory) file size lawful))
+        (leaving-of-d (length memory) (areaPlan file size) (only .d) (stepRefusal-of-none (length memory) file size lawful))
 
     -- what a settled blit leaves in the file
     pub blitStep-file : blitStep memory file size .file

@@ -1,17 +1,20 @@
 -- Laws of the blit: what it writes back, and how it is put together from its parts.
-use Rattle.word.proofs.Base.{_≡_, refl, ap, ℕ, _+_, _*_, _<_, _≤_, arith, Bool, true, false, eqb, List, length, set}
+use Rattle.word.proofs.Base.{_≡_, refl, ap, ℕ, _+_, _*_, _<_, _≤_, arith, Bool, true, false, eqb, eqb-true, List, length, set}
 use Rattle.word.proofs.Base.{length-set}
 use native.Mathlib.Nat.{mul-one, mul-zero}
 use Rattle.word.specs.declared.types.Pointer.{Pointer}
 use Rattle.word.specs.declared.types.Uses.{Uses}
-use Rattle.word.specs.Pointer.{pointerEnd, high, low}
+use Rattle.word.specs.Pointer.{pointerEnd}
 use Rattle.word.specs.Size.{height, width}
-use Rattle.word.proofs.ChoiceLaws.{if-either}
+use Rattle.word.specs.Choice.{if_then_else_}
 use Rattle.word.proofs.SizeLaws.{height-le, words-le}
 use Rattle.area.specs.declared.types.Pointers.{Pointers}
 use Rattle.area.specs.declared.types.Flow.{Flow}
 use Rattle.refusal.specs.declared.types.Refusal.{Refusal}
 use Rattle.refusal.specs.declared.types.AreaPlan.{AreaPlan}
+use Rattle.refusal.specs.declared.types.LinePlan.{LinePlan}
+use Rattle.refusal.specs.declared.types.Plan.{Plan}
+use Rattle.refusal.specs.declared.types.Plan.the-variants as plans
 use Rattle.refusal.specs.declared.types.Verdict.{Verdict}
 use Rattle.refusal.specs.declared.types.Verdict.the-variants as verdicts
 use Rattle.blit.specs.declared.types.Answer.{Answer}
@@ -22,18 +25,22 @@ use Rattle.area.specs.Store.{storePending, countWith}
 use Rattle.area.specs.Rows.{areaBlit}
 use Rattle.area.proofs.RowsLaws.{areaBlit-keeps-length}
 use Rattle.area.proofs.CountLaws.{each, rows-count-all}
-use Rattle.refusal.specs.Refusal.{areaPlan, stepRefusal, refusal, verdictNumber, handed}
+use Rattle.word.specs.Control.{line}
+use Rattle.file.specs.File.{con1}
+use Rattle.line.specs.declared.types.Drawn.{Drawn}
+use Rattle.line.specs.Setup.{lineSetup}
+use Rattle.line.specs.Dot.{firstDot}
+use Rattle.line.specs.Line as lines
+use Rattle.line.specs.Line.{begun, lineBlit}
+use Rattle.line.specs.Leave.{leave}
+use Rattle.line.proofs.DotsLaws.{lineBlit-keeps-length, lineBlit-counts}
+use Rattle.refusal.specs.Plan.{areaPlan, linePlan, plan}
+use Rattle.refusal.proofs.PlanLaws.{lineOrArea-cases, area-bit, line-bit}
+use Rattle.refusal.specs.Refusal.{stepRefusal, refusal, verdictNumber, handed}
 use Rattle.refusal.proofs.RefusalLaws.{plan-lt-a, plan-lt-b, plan-lt-c, plan-lt-d, refusal-is-some}
 use Rattle.file.specs.Pointers.{putFlag}
 use Rattle.blit.specs.WriteBack.{putPointer, putPointers, putSource, putSources, writeBack}
-use Rattle.blit.specs.Blit.{Outcome, finished, done, refused, answered, blitStep, blit, left}
-
-pub putPointer-when-used : (used : Bool) (place up down : ℕ) (pointer : Pointer) (file one two : List ℕ)
-    → used ≡ true → up ≡ high pointer → one ≡ set file place up → down ≡ low pointer → two ≡ set one (place + 1) down
-    → two ≡ putPointer used place pointer file
-unfolding putPointer
-putPointer-when-used used place up down pointer file one two uses upper first lower second =
-    rw (uses, second, first, upper, lower)
+use Rattle.blit.specs.Blit.{Outcome, finished, drawn, areaDone, lineDone, done, refused, answered, blitStep, blit, left}
 
 pub writeBack-of-parts : (uses : Uses) (end : Flow) (file one two three : List ℕ)
     → one ≡ putPointers uses (end .pointers) file
@@ -80,22 +87,52 @@ pub finished-of-parts : (file : List ℕ) (size : ℕ) (by : AreaPlan) (memory a
 unfolding finished start
 finished-of-parts file size by memory after flow end same starts does = rw (starts, same) at does
 
-pub done-of-parts : (file : List ℕ) (size : ℕ) (by : AreaPlan) (memory after changed : List ℕ) (end : Flow)
+pub areaDone-of-parts : (file : List ℕ) (size : ℕ) (by : AreaPlan) (memory after changed : List ℕ) (end : Flow)
     → by ≡ areaPlan file size
     → state after end ≡ finished memory file size
     → changed ≡ writeBack (by .setup .uses) end file
-    → left (Done (end .stored)) after changed ≡ done file (finished memory file size)
-unfolding done
-done-of-parts file size by memory after changed end same does writes = rw (← does, writes, same)
+    → left (Done (end .stored)) after changed ≡ areaDone file (finished memory file size)
+unfolding areaDone
+areaDone-of-parts file size by memory after changed end same does writes = rw (← does, writes, same)
 
-pub answered-when-done : (memory file after changed : List ℕ) (size stored : ℕ) (verdict : Verdict) (by : AreaPlan)
-    → verdict ≡ verdicts.Lawful by → left (Done stored) after changed ≡ done file (finished memory file size)
+-- a line by its plan
+module _ (file : List ℕ) (size : ℕ) (by : LinePlan) (same : by ≡ linePlan file size) where
+  pub course-shift : by .first .spot .shift < 16
+  unfolding firstDot
+  course-shift = rw same (omega arith)
+
+  pub course-bit : by .first .bit < 16
+  unfolding firstDot
+  course-bit = rw same (omega arith)
+
+  pub course-room : by .dots < 4294967295
+  course-room = rw same (omega (arith, height-le size))
+
+  pub lineDone-of-parts : (memory after changed : List ℕ) (end : Drawn)
+      → lines.state after end ≡ lineBlit (by .line) (by .dots) (lines.state memory (begun (by .first)))
+      → changed ≡ leave end file
+      → left (Done (end .stored)) after changed ≡ lineDone file (drawn memory file size)
+  unfolding lineDone drawn
+  lineDone-of-parts memory after changed end does leaves = rw (leaves, ← (rw same at does))
+
+-- a blit is a line or an area blit, as its plan says
+module _ (memory file : List ℕ) (size : ℕ) (by : Plan) (same : by ≡ plan file size) (outcome : Outcome) where
+  pub done-of-area : (area : AreaPlan) → by ≡ plans.Area area → outcome ≡ areaDone file (finished memory file size) → outcome ≡ done memory file size
+  unfolding done
+  done-of-area area is does = rw (area-bit file size by same area is) does
+
+  pub done-of-line : (course : LinePlan) → by ≡ plans.Line course → outcome ≡ lineDone file (drawn memory file size) → outcome ≡ done memory file size
+  unfolding done
+  done-of-line course is does = rw (line-bit file size by same course is) does
+
+pub answered-when-done : (memory file after changed : List ℕ) (size stored : ℕ) (verdict : Verdict) (by : Plan)
+    → verdict ≡ verdicts.Lawful by → left (Done stored) after changed ≡ done memory file size
     → left (Done stored) after changed ≡ answered (verdictNumber verdict) memory file size
 unfolding answered
 answered-when-done memory file after changed size stored verdict by lawful does = rw lawful does
 
-pub plan-of-verdict : (file : List ℕ) (size : ℕ) (verdict : Verdict) (by : AreaPlan) → verdict ≡ verdicts.Lawful by
-    → handed verdict (areaPlan file size) ≡ areaPlan file size → by ≡ areaPlan file size
+pub plan-of-verdict : (file : List ℕ) (size : ℕ) (verdict : Verdict) (by : Plan) → verdict ≡ verdicts.Lawful by
+    → handed verdict (plan file size) ≡ plan file size → by ≡ plan file size
 plan-of-verdict file size verdict by lawful hands = rw lawful at hands
 
 pub answered-when-refused : (memory file : List ℕ) (size : ℕ) (why : Refusal) (verdict : Verdict)
@@ -126,22 +163,40 @@ unfolding putSource
 putSource-keeps-length true place word file = simp length-set
 putSource-keeps-length false place word file = refl
 
-pub done-keeps-length : (file : List ℕ) (end : State) → length (done file end .file) ≡ length file
-unfolding done putFlag putSources putPointers
-done-keeps-length file end = simp (length-set, putSource-keeps-length, putPointer-keeps-length)
+areaDone-keeps-length : (file : List ℕ) (end : State) → length (areaDone file end .file) ≡ length file
+unfolding areaDone putFlag putSources putPointers
+areaDone-keeps-length file end = simp (length-set, putSource-keeps-length, putPointer-keeps-length)
 
--- what holds of a blit that is done and of one that is refused
+lineDone-keeps-length : (file : List ℕ) (end : lines.State) → length (lineDone file end .file) ≡ length file
+unfolding lineDone leave putFlag
+lineDone-keeps-length file end = simp length-set
+
+-- what holds of a line that is done, of an area blit that is done, and of a blit that is refused
+pub answered-cases : (Holds : Outcome → Type 0) (number : ℕ) (memory file : List ℕ) (size : ℕ)
+    → (number ≡ 0 → line (con1 file) ≡ true → Holds (lineDone file (drawn memory file size)))
+    → (number ≡ 0 → line (con1 file) ≡ false → Holds (areaDone file (finished memory file size)))
+    → Holds (refused number memory file) → Holds (answered number memory file size)
+unfolding answered done
+answered-cases Holds number memory file size first second third = by-number (eqb number 0) refl
+  where
+    by-number : (none : Bool) → eqb number 0 ≡ none → Holds (if none then done memory file size else refused number memory file)
+    by-number true lawful =
+        lineOrArea-cases Holds file (lineDone file (drawn memory file size)) (areaDone file (finished memory file size))
+        (first (eqb-true number 0 lawful)) (second (eqb-true number 0 lawful))
+    by-number false against = third
+
 pub answered-either : (Holds : Outcome → Type 0) (number : ℕ) (memory file : List ℕ) (size : ℕ)
-    → Holds (done file (finished memory file size)) → Holds (refused number memory file) → Holds (answered number memory file size)
-unfolding answered
-answered-either Holds number memory file size does stays =
-    if-either Holds (eqb number 0) (done file (finished memory file size)) (refused number memory file) does stays
+    → Holds (lineDone file (drawn memory file size)) → Holds (areaDone file (finished memory file size))
+    → Holds (refused number memory file) → Holds (answered number memory file size)
+answered-either Holds number memory file size first second third =
+    answered-cases Holds number memory file size (λ _ _. first) (λ _ _. second) third
 
 pub answered-keeps-memory-length : (number : ℕ) (memory file : List ℕ) (size : ℕ)
     → length (answered number memory file size .memory) ≡ length memory
-unfolding done refused finished
+unfolding areaDone lineDone refused finished drawn
 answered-keeps-memory-length number memory file size =
     answered-either (λ (end : Outcome). length (end .memory) ≡ length memory) number memory file size
+    (lineBlit-keeps-length (lineSetup file) (height size) (lines.state memory (begun (firstDot file))))
     (areaBlit-keeps-length (setup file) (width size) (height size) (state memory (start file))) refl
 
 pub answered-keeps-file-length : (number : ℕ) (memory file : List ℕ) (size : ℕ)
@@ -149,18 +204,19 @@ pub answered-keeps-file-length : (number : ℕ) (memory file : List ℕ) (size :
 unfolding refused
 answered-keeps-file-length number memory file size =
     answered-either (λ (end : Outcome). length (end .file) ≡ length file) number memory file size
-    (done-keeps-length file (finished memory file size)) refl
+    (lineDone-keeps-length file (drawn memory file size)) (areaDone-keeps-length file (finished memory file size)) refl
 
--- a blit stores at most 1,024 rows of 64 words
+-- an area blit stores at most 1,024 rows of 64 words, a line at most a word a row
 words-each-le : (size : ℕ) (used : Bool) → height size * (width size * each used) ≤ 65536
 unfolding each
 words-each-le size true = rw (mul-one (width size)) (words-le size)
 words-each-le size false = rw (mul-zero (width size), mul-zero (height size)) (omega arith)
 
 pub answered-counts : (number : ℕ) (memory file : List ℕ) (size : ℕ) → answered number memory file size .stored ≤ 65536
-unfolding done refused finished start areaBlit storePending countWith
+unfolding areaDone lineDone refused finished drawn start areaBlit storePending countWith
 answered-counts number memory file size =
     answered-either (λ (end : Outcome). end .stored ≤ 65536) number memory file size
+    (omega (arith, height-le size, lineBlit-counts (lineSetup file) (height size) (lines.state memory (begun (firstDot file)))))
     (omega (arith, rows-count-all (setup file) (width size) (height size) (state memory (start file)), words-each-le size (setup file .uses .d)))
     (omega arith)
 
@@ -183,7 +239,7 @@ Stays memory file outcome = (outcome .number ≡ 0 → ⊥) → (outcome .memory
 
 pub blitStep-stays : (memory file : List ℕ) (size : ℕ) → (blitStep memory file size .number ≡ 0 → ⊥)
     → (blitStep memory file size .memory ≡ memory) × (blitStep memory file size .file ≡ file)
-unfolding Stays blitStep done refused
+unfolding Stays blitStep areaDone lineDone refused
 blitStep-stays memory file size =
     answered-either (Stays memory file) (stepRefusal (length memory) file size) memory file size
-    (λ refusal. absurd (refusal refl)) (λ refusal. (refl, refl))
+    (λ refusal. absurd (refusal refl)) (λ refusal. absurd (refusal refl)) (λ refusal. (refl, refl))

@@ -9,7 +9,7 @@ use Rattle.word.specs.declared.types.Fill.the-variants.{Off}
 use Rattle.word.specs.Repeat.{repeated}
 use Rattle.word.specs.Pointer.{moved, nextRow}
 use Rattle.word.specs.Size.{height, width}
-use Rattle.word.specs.Control.{uses}
+use Rattle.word.specs.Control.{uses, line}
 use Rattle.word.proofs.ChoiceLaws.{or-left, or-right}
 use Rattle.word.proofs.SizeLaws.{width-positive}
 use Rattle.file.specs.File.{con1}
@@ -20,10 +20,11 @@ use Rattle.quiet.specs.Stream.{standing, standingAt, laidAt}
 use Rattle.quiet.proofs.StreamLaws.{laidAt-found}
 use Rattle.quiet.proofs.CopyLaws.{Copying, areaBlit-copies}
 use Rattle.refusal.specs.Touch.{rowTouches, touches, leaves}
-use Rattle.refusal.specs.Refusal.{refusal, areaPlan}
+use Rattle.refusal.specs.Plan.{areaPlan}
+use Rattle.refusal.specs.Refusal.{refusal}
 use Rattle.refusal.proofs.TouchLaws.{leaves-of-append}
-use Rattle.refusal.proofs.RefusalLaws.{refusal-of-none, leaving-of-d}
-use Rattle.blit.specs.Blit.{finished, done, answered, blit}
+use Rattle.refusal.proofs.RefusalLaws.{refusal-of-none, stepRefusal-of-none, leaving-of-d}
+use Rattle.blit.specs.Blit.{finished, areaDone, done, answered, blit}
 use Rattle.blit.specs.CopyOfOneRow.{plain, Copies}
 use Rattle.blit.specs.CopyOfARectangle.{fromA, toD, CopyOfARectangle}
 
@@ -82,24 +83,30 @@ standingAt-inside direction used n width modulo rows pointer uses some stays k b
     rw uses
     (rows-inside direction n width modulo rows pointer stays (k / width) (k % width) (div-lt-iff-lt-mul {k = width} {x = k} {y = rows} some .1 below) (mod-lt k some))
 
-blit-of-lawful : (memory file : List ℕ) (size : ℕ) → refusal (length memory) file size ≡ 0
+-- it copies an area, not a line
+area-of-plain : (way : Direction) (file : List ℕ) → con1 file ≡ plain way → line (con1 file) ≡ false
+area-of-plain Ascending file control = rw control
+area-of-plain Descending file control = rw control
+
+blit-of-lawful : (memory file : List ℕ) (size : ℕ) → line (con1 file) ≡ false → refusal (length memory) file size ≡ 0
     → blit memory file size .memory ≡ areaBlit (setup file) (width size) (height size) (state memory (start file)) .memory
-unfolding blit answered done finished
-blit-of-lawful memory file size lawful = rw lawful
+unfolding blit answered done areaDone finished
+blit-of-lawful memory file size area lawful = rw (lawful, area)
 
 pub copy-of-a-rectangle : CopyOfARectangle
 unfolding start
 copy-of-a-rectangle way memory file size all copies lawful apart =
     let copying : Copying (setup file) = setup-copies way file copies in
+    let area : line (con1 file) ≡ false = area-of-plain way file (copies .control1) in
     let words : ℕ = height size * width size in
     let laid : blit memory file size .memory ≡ laidAt (toD file size) (λ k. getD memory (fromA file size k) 0) words memory =
-    blit-of-lawful memory file size lawful
+    blit-of-lawful memory file size area lawful
     ∙ areaBlit-copies (setup file) copying (width size) memory (start file) all (zero-lt-suc 65535) (height size) (width-positive size) refl
     (λ i j below early. apart i j below (omega arith)) in
     let inside : (k : ℕ) → k < words → toD file size k < length memory =
     standingAt-inside (setup file .direction) (setup file .uses .d) (length memory) (width size) (setup file .modulos .d) (height size)
     (start file .pointers .d) (copying .d) (width-positive size)
-    (leaving-of-d (length memory) (areaPlan file size) (copying .d) (refusal-of-none (length memory) file size lawful)) in
+    (leaving-of-d (length memory) (areaPlan file size) (copying .d) (stepRefusal-of-none (length memory) file size area (refusal-of-none (length memory) file size lawful))) in
     record {
       laid = laid;
       found =

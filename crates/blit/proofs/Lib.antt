@@ -3,6 +3,7 @@ pub mod BlitLaws
 pub mod OnlyDChanges
 pub mod OneAnswer
 pub mod UnusedStay
+pub mod ALine
 pub mod CopyOfARectangle
 pub mod CopyOfOneRow
 pub mod AcceptedAgain

@@ -1,5 +1,5 @@
 -- A blit changes no word that D doesn't touch: each word is for D's pointer, which goes where the list of touched words goes.
-use Rattle.word.proofs.Base.{_≡_, refl, sym, ap, _∙_, ℕ, zero, suc, Bool, true, false, _||_, eqb, eqb-false, List, []}
+use Rattle.word.proofs.Base.{_≡_, refl, sym, ap, _∙_, ℕ, zero, suc, arith, Bool, true, false, _||_, eqb, eqb-false, List, []}
 use Rattle.word.proofs.Base.{_∷_, _++_, length, getD, getD-set-other}
 use mathlib.Core.Bool.{or-assoc}
 use Rattle.word.specs.declared.types.Pointer.{Pointer}
@@ -14,10 +14,19 @@ use Rattle.area.specs.Store.{memoryWith, storePending}
 use Rattle.area.specs.Move.{rowEnd}
 use Rattle.area.specs.Rows.{finishedWord, oneWord, words, rowStart, oneRow, rows, areaBlit}
 use Rattle.area.proofs.ChannelLaws.{oneWord-stores, oneWord-moves-d, oneRow-moves-d, rows-without-d}
-use Rattle.refusal.specs.Touch.{rowTouches, touches, among}
+use Rattle.line.specs.declared.types.Line.{Line}
+use Rattle.line.specs.declared.types.Dot.{Dot}
+use Rattle.line.specs.Setup.{lineSetup}
+use Rattle.line.specs.Dot.{firstDot}
+use Rattle.line.specs.Line as lines
+use Rattle.line.specs.Line.{next, spots, wordHere, oneDot, begun, lineBlit}
+use Rattle.line.proofs.LineLaws.{oneDot-goes-on}
+use Rattle.line.proofs.DotsLaws.{oneDot-memory}
+use Rattle.refusal.specs.Touch.{rowTouches, touches, lineTouches, among}
+use Rattle.refusal.proofs.RefusalLaws.{stepRefusal-of-line, refusal-of-none}
 use Rattle.refusal.specs.Refusal.{refusal}
-use Rattle.blit.specs.Blit.{Outcome, finished, done, refused, blit}
-use Rattle.blit.proofs.BlitLaws.{answered-either}
+use Rattle.blit.specs.Blit.{Outcome, finished, drawn, areaDone, lineDone, refused, blit}
+use Rattle.blit.proofs.BlitLaws.{answered-cases}
 use Rattle.blit.specs.OnlyDChanges.{OnlyDChanges, WithoutDNothingChanges}
 
 pub among-of-append : (word : ℕ) (first rest : List ℕ) → among word (first ++ rest) ≡ (among word first || among word rest)
@@ -73,15 +82,36 @@ rows-change-no-word setup width word remaining now true uses apart = rows-change
 rows-change-no-word setup width word remaining now false idle apart =
     ap (λ (memory : List ℕ). getD memory word 0) (rows-without-d setup width remaining now idle)
 
+-- a line stores only where a dot stands
+dots-change-no-other : (line : Line) (word dots : ℕ) (now : lines.State) → among word (lineTouches line dots (now .drawn .dot)) ≡ false
+    → getD (lineBlit line dots now .memory) word 0 ≡ getD (now .memory) word 0
+unfolding lineBlit repeated spots among
+dots-change-no-other line word zero now apart = refl
+dots-change-no-other line word (suc dots) now apart =
+    let at : ℕ = now .drawn .dot .spot .at .word in
+    let rest : Bool = among word (lineTouches line dots (next line (now .drawn .dot))) in
+    let here : eqb at word ≡ false = or-left (eqb at word) rest apart in
+    let later : among word (lineTouches line dots (oneDot line now .drawn .dot)) ≡ false =
+    ap (λ (dot : Dot). among word (lineTouches line dots dot)) (oneDot-goes-on line now) ∙ or-right (eqb at word) rest apart in
+    dots-change-no-other line word dots (oneDot line now) later
+    ∙ oneDot-memory (λ (memory : List ℕ). getD memory word 0 ≡ getD (now .memory) word 0) line now
+    (getD-set-other (now .memory) at word (wordHere line now) 0 (λ same. eqb-false at word here (sym same))) refl
+
 pub only-d-changes : OnlyDChanges
-unfolding blit done refused finished areaBlit storePending memoryWith start
+unfolding blit areaDone lineDone refused finished drawn areaBlit storePending memoryWith start
 only-d-changes memory file size word apart =
-    answered-either (λ (end : Outcome). getD (end .memory) word 0 ≡ getD memory word 0) (refusal (length memory) file size) memory file size
-    (rows-change-no-word (setup file) (width size) word (height size) (state memory (start file)) (setup file .uses .d) refl apart)
+    answered-cases (λ (end : Outcome). getD (end .memory) word 0 ≡ getD memory word 0) (refusal (length memory) file size) memory file size
+    (λ lawful lined. dots-change-no-other (lineSetup file) word (height size) (lines.state memory (begun (firstDot file))) (rw lined at apart))
+    (λ lawful area.
+    rows-change-no-word (setup file) (width size) word (height size) (state memory (start file)) (setup file .uses .d) refl (rw area at apart))
     refl
 
 pub without-d-nothing-changes : WithoutDNothingChanges
-unfolding blit done refused finished areaBlit storePending memoryWith start
+unfolding blit areaDone lineDone refused finished areaBlit storePending memoryWith start setup
 without-d-nothing-changes memory file size idle =
-    answered-either (λ (end : Outcome). end .memory ≡ memory) (refusal (length memory) file size) memory file size
-    (rows-without-d (setup file) (width size) (height size) (state memory (start file)) idle) refl
+    answered-cases (λ (end : Outcome). end .memory ≡ memory) (refusal (length memory) file size) memory file size
+    (λ lawful lined. absurd (both (stepRefusal-of-line (length memory) file size lined (refusal-of-none (length memory) file size lawful) .d) idle))
+    (λ lawful area. rows-without-d (setup file) (width size) (height size) (state memory (start file)) idle) refl
+  where
+    both : {used : Bool} → used ≡ true → used ≡ false → ⊥
+    both holds fails = let n : _≡_ {A = ℕ} 0 1 = cc in absurd (omega arith)

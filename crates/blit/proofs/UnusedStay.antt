@@ -1,5 +1,5 @@
 -- A blit changes no register but those of used channels and the flag: each is put at its own place.
-use Rattle.word.proofs.Base.{_≡_, refl, sym, _∙_, ℕ, _+_, Bool, true, false, _||_, eqb, eqb-false, List, [], _∷_, _++_}
+use Rattle.word.proofs.Base.{_≡_, refl, sym, _∙_, ℕ, _+_, arith, Bool, true, false, _||_, eqb, eqb-true, eqb-false, List, [], _∷_, _++_}
 use Rattle.word.proofs.Base.{length, getD, set, getD-set-other}
 use Rattle.word.specs.declared.types.Pointer.{Pointer}
 use Rattle.word.specs.Choice.{if_then_else_}
@@ -10,12 +10,16 @@ use Rattle.word.specs.declared.types.Uses.{Uses}
 use Rattle.area.specs.declared.types.Pointers.{Pointers}
 use Rattle.area.specs.declared.types.Sources.{Sources}
 use Rattle.area.specs.Setup.{setup}
+use Rattle.line.specs.declared.types.Drawn.{Drawn}
+use Rattle.line.specs.Leave.{leave}
 use Rattle.refusal.specs.Touch.{among}
+use Rattle.refusal.proofs.RefusalLaws.{Drawing, stepRefusal-of-line, refusal-of-none}
 use Rattle.refusal.specs.Refusal.{refusal}
-use Rattle.file.specs.Pointers.{putFlag}
+use Rattle.file.specs.Pointers.{withPointer, putFlag}
 use Rattle.blit.specs.WriteBack.{putPointer, putPointers, putSource, putSources}
-use Rattle.blit.specs.Blit.{Outcome, finished, done, refused, blit}
-use Rattle.blit.proofs.BlitLaws.{answered-either}
+use Rattle.blit.specs.Blit.{Outcome, finished, drawn, areaDone, lineDone, refused, blit}
+use Rattle.blit.specs.ALine.{namedPlaces}
+use Rattle.blit.proofs.BlitLaws.{answered-cases}
 use Rattle.blit.specs.UnusedStay.{pointerPlaces, sourcePlaces, changeable, UnusedStay}
 use Rattle.blit.proofs.OnlyDChanges.{among-of-append}
 
@@ -23,13 +27,17 @@ use Rattle.blit.proofs.OnlyDChanges.{among-of-append}
 set-elsewhere : (file : List ℕ) (at place word : ℕ) → eqb at place ≡ false → getD (set file at word) place 0 ≡ getD file place 0
 set-elsewhere file at place word apart = getD-set-other file at place word 0 (λ same. eqb-false at place apart (sym same))
 
+withPointer-elsewhere : (at place : ℕ) (pointer : Pointer) (file : List ℕ) → eqb at place ≡ false → eqb (at + 1) place ≡ false
+    → getD (withPointer at pointer file) place 0 ≡ getD file place 0
+withPointer-elsewhere at place pointer file first second =
+    set-elsewhere (set file at (high pointer)) (at + 1) place (low pointer) second ∙ set-elsewhere file at place (high pointer) first
+
 putPointer-elsewhere : (used : Bool) (at place : ℕ) (pointer : Pointer) (file : List ℕ) → among place (pointerPlaces used at) ≡ false
     → getD (putPointer used at pointer file) place 0 ≡ getD file place 0
 unfolding putPointer among
 putPointer-elsewhere true at place pointer file apart =
-    set-elsewhere (set file at (high pointer)) (at + 1) place (low pointer)
+    withPointer-elsewhere at place pointer file (or-left (eqb at place) (eqb (at + 1) place || false) apart)
     (or-left (eqb (at + 1) place) false (or-right (eqb at place) (eqb (at + 1) place || false) apart))
-    ∙ set-elsewhere file at place (high pointer) (or-left (eqb at place) (eqb (at + 1) place || false) apart)
 putPointer-elsewhere false at place pointer file apart = refl
 
 putSource-elsewhere : (used : Bool) (at place word : ℕ) (file : List ℕ) → among place (sourcePlaces used at) ≡ false
@@ -77,9 +85,53 @@ done-elsewhere uses pointers sources allzero file place apart =
     ∙ putPointer-elsewhere (uses .b) pointerB place (pointers .b) _ (among-right place a (pointerPlaces (uses .b) pointerB) pointer-b)
     ∙ putPointer-elsewhere (uses .a) pointerA place (pointers .a) _ (among-left place a (pointerPlaces (uses .b) pointerB) pointer-b)
 
+-- a place that isn't among those of a list is none of them
+pub apart-from : (place other : ℕ) (list : List ℕ) → among place list ≡ false → among other list ≡ true → eqb other place ≡ false
+unfolding among
+apart-from place other [] apart in-list = let n : _≡_ {A = ℕ} 0 1 = cc in absurd (omega arith)
+apart-from place other (first ∷ rest) apart in-list =
+    by-first (eqb first other) refl (apart-from place other rest (or-right (eqb first place) (among place rest) apart))
+  where
+    by-first : (here : Bool) → eqb first other ≡ here → (among other rest ≡ true → eqb other place ≡ false) → eqb other place ≡ false
+    by-first true same later = rw (← (eqb-true first other same)) (or-left (eqb first place) (among place rest) apart)
+    by-first false other later = later (rw other at in-list)
+
+-- what a line leaves elsewhere than at the places that it names
+pub leave-elsewhere : (end : Drawn) (file : List ℕ) (place : ℕ) → ((named : ℕ) → among named namedPlaces ≡ true → eqb named place ≡ false)
+    → getD (leave end file) place 0 ≡ getD file place 0
+unfolding leave putFlag among
+leave-elsewhere end file place apart =
+    let at : Pointer = end .dot .spot .at in
+    let one : List ℕ = set file (pointerA + 1) (end .dot .accumulator) in
+    let two : List ℕ = withPointer pointerC at one in
+    set-elsewhere (withPointer pointerD at two) flag place (if end .allzero then 1 else 0) (apart flag refl)
+    ∙ withPointer-elsewhere pointerD place at two (apart pointerD refl) (apart (pointerD + 1) refl)
+    ∙ withPointer-elsewhere pointerC place at one (apart pointerC refl) (apart (pointerC + 1) refl)
+    ∙ set-elsewhere file (pointerA + 1) place (end .dot .accumulator) (apart (pointerA + 1) refl)
+
+-- they are among those that a blit with A, C and D may change
+named-changeable : (uses : Uses) → Drawing uses → (place : ℕ) → among place (changeable uses) ≡ false → among place namedPlaces ≡ false
+unfolding among changeable
+named-changeable uses drawing place apart =
+    let all : List ℕ = changeable uses in
+    rw (
+      apart-from place (pointerA + 1) all apart (rw (drawing .a)),
+      apart-from place pointerC all apart (rw (drawing .a, drawing .b, drawing .c)),
+      apart-from place (pointerC + 1) all apart (rw (drawing .a, drawing .b, drawing .c)),
+      apart-from place pointerD all apart (rw (drawing .a, drawing .b, drawing .c, drawing .d)),
+      apart-from place (pointerD + 1) all apart (rw (drawing .a, drawing .b, drawing .c, drawing .d)),
+      apart-from place flag all apart (rw (drawing .a, drawing .b, drawing .c, drawing .d)),
+    ) refl
+
 pub unused-stay : UnusedStay
-unfolding blit done refused
+unfolding blit areaDone lineDone refused setup
 unused-stay memory file size place apart =
-    answered-either (λ (end : Outcome). getD (end .file) place 0 ≡ getD file place 0) (refusal (length memory) file size) memory file size
-    (done-elsewhere (setup file .uses) (finished memory file size .flow .pointers) (finished memory file size .flow .sources) (finished memory file size .flow .allzero) file place apart)
+    answered-cases (λ (end : Outcome). getD (end .file) place 0 ≡ getD file place 0) (refusal (length memory) file size) memory file size
+    (λ lawful lined.
+    leave-elsewhere (drawn memory file size .drawn) file place
+    (λ named. apart-from place named namedPlaces
+    (named-changeable (setup file .uses) (stepRefusal-of-line (length memory) file size lined (refusal-of-none (length memory) file size lawful)) place apart)))
+    (λ lawful area.
+    done-elsewhere (setup file .uses) (finished memory file size .flow .pointers) (finished memory file size .flow .sources)
+    (finished memory file size .flow .allzero) file place apart)
     refl

@@ -10,7 +10,13 @@ use Rattle.blit.specs.declared.types.Answer.the-variants.{Done, Refused}
 use Rattle.area.specs.Setup.{setup}
 use Rattle.area.specs.Flow.{State, state, start}
 use Rattle.area.specs.Rows.{areaBlit}
+use Rattle.line.specs.Setup.{lineSetup}
+use Rattle.line.specs.Dot.{firstDot}
+use Rattle.line.specs.Line as lines
+use Rattle.line.specs.Line.{begun, lineBlit}
+use Rattle.line.specs.Leave.{leave}
 use Rattle.blit.specs.WriteBack.{writeBack}
+use Rattle.refusal.specs.Plan.{lineOrArea}
 use Rattle.refusal.specs.Refusal.{stepRefusal, refusal, refusalNumber}
 
 -- what a blit gives and leaves
@@ -20,19 +26,37 @@ pub record Outcome : Type 0 where
   pub memory : List ℕ
   pub file : List ℕ
 
--- the blit, all rows done and the last word stored
+-- the area blit, all rows done and the last word stored
 unfoldable pub finished : (memory file : List ℕ) → (size : ℕ) → State
 finished memory file size = areaBlit (setup file) (width size) (height size) (state memory (start file))
 
--- a blit that is done
-unfoldable pub done : (file : List ℕ) → State → Outcome
-done file end =
+-- the line, all dots done
+unfoldable pub drawn : (memory file : List ℕ) → (size : ℕ) → lines.State
+drawn memory file size = lineBlit (lineSetup file) (height size) (lines.state memory (begun (firstDot file)))
+
+-- an area blit that is done, and a line that is
+unfoldable pub areaDone : (file : List ℕ) → State → Outcome
+areaDone file end =
     record {
       number = 0;
       stored = end .flow .stored;
       memory = end .memory;
       file = writeBack (setup file .uses) (end .flow) file;
     }
+
+unfoldable pub lineDone : (file : List ℕ) → lines.State → Outcome
+lineDone file end =
+    record {
+      number = 0;
+      stored = end .drawn .stored;
+      memory = end .memory;
+      file = leave (end .drawn) file;
+    }
+
+-- a blit that is done: a line's or an area's
+unfoldable pub done : (memory file : List ℕ) → (size : ℕ) → Outcome
+done memory file size =
+    lineOrArea file (lineDone file (drawn memory file size)) (areaDone file (finished memory file size))
 
 -- a blit that is refused: nothing is stored, and nothing changes
 unfoldable pub refused : (number : ℕ) → (memory file : List ℕ) → Outcome
@@ -41,7 +65,7 @@ refused number memory file = record { number = number; stored = 0; memory = memo
 -- a blit with the number of its refusal; 0 where it is done
 unfoldable pub answered : (number : ℕ) → (memory file : List ℕ) → (size : ℕ) → Outcome
 answered number memory file size =
-    if eqb number 0 then done file (finished memory file size) else
+    if eqb number 0 then done memory file size else
     refused number memory file
 
 -- the blit of a job's step, and the blit called alone

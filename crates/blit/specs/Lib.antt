@@ -3,6 +3,7 @@ pub mod WriteBack
 pub mod Blit
 pub mod OnlyDChanges
 pub mod UnusedStay
+pub mod ALine
 pub mod CopyOfOneRow
 pub mod CopyOfARectangle
 pub mod AcceptedAgain

@@ -7,13 +7,17 @@ use lib.ListN.{getD}
 use Rattle.word.specs.Size.{height, width}
 use Rattle.area.specs.Setup.{setup}
 use Rattle.area.specs.Flow.{start}
-use Rattle.refusal.specs.Touch.{touches, among}
+use Rattle.line.specs.Setup.{lineSetup}
+use Rattle.line.specs.Dot.{firstDot}
+use Rattle.refusal.specs.Touch.{touches, lineTouches, among}
+use Rattle.refusal.specs.Plan.{lineOrArea}
 use Rattle.blit.specs.Blit.{blit}
 
--- the words that D would touch
+-- the words that D would touch; in a line it goes where C goes
 abbrev pub touchedByD : (file : List ℕ) → (size : ℕ) → List ℕ
 touchedByD file size =
-    touches (setup file .direction) (width size) (setup file .modulos .d) (height size) (start file .pointers .d)
+    lineOrArea file (lineTouches (lineSetup file) (height size) (firstDot file))
+    (touches (setup file .direction) (width size) (setup file .modulos .d) (height size) (start file .pointers .d))
 
 abbrev pub OnlyDChanges : Type 0
 OnlyDChanges =

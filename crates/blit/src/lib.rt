@@ -1,4 +1,4 @@
-// The area blit: refused, or all rows done and the register file written back.
+// The blit, an area's or a line's: refused, or done and the register file written back.
 pub mod answer;
 mod done;
 mod registers;

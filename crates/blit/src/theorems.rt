@@ -1,6 +1,7 @@
 // What is proved of the blit's definition; each function has its theorem as its contract, and does nothing.
 ghost use Rattle.blit.specs.OnlyDChanges.{OnlyDChanges, WithoutDNothingChanges};
 ghost use Rattle.blit.specs.UnusedStay.{UnusedStay};
+ghost use Rattle.blit.specs.ALine.{OnlyDotsChange, AWordARow, OthersAsBefore};
 ghost use Rattle.blit.specs.CopyOfOneRow.{CopyOfOneRow};
 ghost use Rattle.blit.specs.CopyOfARectangle.{CopyOfARectangle};
 ghost use Rattle.blit.specs.AcceptedAgain.{AcceptedAgain};
@@ -16,6 +17,18 @@ pub fn without_d_nothing_changes()
 
 pub fn unused_stay()
     ensures { λ _. ⌜ UnusedStay ⌝ }
+{}
+
+pub fn only_dots_change()
+    ensures { λ _. ⌜ OnlyDotsChange ⌝ }
+{}
+
+pub fn a_word_a_row()
+    ensures { λ _. ⌜ AWordARow ⌝ }
+{}
+
+pub fn others_as_before()
+    ensures { λ _. ⌜ OthersAsBefore ⌝ }
 {}
 
 pub fn copy_of_one_row()

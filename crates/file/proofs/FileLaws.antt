@@ -65,6 +65,14 @@ kept-of-low place to bits = rw bits (and-high (low to) 15 1 ∙ half-twice (to .
     half-twice : (n : ℕ) → n < 32768 → n * 2 / 2 % 32768 * 2 ≡ n * 2
     half-twice n small = omega arith
 
+-- of an even word, at a place that keeps "15-1"
+pub kept-of-even : (place word : ℕ) → getD keptBits place 0 ≡ 0xFFFE → word % 2 ≡ 0 → word < 65536 → kept place word ≡ word
+unfolding kept
+kept-of-even place word bits even small = rw bits (and-high word 15 1 ∙ whole word even small)
+  where
+    whole : (word : ℕ) → word % 2 ≡ 0 → word < 65536 → word / 2 % 32768 * 2 ≡ word
+    whole word even small = omega arith
+
 -- a place holds its bits by the word that stands there
 pub keptAt-of-word : (file : List ℕ) (place word : ℕ) → word ≡ getD file place 0 → kept place word ≡ word → keptAt file place ≡ true
 unfolding keptAt
@@ -88,6 +96,15 @@ module _ (file : List ℕ) (fine : accepted file ≡ true) where
       subst (λ (word : ℕ). word < 65536) (accepted-keeps place inside)
       (lt-of-le-of-lt (and-le-r (getD file place 0) (getD keptBits place 0))
       (ltb→lt (getD keptBits place 0) 65536 (every-at (λ (k : ℕ). ltb (getD keptBits k 0) 65536) fileLength tt place inside)))
+
+  -- and even where "15-1" are kept
+  pub accepted-even : (place : ℕ) → place < fileLength → getD keptBits place 0 ≡ 0xFFFE → getD file place 0 % 2 ≡ 0
+  unfolding kept
+  accepted-even place inside bits =
+      twice (getD file place 0) (sym (and-high (getD file place 0) 15 1) ∙ (rw bits at (accepted-keeps place inside)))
+    where
+      twice : (word : ℕ) → word / 2 % 32768 * 2 ≡ word → word % 2 ≡ 0
+      twice word same = omega arith
 
   -- a word put to a place that keeps it
   pub accepted-of-set : (at word : ℕ) → kept at word ≡ word → accepted (set file at word) ≡ true

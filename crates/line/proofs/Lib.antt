@@ -1,3 +1,4 @@
 -- The laws of the definitions in specs/, a file for each.
 pub mod MoveLaws
 pub mod LineLaws
+pub mod DotsLaws

@@ -2,5 +2,6 @@
 pub mod RowTouchLaws
 pub mod TouchLaws
 pub mod LineTouchLaws
+pub mod PlanLaws
 pub mod RefusalLaws
 pub mod OneAnswerLaws

@@ -1,8 +1,9 @@
 -- Laws of the refusals.
-use Rattle.word.proofs.Base.{_≡_, refl, sym, ap, _∙_, ℕ, _<_, _≤_, arith, Bool, true, false, _&&_, _||_, not, eqb, List}
+use Rattle.word.proofs.Base.{_≡_, refl, sym, ap, _∙_, ℕ, _<_, _≤_, arith, Bool, true, false, _&&_, _||_, not, eqb, not-true, not-false, List}
 use Rattle.word.specs.Choice.{if_then_else_, given}
 use Rattle.word.specs.Pointer.{pointerEnd, pointer}
 use Rattle.word.specs.Size.{height, width}
+use Rattle.word.proofs.ChoiceLaws.{and-left, and-right, or-right}
 use Rattle.word.proofs.SizeLaws.{height-positive, height-le, width-le, width-positive}
 use Rattle.word.specs.declared.types.Uses.{Uses}
 use Rattle.file.specs.File.{accepted, con0, con1}
@@ -232,6 +233,41 @@ pub stepRefusal-of-none : (n : ℕ) (file : List ℕ) (size : ℕ) → line (con
     → leaving n (areaPlan file size) ≡ 0
 unfolding stepRefusal
 stepRefusal-of-none n file size area lawful = areaRules-of-none n file size (rw area at lawful)
+
+-- a line that nothing refuses uses A, C and D, and not B
+pub record Drawing (uses : Uses) : Type 0 where
+  pub a : uses .a ≡ true
+  pub b : uses .b ≡ false
+  pub c : uses .c ≡ true
+  pub d : uses .d ≡ true
+
+drawing-of-tests : (uses : Uses) → (uses .a && not (uses .b) && uses .c && uses .d) ≡ true → Drawing uses
+drawing-of-tests uses all =
+    let abc = and-left (uses .a && not (uses .b) && uses .c) (uses .d) all in
+    let ab = and-left (uses .a && not (uses .b)) (uses .c) abc in
+    record {
+      a = and-left (uses .a) (not (uses .b)) ab;
+      b = not-true (uses .b) (and-right (uses .a) (not (uses .b)) ab);
+      c = and-right (uses .a && not (uses .b)) (uses .c) abc;
+      d = and-right (uses .a && not (uses .b) && uses .c) (uses .d) all;
+    }
+
+otherForm-of-none : (uses : Uses) (width : ℕ) → otherForm uses width ≡ false → Drawing uses
+unfolding otherForm
+otherForm-of-none uses width formed =
+    drawing-of-tests uses (not-false (uses .a && not (uses .b) && uses .c && uses .d) (or-right (not (eqb width 2)) _ formed))
+
+pub stepRefusal-of-line : (n : ℕ) (file : List ℕ) (size : ℕ) → line (con1 file) ≡ true → stepRefusal n file size ≡ 0
+    → Drawing (uses (con0 file))
+unfolding stepRefusal given
+stepRefusal-of-line n file size lines lawful =
+    otherForm-of-none (uses (con0 file)) (width size)
+    (by-form (otherForm (uses (con0 file)) (width size)) (pointersDiffer file)
+    (leaves n (lineTouches (lineSetup file) (height size) (firstDot file))) (rw lines at lawful))
+  where
+    by-form : (form differ outside : Bool) → _≡_ {A = ℕ} (if form then 18 else if differ then 19 else if outside then 16 else 0) 0 → form ≡ false
+    by-form true differ outside none = absurd (omega arith)
+    by-form false differ outside none = refl
 
 -- the blit called alone is refused by memory, by the file, or as a job's
 pub refusal-of-none : (n : ℕ) (file : List ℕ) (size : ℕ) → refusal n file size ≡ 0 → stepRefusal n file size ≡ 0

@@ -1,0 +1,16 @@
+-- `blit::done::line_done` meets its contract: what all dots leave is written back.
+use Rattle.blit.proofs.BlitLaws.{course-shift, course-bit, course-room, lineDone-of-parts}
+use Rattle.word.proofs.Base.{needs}
+use Rattle.blit.proofs.done.line_done.Statement.{statement}
+use Rattle.blit.proofs.done.line_done.Tie as tie
+
+line-blit-requires : tie.Need-line-blit-requires
+line-blit-requires c κs = (search course-shift, search course-bit, search course-room)
+
+returns : tie.Need-returns
+returns c = search lineDone-of-parts
+
+pub line-done-spec : {M : Type 1} → statement M
+line-done-spec =
+    tie.close (tie.spec (λ c. search needs) line-blit-requires (λ c κs. search needs) (λ c. search needs)
+    (λ c. search needs) returns)

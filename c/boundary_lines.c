@@ -1,5 +1,5 @@
-/* Lines in the boundary test. What each must give is written out from paper 01's rules for a line and paper 02's W3, and
- * from the manual's examples. */
+/* Lines in the boundary test. What each must give is written out from paper 01's rules for a line, paper 02's W3 and the
+ * manual's examples. */
 #include <stdio.h>
 #include <string.h>
 
@@ -10,7 +10,7 @@
 #define OVER_RAM "0000*262145"
 #define CLEAR_AT_8 "0040 0100 0042 0000 0054 0000 0056 0010 0066 0000 "
 
-/* What of the register file a line goes by, and of this what it changes: the pointer of C and D, and the accumulator. */
+/* What of the register file a line goes by. The pointer of C and D and the accumulator are what it changes. */
 struct line {
     const char *control;      /* BLTCON0, BLTCON1, BLTAFWM, BLTALWM */
     const char *at;           /* the pointer of C and of D, high half and low half */
@@ -73,8 +73,8 @@ static void manuals(void)
           "FFFF EFFF FFFF EFFF EFFF FFFF EFFF FFFF FFFF FFFF EFFF EFFF EFFF EFFF FFFF FFFF", "0 20", "FFE2", 0);
 }
 
-/* The same shape from the ninth pixel of word 5, in the eight octants by their numbers in the manual. Steep ones end above
- * or below memory. */
+/* The same shape from the ninth pixel of word 5, in the eight octants by their numbers in the manual. Steep ones end
+ * above or below memory. */
 static void octants(void)
 {
     static const struct { const char *control, *single, *after, *single_after, *at; } ways[] = {

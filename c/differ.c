@@ -1,7 +1,7 @@
 /* differ [CASES [SEED]]: does random cases with the archive and with the plain engine and compares all that comes out.
  * Case i has the seed SEED + i, so `differ 1 S` does the case of seed S again.
- * differ seams: the same with the cases of differ_seams.c, pictures of all sizes and delays and lines of all kinds, always
- * the same ones.
+ * differ seams: the same with the cases of differ_seams.c, pictures of all sizes and delays and lines of all kinds,
+ * always the same ones.
  * On the first difference the case is shrunk and printed, and the program ends with 1; so it does where among the seams,
  * or among many random cases, no line of some kind came. */
 #include <inttypes.h>
@@ -139,7 +139,8 @@ static const char *difference_of_foldings(const struct test *test)
         return "output";
     if (plain.number != 0)
         return NULL;
-    bool alike = desk.count == test->job_words && memcmp(desk.out + FENCE, test->job, desk.count * sizeof *desk.out) == 0;
+    bool alike = desk.count == test->job_words
+        && memcmp(desk.out + FENCE, test->job, desk.count * sizeof *desk.out) == 0;
     changed += !alike;
     return difference_of_pair(test, desk.out + FENCE, desk.count, alike);
 }

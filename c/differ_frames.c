@@ -67,8 +67,8 @@ static const char *difference_of_cut(const struct test *test, uint32_t lent)
     return compare_frames() == NULL ? NULL : "end of the frame that was cut, both parts done by the archive";
 }
 
-/* Does so many instructions of a frame again, one at a time, and counts the MOVEs to 058 among them that found the line bit
- * set. */
+/* Does so many instructions of a frame again, one at a time, and counts the MOVEs to 058 among them that found the line
+ * bit set. */
 static void count_lines(const struct test *test, uint32_t done)
 {
     set_up(&plain, test);
@@ -78,8 +78,8 @@ static void count_lines(const struct test *test, uint32_t done)
         uint16_t first = plain.ram[FENCE + plain.word];
         if (first % 2 == 0 && (first & 0x01FE) == 0x058 && plain.file[FENCE + 1] & LINE)
             count_line_of_frame();
-        plain_frame_from(plain.ram + FENCE, test->ram_words, plain.file + FENCE, test->file_words, plain.place, plain.word,
-                         1, &plain.why, &plain.number, &plain.count, &plain.word, &plain.place);
+        plain_frame_from(plain.ram + FENCE, test->ram_words, plain.file + FENCE, test->file_words,
+                         plain.place, plain.word, 1, &plain.why, &plain.number, &plain.count, &plain.word, &plain.place);
     }
 }
 

@@ -64,16 +64,14 @@ static bool alike_inside(void)
 /* Every setting with every shift and every first bit. */
 static bool settings(void)
 {
-    for (uint32_t setting = 0; setting < SETTINGS; setting++)
-        for (uint32_t shift = 0; shift < SHIFTS; shift++)
-            for (uint32_t bit = 0; bit < SHIFTS; bit++) {
-                begin(1 + below(one_in(2) ? 4 : 40));
-                set_setting(setting);
-                set_shift(shift);
-                set_texture_bit(bit);
-                if (!alike_inside())
-                    return false;
-            }
+    for (uint32_t which = 0; which < SETTINGS * SHIFTS * SHIFTS * DRAWS; which++) {
+        begin(1 + below(one_in(2) ? 4 : 40));
+        set_setting(which % SETTINGS);
+        set_shift(which / SETTINGS % SHIFTS);
+        set_texture_bit(which / SETTINGS / SHIFTS % SHIFTS);
+        if (!alike_inside())
+            return false;
+    }
     return true;
 }
 
@@ -142,7 +140,8 @@ static bool functions(void)
     return true;
 }
 
-/* Lines that come back: C's modulo 0, or a word against the horizontal moves, so that dots are fetched that were stored. */
+/* Lines that come back: C's modulo 0, or a word against the horizontal moves, so that dots are fetched that were
+ * stored. */
 static bool returns(void)
 {
     static const uint16_t rows[] = {0, 2, 0xFFFE, 4, 0xFFFC};
@@ -173,8 +172,8 @@ static bool last_steps(size_t n)
     return true;
 }
 
-/* Lines whose outermost dot is memory's last word or its first one, or one or some words past it: refused, or going round
- * where memory has all words that pointers have. */
+/* Lines whose outermost dot is memory's last word or its first one, or one or some words past it: refused, or going
+ * round where memory has all words that pointers have. */
 static bool edges(int32_t n)
 {
     for (uint32_t setting = 0; setting < SETTINGS; setting++)
@@ -192,6 +191,26 @@ static bool edges(int32_t n)
     return true;
 }
 
+/* Straight up or down by long strides, which go round more than once: one dot at the last word of memory, or at the one
+ * word that pointers have and memory hasn't. */
+static bool strides(void)
+{
+    static const uint16_t modulos[] = {0x4000, 0xC000, 0x7FFE, 0x8000, 0x8002, 0x5556, 0x1000, 0xFFFE};
+    for (uint32_t which = 0; which < 8 * 2 * 2; which++)
+        for (uint32_t dot = 0; dot < 40; dot += 1 + below(4)) {
+            begin(40);
+            set_setting(0x20 | (which & 1 ? AUL >> 1 : 0) | below(2));
+            line.file[A_LOW] = 0x8000;
+            line.file[FIRST_MODULO + B_CHANNEL] = 0;
+            line.file[FIRST_MODULO + C_CHANNEL] = modulos[which / 4];
+            int32_t stride = (int16_t)modulos[which / 4] / 2 * (which & 1 ? 1 : -1);
+            set_line_pointer(&line, POINTERS - 1 - (which >> 1 & 1) + (uint32_t)stride * dot);
+            if (!alike(POINTERS - 1))
+                return false;
+        }
+    return true;
+}
+
 static bool all_edges(void)
 {
     static const int32_t sizes[] = {1, 2, 3, 17, 64, 500, POINTERS - 1, POINTERS};
@@ -201,7 +220,8 @@ static bool all_edges(void)
     return true;
 }
 
-/* A short line of this width and these channels, in memory of 64 words or outside it, whose C and D differ in some bits. */
+/* A short line of this width and these channels, in memory of 64 words or outside it, whose C and D differ in some
+ * bits. */
 static bool alike_with(uint32_t width, uint32_t uses, bool outside, uint32_t apart)
 {
     uint32_t word = (outside ? 64 : 10) + below(40);
@@ -240,7 +260,8 @@ static bool orders(void)
 {
     for (uint32_t which = 0; which < 16 * DRAWS; which++) {
         begin(1 + below(8));
-        uint32_t width = which & 1 ? 3 + below(WIDTHS - 3) : 2, uses = which & 2 ? LINE_USES ^ USE_D << below(4) : LINE_USES;
+        uint32_t width = which & 1 ? 3 + below(WIDTHS - 3) : 2;
+        uint32_t uses = which & 2 ? LINE_USES ^ USE_D << below(4) : LINE_USES;
         if (!alike_with(width, uses, which & 4, which & 8 ? 1u << below(POINTER_BITS) : 0))
             return false;
     }
@@ -250,6 +271,6 @@ static bool orders(void)
 uint64_t line_seams(void)
 {
     bool all = settings() && slopes() && lengths() && accumulators() && functions() && returns() && all_edges()
-        && widths_and_sets() && pointer_bits() && orders();
+        && strides() && widths_and_sets() && pointer_bits() && orders();
     return all ? cases : 0;
 }

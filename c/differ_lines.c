@@ -8,8 +8,8 @@
 
 enum { MOST_DOTS = 1024, OCTANTS = 8 };
 
-/* Lines called alone: by number, the done ones by their bits SUD, SUL and AUL, those with SING, of these the ones with a dot
- * that isn't stored, and those with no stored word but zeros. Lines done in jobs, folded jobs and lists. */
+/* Lines called alone: by number; of the done ones by their bits SUD, SUL and AUL, those with SING, of these the ones with
+ * a dot that isn't stored, and those with no stored word but zeros. Lines done in jobs, folded jobs and lists. */
 static uint64_t by_number[NUMBERS], by_bits[OCTANTS], single, with_gaps, all_zero, in_runs, in_folded, in_frames;
 
 void set_dots(struct plan *plan, uint32_t dots)

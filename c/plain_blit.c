@@ -1,5 +1,5 @@
-/* The area blit of paper 01, word by word, with the order of fetches and stores of paper 02's W2. A blit with the line bit
- * is a line and is done by plain_line.c. */
+/* The area blit of paper 01, word by word, with the order of fetches and stores of paper 02's W2. A blit with the line
+ * bit is a line, which plain_line.c does. */
 #include "plain.h"
 #include "plain_parts.h"
 

@@ -168,7 +168,7 @@ static uint64_t lines_of(const struct test *test, size_t end)
 {
     uint16_t con1 = test->file[1];
     uint64_t lines = 0;
-    for (size_t at = 0; at < end;) {
+    for (size_t at = 0; at < end && at < test->job_words;) {
         uint16_t first = test->job[at];
         if (first == 0x042)
             con1 = test->job[at + 1];

@@ -1,6 +1,7 @@
-/* lines ENGINE CASE DOTS TIMES [MEMORY]: draws a line of so many dots so many times with an engine, desk or plain. MEMORY
- * is 262,144 words if nothing else is said. First both engines draw it once and must leave the same memory and register
- * file; that costs the same whatever TIMES is, so it falls out of the difference of two counts. Prints the dots. */
+/* lines ENGINE CASE DOTS TIMES [MEMORY]: draws a line of so many dots so many times with an engine, desk or plain.
+ * MEMORY is 262,144 words if nothing else is said. First both engines draw it once and must leave the same memory and
+ * register file; that costs the same whatever TIMES is, so it falls out of the difference of two counts. Prints the
+ * dots. */
 #include <stdio.h>
 #include <stdlib.h>
 #include <string.h>

@@ -1,5 +1,5 @@
-/* Lines in the boundary test. What each must give is written out from paper 01's rules for a line, paper 02's W3 and the
- * manual's examples. */
+/* Lines in the boundary test. What each must give is written out from paper 01's rules for a line, paper 02's W3 and
+ * the manual's examples. */
 #include <stdio.h>
 #include <string.h>
 

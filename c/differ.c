@@ -2,8 +2,8 @@
  * Case i has the seed SEED + i, so `differ 1 S` does the case of seed S again.
  * differ seams: the same with the cases of differ_seams.c, pictures of all sizes and delays and lines of all kinds,
  * always the same ones.
- * On the first difference the case is shrunk and printed, and the program ends with 1; so it does where among the seams,
- * or among many random cases, no line of some kind came. */
+ * On the first difference the case is shrunk and printed, and the program ends with 1; so it does where among the
+ * seams, or among many random cases, no line of some kind came. */
 #include <inttypes.h>
 #include <stdio.h>
 #include <stdlib.h>

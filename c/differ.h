@@ -165,6 +165,9 @@ uint64_t line_seams(void);
 void shrink(struct test *test);
 void print_test(const struct test *test);
 
+/* A line called alone, in words. */
+void describe_line(const struct test *test);
+
 /* The line of a picture as a side's output has it, and what of the output lies next to it. */
 void print_line(const struct side *side, const struct test *test);
 

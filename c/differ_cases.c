@@ -57,8 +57,8 @@ static void put_blit(struct test *test, const struct plan *plan, bool risk)
     put(test, plan->size);
 }
 
-/* The blit before once more: as pointers stand, or with some or all of them written again. A line is often followed by a
- * blit of D alone that isn't one. */
+/* The blit before once more: as pointers stand, or with some or all of them written again. A line is often followed by
+ * a blit of D alone that isn't one. */
 static void put_again(struct test *test, const struct plan *plan)
 {
     uint32_t which = below(4);

@@ -8,8 +8,8 @@
 
 enum { MOST_DOTS = 1024, OCTANTS = 8 };
 
-/* Lines called alone: by number; of the done ones by their bits SUD, SUL and AUL, those with SING, of these the ones with
- * a dot that isn't stored, and those with no stored word but zeros. Lines done in jobs, folded jobs and lists. */
+/* Lines called alone: by number; the done ones by their bits SUD, SUL and AUL; those with SING, those with a dot that
+ * isn't stored, and those with no stored word but zeros. Lines done in jobs, in jobs that a folding changes, in lists. */
 static uint64_t by_number[NUMBERS], by_bits[OCTANTS], single, with_gaps, all_zero, in_runs, in_folded, in_frames;
 
 void set_dots(struct plan *plan, uint32_t dots)
@@ -187,6 +187,17 @@ void count_lines_of_run(const struct test *test, const struct side *side, bool f
 
 void count_line_of_frame(void) { in_frames++; }
 
+void describe_line(const struct test *test)
+{
+    uint16_t con1 = test->file[1];
+    const uint16_t *pointer = test->file + FIRST_POINTER + 2 * C_CHANNEL;
+    const char *horizontal[] = {"right", "left"}, *vertical[] = {"down", "up"};
+    const char **sometimes = con1 & SUD ? vertical : horizontal, **always = con1 & SUD ? horizontal : vertical;
+    printf("line of %u dots from word %" PRIu32 ", always %s, sometimes %s, sign %u%s\n",
+           test->size >> 6 == 0 ? MOST_DOTS : test->size >> 6, ((uint32_t)pointer[0] << 16 | pointer[1]) / 2,
+           always[con1 / AUL & 1], sometimes[con1 / SUL & 1], con1 / SIGN & 1u, con1 & SING ? ", SING" : "");
+}
+
 /* By the manual's number of the octant, from SUD, SUL and AUL. */
 static const int octants[OCTANTS] = {6, 1, 5, 2, 7, 4, 0, 3};
 
@@ -202,7 +213,7 @@ void print_lines(void)
     printf("; done by octant:");
     for (int octant = 0; octant < OCTANTS; octant++)
         printf(" %" PRIu64, by_octant[octant]);
-    printf("; with SING: %" PRIu64 ", of these with a dot not stored: %" PRIu64 "; of zeros alone: %" PRIu64
+    printf("; with SING: %" PRIu64 ", with a dot not stored: %" PRIu64 ", of zeros alone: %" PRIu64
            "; done in jobs: %" PRIu64 ", in jobs that a folding changes: %" PRIu64 ", in lists: %" PRIu64 "\n",
            single, with_gaps, all_zero, in_runs, in_folded, in_frames);
 }

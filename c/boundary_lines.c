@@ -101,6 +101,8 @@ static void octants(void)
 /* An accumulator of 8000 and a B modulo of 0: the sign stays, and only the always move is made. */
 #define LEVEL "8000", "4 0 0", "FFFF 8000"
 
+#define FIVE(text) text text text text text
+
 static void ends_of_memory(void)
 {
     drawn("N - 1, right with shift 15", ZEROS, (struct line){"FBFA 0051 FFFF FFFF", "0 1E", LEVEL}, 0x0042, 1,
@@ -127,6 +129,11 @@ static void ends_of_memory(void)
     drawn("up by a modulo of 8000", ZEROS,
           (struct line){"0BFA 0045 FFFF FFFF", "0 A", "8000", "8000 0 0", "FFFF 8000"}, 0x0042, 1, "0*5 8000 0*10",
           "0 800A", "8000", 0);
+    refused("out of memory and back again", ZEROS,
+            (struct line){"0BFA 0041 FFFF FFFF", "0 A", "8000", "8000 0 0", "FFFF 8000"}, 0x0442, 16);
+    drawn("the same where nothing is outside", MOST_RAM,
+          (struct line){"0BFA 0041 FFFF FFFF", "0 A", "8000", "8000 0 0", "FFFF 8000"}, 0x0442, 17,
+          "0*5 " FIVE("8000 0*16383 ") FIVE("8000 0*16383 ") FIVE("8000 0*16383 ") "8000 0*16378", "7 800A", "8000", 0);
     drawn("round the top, to the right", MOST_RAM, (struct line){"FBFA 0051 FFFF FFFF", "7 FFFE", LEVEL}, 0x0082, 2,
           "8000 0*262142 0001", "0 0", "8000", 0);
     drawn("round the top, to the left", MOST_RAM, (struct line){"0BFA 0055 FFFF FFFF", "0 0", LEVEL}, 0x0082, 2,

@@ -93,8 +93,8 @@ uint32_t at_most(uint32_t value, uint32_t most);
 void make_plan(struct plan *plan, uint32_t n, bool settled, bool risk);
 void make_line(struct plan *plan, uint32_t n, bool risk);
 
-/* A line with any registers, but for its number of dots and its place; these two; the manual's set-up for a longer and a
- * shorter side; and the reach of its dots' words. */
+/* A line with any registers, but for its number of dots and its place; these two; the manual's set-up for a longer and
+ * a shorter side; and the reach of its dots' words. */
 void pick_line(struct plan *plan);
 void set_dots(struct plan *plan, uint32_t dots);
 void set_line_pointer(struct plan *plan, uint32_t word);
@@ -136,8 +136,8 @@ const char *difference(const struct test *test);
 const char *difference_of_frames(const struct test *test);
 const char *difference_of_pictures(const struct test *test);
 
-/* Count the lines that the plain side did or refused: one called alone, those of a job that was run, of itself or because
- * a folding changed it, and one of a list. */
+/* Count a line called alone, by the plain side's answer; the lines that a side did of a job, which was run for its own
+ * sake or because a folding changed it; and a line of a list. */
 void count_line(const struct test *test);
 void count_lines_of_run(const struct test *test, const struct side *side, bool folded);
 void count_line_of_frame(void);
@@ -156,8 +156,8 @@ void report(struct test *test, const char *which, uint64_t number);
 /* Does the cases that cross an engine's seams: how many, or 0 after a report of the first on which the sides differ. */
 uint64_t seams(void);
 
-/* The same of the pictures and the lines, with which seams ends: a picture for all delays, numbers of planes and numbers of
- * words; lines of all settings, slopes and lengths. */
+/* The same of the pictures and the lines, with which seams ends: a picture for all delays, numbers of planes and numbers
+ * of words; lines of all settings, slopes and lengths. */
 uint64_t picture_seams(void);
 uint64_t line_seams(void);
 

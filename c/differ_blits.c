@@ -171,7 +171,7 @@ void pick_screen(uint16_t *file)
     file[ZERO_FLAG] = below(2);
 }
 
-/* One blit in so many is a line; of those that could be settled fewer, which then stands among them. */
+/* One blit in so many is a line, fewer where it could be settled. */
 enum { LINE_SHARE = 3, LINE_SHARE_AMONG_SETTLED = 8 };
 
 void make_plan(struct plan *plan, uint32_t n, bool settled, bool risk)

@@ -25,12 +25,12 @@ static void set_octant(uint32_t octant, bool sing)
     line.file[1] = (line.file[1] & ~(SUD | SUL | AUL | SING)) | octant << 2 | (sing ? SING : 0);
 }
 
-/* Begins the next line. */
-static void begin(uint32_t dots)
+/* Begins the next line, of one dot. */
+static void begin(void)
 {
     start_random(++cases);
     pick_line(&line);
-    set_dots(&line, dots);
+    set_dots(&line, 1);
 }
 
 static bool alike(size_t ram_words)
@@ -65,7 +65,8 @@ static bool alike_inside(void)
 static bool settings(void)
 {
     for (uint32_t which = 0; which < SETTINGS * SHIFTS * SHIFTS * DRAWS; which++) {
-        begin(1 + below(one_in(2) ? 4 : 40));
+        begin();
+        set_dots(&line, 1 + below(one_in(2) ? 4 : 40));
         set_setting(which % SETTINGS);
         set_shift(which / SETTINGS % SHIFTS);
         set_texture_bit(which / SETTINGS / SHIFTS % SHIFTS);
@@ -81,7 +82,8 @@ static bool slopes(void)
     for (uint32_t octant = 0; octant < 16; octant++)
         for (uint32_t long_side = 0; long_side <= LONGEST_SIDE; long_side++)
             for (uint32_t short_side = 0; short_side <= long_side; short_side++) {
-                begin(long_side + 1);
+                begin();
+                set_dots(&line, long_side + 1);
                 set_octant(octant % 8, octant >= 8);
                 set_slope(&line, long_side, short_side);
                 if (!alike_inside())
@@ -95,7 +97,8 @@ static bool lengths(void)
 {
     for (uint32_t dots = 1; dots <= MOST_DOTS; dots++)
         for (int kind = 0; kind < 3; kind++) {
-            begin(dots);
+            begin();
+            set_dots(&line, dots);
             if (kind == 0)
                 set_slope(&line, dots - 1, below(dots));
             if (kind == 1)
@@ -113,7 +116,8 @@ static bool accumulators(void)
     static const uint16_t starts[] = {0, 2, 0x7FFE, 0x8000, 0x8002, 0xFFFE};
     static const uint16_t modulos[] = {0, 2, 4, 0x7FFE, 0x8000, 0x8002, 0xFFFC, 0xFFFE};
     for (uint32_t which = 0; which < 6 * 8 * 8 * 4; which++) {
-        begin(20);
+        begin();
+        set_dots(&line, 20);
         set_setting(which & 1 ? 0x20 : 0);
         line.file[1] |= (which & 2 ? SUD : 0) | (random64() & (SUL | AUL | SING));
         line.file[A_LOW] = starts[which / 4 % 6];
@@ -130,7 +134,8 @@ static bool functions(void)
 {
     for (uint32_t function = 0; function < FUNCTIONS; function++)
         for (int which = 0; which < 4; which++) {
-            begin(1 + below(20));
+            begin();
+            set_dots(&line, 1 + below(20));
             set_function(function);
             line.file[2] = which & 1 ? 0xFFFF : random64();
             line.file[18] = which & 2 ? 0x8000 : random64();
@@ -147,7 +152,8 @@ static bool returns(void)
     static const uint16_t rows[] = {0, 2, 0xFFFE, 4, 0xFFFC};
     for (uint32_t setting = 0; setting < SETTINGS; setting++)
         for (uint32_t which = 0; which < 5 * DRAWS; which++) {
-            begin(1 + below(80));
+            begin();
+            set_dots(&line, 1 + below(80));
             set_setting(setting);
             set_function(one_in(2) ? 0x5A : 0x96);
             line.file[FIRST_MODULO + C_CHANNEL] = rows[which % 5];
@@ -162,7 +168,7 @@ static bool last_steps(size_t n)
 {
     for (uint32_t setting = 0; setting < SETTINGS; setting++)
         for (uint32_t shift = 0; shift < SHIFTS; shift++) {
-            begin(1);
+            begin();
             set_setting(setting);
             set_shift(shift);
             set_line_pointer(&line, one_in(4) ? 0 : n - 1);
@@ -178,7 +184,8 @@ static bool edges(int32_t n)
 {
     for (uint32_t setting = 0; setting < SETTINGS; setting++)
         for (int which = 0; which < 6; which++) {
-            begin(1 + below(n < 16 ? 16 : 60));
+            begin();
+            set_dots(&line, 1 + below(n < 16 ? 16 : 60));
             set_setting(setting);
             if (which % 3 != 2)
                 line.file[FIRST_MODULO + C_CHANNEL] = n < 60 ? 0 : 2 * below(4);
@@ -198,7 +205,8 @@ static bool strides(void)
     static const uint16_t modulos[] = {0x4000, 0xC000, 0x7FFE, 0x8000, 0x8002, 0x5556, 0x1000, 0xFFFE};
     for (uint32_t which = 0; which < 8 * 2 * 2; which++)
         for (uint32_t dot = 0; dot < 40; dot += 1 + below(4)) {
-            begin(40);
+            begin();
+            set_dots(&line, 40);
             set_setting(0x20 | (which & 1 ? AUL >> 1 : 0) | below(2));
             line.file[A_LOW] = 0x8000;
             line.file[FIRST_MODULO + B_CHANNEL] = 0;
@@ -237,7 +245,8 @@ static bool widths_and_sets(void)
 {
     for (uint32_t width = 0; width < WIDTHS; width++)
         for (uint32_t set = 0; set < SETS; set++) {
-            begin(1 + below(8));
+            begin();
+            set_dots(&line, 1 + below(8));
             if (!alike_with(width, set << 8, one_in(2), one_in(2) ? 0 : 1u << below(POINTER_BITS)))
                 return false;
         }
@@ -248,7 +257,8 @@ static bool pointer_bits(void)
 {
     for (uint32_t bit = 0; bit < POINTER_BITS; bit++)
         for (int outside = 0; outside < 2; outside++) {
-            begin(1 + below(8));
+            begin();
+            set_dots(&line, 1 + below(8));
             if (!alike_with(2, LINE_USES, outside, 1u << bit))
                 return false;
         }
@@ -259,7 +269,8 @@ static bool pointer_bits(void)
 static bool orders(void)
 {
     for (uint32_t which = 0; which < 16 * DRAWS; which++) {
-        begin(1 + below(8));
+        begin();
+        set_dots(&line, 1 + below(8));
         uint32_t width = which & 1 ? 3 + below(WIDTHS - 3) : 2;
         uint32_t uses = which & 2 ? LINE_USES ^ USE_D << below(4) : LINE_USES;
         if (!alike_with(width, uses, which & 4, which & 8 ? 1u << below(POINTER_BITS) : 0))

@@ -9,7 +9,8 @@
 enum { MOST_DOTS = 1024, OCTANTS = 8 };
 
 /* Lines called alone: by number; the done ones by their bits SUD, SUL and AUL; those with SING, those with a dot that
- * isn't stored, and those with no stored word but zeros. Lines done in jobs, in jobs that a folding changes, in lists. */
+ * isn't stored, and those with no stored word but zeros. Lines done in jobs, in jobs that a folding changes, and in
+ * lists. */
 static uint64_t by_number[NUMBERS], by_bits[OCTANTS], single, with_gaps, all_zero, in_runs, in_folded, in_frames;
 
 void set_dots(struct plan *plan, uint32_t dots)

@@ -246,6 +246,7 @@ int main(void)
     screens();
     frames();
     pictures();
+    lines();
     printf("boundary: %lu checks, %lu failed\n", checks, failed);
     return failed != 0;
 }

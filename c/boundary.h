@@ -37,5 +37,6 @@ void foldings(void);
 void screens(void);
 void frames(void);
 void pictures(void);
+void lines(void);
 
 #endif

@@ -116,7 +116,7 @@ static void blits_refused(void)
     blit("the last colour 8000", ZEROS, "0000*51 8000 0000", 0x0041, 2, 0, SAME, SAME);
     blit("a flag of 2", ZEROS, "0000*52 0002", 0x0041, 2, 0, SAME, SAME);
     blit("a bit that isn't kept before a line", ZEROS, "0100 0001 0000*50 0002", 0x0041, 2, 0, SAME, SAME);
-    blit("line, both fills, outside", ZEROS, "0F00 0019 0000*8 0007 0000*42", 0x0041, 7, 0, SAME, SAME);
+    blit("line, both fills, outside", ZEROS, "0F00 0019 0000*8 0007 0000*42", 0x0041, 18, 0, SAME, SAME);
     blit("both fills, outside", ZEROS, "0F00 0018 0000*8 0007 0000*42", 0x0041, 8, 0, SAME, SAME);
     blit("fill upward, outside", ZEROS, "0F00 0008 0000*8 0007 0000*42", 0x0041, 9, 0, SAME, SAME);
     blit("a lawful fill, outside", ZEROS, "0F00 000A 0000*8 0007 0000*42", 0x0041, 17, 0, SAME, SAME);
@@ -182,7 +182,7 @@ static void runs_of_steps(void)
     run("begins no step", ZEROS, ZERO_FILE, "C001 0041 0000", 4, 1, 0, SAME, "0000*52 0001");
     run("cut off, and odd", ZEROS, ZERO_FILE, "C001 8000 0001", 5, 1, 0, SAME, "0000*52 0001");
     run("odd, and at N", ZEROS, ZERO_FILE, "C001 8000 0021 0000", 6, 1, 0, SAME, "0000*52 0001");
-    run("line, both fills", ZEROS, ZERO_FILE, "0042 0019 0058 0041", 7, 2, 0, SAME, "0000 0019 0000*51");
+    run("line, both fills", ZEROS, ZERO_FILE, "0042 0019 0058 0041", 18, 2, 0, SAME, "0000 0019 0000*51");
     run("both fills", ZEROS, ZERO_FILE, "0042 0018 0058 0041", 8, 2, 0, SAME, "0000 0018 0000*51");
     run("fill upward", ZEROS, ZERO_FILE, "0042 0008 0058 0041", 9, 2, 0, SAME, "0000 0008 0000*51");
     run("blit touches N", ZEROS, ZERO_FILE, "0040 0100 0056 001E 0058 0042", 17, 4, 0, SAME,

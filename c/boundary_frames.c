@@ -213,7 +213,7 @@ static void blits_of_lists(void)
 static void refused_blits(void)
 {
     static const struct { const char *name, *control; uint32_t number; } cases[] = {
-        {"line, both fills, outside", "0F00 0019 0 0  0 20 0 20 0 20 0 20", 7},
+        {"line, both fills, outside", "0F00 0019 0 0  0 20 0 20 0 20 0 20", 18},
         {"both fills, outside", "0F00 0018 0 0  0 20 0 20 0 20 0 20", 8},
         {"fill upward, outside", "0F00 0008 0 0  0 20 0 20 0 20 0 20", 9},
         {"all channels outside", "0F00 0000 0 0  0 20 0 20 0 20 0 20", 14},
@@ -239,8 +239,8 @@ static void order(void)
     frame("21 before 22", "005A 0000", ZERO_FILE, 0, 0, all, REFUSED, 21, 0, 0, 0, SAME, SAME);
     frame("22 with the danger bit", "005A 0000", DANGER, 0, 0, all, REFUSED, 22, 0, 0, 0, SAME, SAME);
     frame("21 before a line", "0058 0041", "0100 0001 0000*51", 0, 0, all, REFUSED, 21, 0, 0, 0, SAME, SAME);
-    frame("a line with the danger bit", "0058 0041", "0100 0001 0000*17 0002 0000*33", 0, 0, all, REFUSED, 7, 0, 0, 0,
-          SAME, SAME);
+    frame("a line with the danger bit", "0058 0041", "0100 0001 0000*17 0002 0000*33", 0, 0, all, REFUSED, 18, 0, 0,
+          0, SAME, SAME);
 }
 
 void frames(void)

@@ -1,7 +1,9 @@
 /* differ [CASES [SEED]]: does random cases with the archive and with the plain engine and compares all that comes out.
  * Case i has the seed SEED + i, so `differ 1 S` does the case of seed S again.
- * differ seams: the same with the cases of differ_seams.c and pictures of all sizes and delays, always the same ones.
- * On the first difference the case is shrunk and printed, and the program ends with 1. */
+ * differ seams: the same with the cases of differ_seams.c, pictures of all sizes and delays and lines of all kinds,
+ * always the same ones.
+ * On the first difference the case is shrunk and printed, and the program ends with 1; so it does where among the
+ * seams, or among many random cases, no line of some kind came. */
 #include <inttypes.h>
 #include <stdio.h>
 #include <stdlib.h>
@@ -72,6 +74,7 @@ static const char *difference_of_blits(const struct test *test)
     plain_blit(plain.ram + FENCE, test->ram_words, plain.file + FENCE, test->file_words, test->size,
                &plain.number, &plain.count);
     outcomes[BLIT][plain.number]++;
+    count_line(test);
     return compare();
 }
 
@@ -84,6 +87,7 @@ static const char *difference_of_runs(const struct test *test)
     plain_run(plain.ram + FENCE, test->ram_words, plain.file + FENCE, test->file_words, test->job, test->job_words,
               &plain.number, &plain.place, &plain.count);
     outcomes[RUN][plain.number]++;
+    count_lines_of_run(test, &plain, false);
     if (desk.number == plain.number && desk.place != plain.place)
         return "place";
     return compare();
@@ -100,7 +104,7 @@ static size_t out_words_of(const struct test *test)
 }
 
 /* Demand 3, by the archive alone: on one memory and one file the folded job and its original end alike. */
-static const char *difference_of_pair(const struct test *test, const uint16_t *folded, size_t folded_words)
+static const char *difference_of_pair(const struct test *test, const uint16_t *folded, size_t folded_words, bool alike)
 {
     set_up(&desk, test);
     set_up(&plain, test);
@@ -110,6 +114,8 @@ static const char *difference_of_pair(const struct test *test, const uint16_t *f
              &plain.number, &plain.place, &plain.count);
     pairs++;
     pairs_refused += desk.number != 0;
+    if (!alike)
+        count_lines_of_run(test, &desk, true);
     return compare() == NULL ? NULL : "end of the folded job, both run by the archive";
 }
 
@@ -133,8 +139,10 @@ static const char *difference_of_foldings(const struct test *test)
         return "output";
     if (plain.number != 0)
         return NULL;
-    changed += desk.count != test->job_words || memcmp(desk.out + FENCE, test->job, desk.count * sizeof *desk.out) != 0;
-    return difference_of_pair(test, desk.out + FENCE, desk.count);
+    bool alike = desk.count == test->job_words
+        && memcmp(desk.out + FENCE, test->job, desk.count * sizeof *desk.out) == 0;
+    changed += !alike;
+    return difference_of_pair(test, desk.out + FENCE, desk.count, alike);
 }
 
 /* The file that a widening makes is accepted: an empty job runs on it. */
@@ -188,6 +196,7 @@ static void print_outcomes(void)
     }
     print_frames();
     print_pictures();
+    print_lines();
     printf("foldings unlike their job: %" PRIu64 "; pairs of runs compared: %" PRIu64 ", refused alike: %" PRIu64 "\n",
            changed, pairs, pairs_refused);
 }
@@ -228,10 +237,14 @@ static uint64_t random_cases(uint64_t cases, uint64_t seed)
     return cases;
 }
 
+/* So many random cases have lines of every kind. */
+enum { MANY = 10000 };
+
 int main(int words, char **word)
 {
     uint64_t cases;
-    if (words > 1 && strcmp(word[1], "seams") == 0)
+    bool of_seams = words > 1 && strcmp(word[1], "seams") == 0;
+    if (of_seams)
         cases = seams();
     else
         cases = random_cases(words > 1 ? strtoull(word[1], NULL, 10) : 200000,
@@ -239,6 +252,8 @@ int main(int words, char **word)
     if (cases == 0)
         return 1;
     print_outcomes();
+    if (cases >= MANY && !lines_came(!of_seams))
+        return 1;
     printf("differ: %" PRIu64 " cases, 0 differences\n", cases);
     return 0;
 }

@@ -22,6 +22,10 @@ enum { POINTERS = 262144, BLITTER = 19, REGISTERS = 52, ZERO_FLAG = 52, FILE_WOR
 enum { C_CHANNEL, B_CHANNEL, A_CHANNEL, D_CHANNEL, CHANNELS };
 enum { FIRST_POINTER = 4, FIRST_MODULO = 12, USE_A = 0x0800, USE_B = 0x0400, USE_C = 0x0200, USE_D = 0x0100 };
 
+/* A line: its bits of BLTCON1, the channels it uses, and where the file has its accumulator. */
+enum { LINE = 0x01, SING = 0x02, AUL = 0x04, SUL = 0x08, SUD = 0x10, SIGN = 0x40 };
+enum { LINE_BITS = SIGN | SUD | SUL | AUL | SING, LINE_USES = USE_A | USE_C | USE_D, A_LOW = 9 };
+
 enum call { BLIT, RUN, FOLD, WIDEN, FRAME, PICTURE, CALLS };
 enum { NUMBERS = 26 };
 
@@ -84,8 +88,18 @@ uint16_t random_word(void);
 
 uint32_t at_most(uint32_t value, uint32_t most);
 
-/* A blit for memory of n words: one that could be settled, or any; at risk of leaving memory or of refusal, or not. */
+/* A blit for memory of n words: one that could be settled, or any; at risk of leaving memory or of refusal, or not. One
+ * in some is a line, made by make_line. */
 void make_plan(struct plan *plan, uint32_t n, bool settled, bool risk);
+void make_line(struct plan *plan, uint32_t n, bool risk);
+
+/* A line with any registers, but for its number of dots and its place; these two; the manual's set-up for a longer and
+ * a shorter side; and the reach of its dots' words. */
+void pick_line(struct plan *plan);
+void set_dots(struct plan *plan, uint32_t dots);
+void set_line_pointer(struct plan *plan, uint32_t word);
+void set_slope(struct plan *plan, uint32_t long_side, uint32_t short_side);
+struct reach way_of(const struct plan *plan);
 
 /* The reach of a channel of the plan's blit by half its modulo, and its pointer set to a word, which goes round. */
 struct reach reach_of(const struct plan *plan, int32_t half);
@@ -122,9 +136,19 @@ const char *difference(const struct test *test);
 const char *difference_of_frames(const struct test *test);
 const char *difference_of_pictures(const struct test *test);
 
-/* How the frames ended, and how many were cut; how much of the pictures was compared. */
+/* Count a line called alone, by the plain side's answer; the lines that a side did of a job, which was run for its own
+ * sake or because a folding changed it; and a line of a list. */
+void count_line(const struct test *test);
+void count_lines_of_run(const struct test *test, const struct side *side, bool folded);
+void count_line_of_frame(void);
+
+/* How the frames ended, and how many were cut; how much of the pictures was compared; how many lines of each kind. */
 void print_frames(void);
 void print_pictures(void);
+void print_lines(void);
+
+/* Whether lines of every kind were compared; in jobs, folded jobs and lists too, or alone. Says so where not. */
+bool lines_came(bool in_jobs);
 
 /* Says which case differs, shrinks and prints it. */
 void report(struct test *test, const char *which, uint64_t number);
@@ -132,12 +156,17 @@ void report(struct test *test, const char *which, uint64_t number);
 /* Does the cases that cross an engine's seams: how many, or 0 after a report of the first on which the sides differ. */
 uint64_t seams(void);
 
-/* The same of the pictures, with which seams ends: one for all delays, numbers of planes and numbers of words. */
+/* The same of the pictures and the lines, with which seams ends: a picture for all delays, numbers of planes and numbers
+ * of words; lines of all settings, slopes and lengths. */
 uint64_t picture_seams(void);
+uint64_t line_seams(void);
 
 /* Takes away from a case whatever the difference doesn't need, and prints what is left. */
 void shrink(struct test *test);
 void print_test(const struct test *test);
+
+/* A line called alone, in words. */
+void describe_line(const struct test *test);
 
 /* The line of a picture as a side's output has it, and what of the output lies next to it. */
 void print_line(const struct side *side, const struct test *test);

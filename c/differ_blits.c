@@ -83,7 +83,7 @@ static uint16_t pick_con0(bool settled)
     return shift << 12 | uses | function;
 }
 
-/* Fills go with descending, and no line, unless at risk. Bits 11 to 5 have no sense for an area. */
+/* Fills go with descending, and the line bit isn't set, unless at risk. Bits 11 to 5 have no sense for an area. */
 static uint16_t pick_con1(bool risk)
 {
     uint16_t con1 = (one_in(2) ? 0 : one_in(4) ? 15 : below(16)) << 12;
@@ -171,8 +171,15 @@ void pick_screen(uint16_t *file)
     file[ZERO_FLAG] = below(2);
 }
 
+/* One blit in so many is a line, fewer where it could be settled. */
+enum { LINE_SHARE = 3, LINE_SHARE_AMONG_SETTLED = 8 };
+
 void make_plan(struct plan *plan, uint32_t n, bool settled, bool risk)
 {
+    if (one_in(settled ? LINE_SHARE_AMONG_SETTLED : LINE_SHARE)) {
+        make_line(plan, n, risk);
+        return;
+    }
     pick_size(plan, n, settled);
     plan->file[0] = pick_con0(settled);
     plan->file[1] = pick_con1(risk);

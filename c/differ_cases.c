@@ -57,17 +57,21 @@ static void put_blit(struct test *test, const struct plan *plan, bool risk)
     put(test, plan->size);
 }
 
-/* The blit before once more: as pointers stand, or with some or all of them written again. */
+/* The blit before once more: as pointers stand, or with some or all of them written again. A line is often followed by
+ * a blit of D alone that isn't one. */
 static void put_again(struct test *test, const struct plan *plan)
 {
     uint32_t which = below(4);
+    bool line = plan->file[1] & LINE;
     for (uint32_t i = 4; i < 12; i++)
         if (which > 1 || (which == 1 && one_in(2)))
             put_write(test, i, plan->file[i]);
     if (which == 3)
         put_write(test, 0, (plan->file[0] & 0xF000) | USE_D | below(256));
+    if (which == 3 && line && !one_in(4))
+        put_write(test, 1, plan->file[1] & 0xF002);
     put(test, 0x058);
-    put(test, which == 0 && one_in(2) ? 0x0041 : plan->size);
+    put(test, which == 0 && one_in(2) ? (line ? 0x0042 : 0x0041) : plan->size);
 }
 
 static void put_store(struct test *test, uint32_t n, bool risk)

@@ -67,6 +67,22 @@ static const char *difference_of_cut(const struct test *test, uint32_t lent)
     return compare_frames() == NULL ? NULL : "end of the frame that was cut, both parts done by the archive";
 }
 
+/* Does so many instructions of a frame again, one at a time, and counts the MOVEs to 058 among them that found the line
+ * bit set. */
+static void count_lines(const struct test *test, uint32_t done)
+{
+    set_up(&plain, test);
+    plain.place = test->beam;
+    plain.word = test->start;
+    for (uint32_t i = 0; i < done; i++) {
+        uint16_t first = plain.ram[FENCE + plain.word];
+        if (first % 2 == 0 && (first & 0x01FE) == 0x058 && plain.file[FENCE + 1] & LINE)
+            count_line_of_frame();
+        plain_frame_from(plain.ram + FENCE, test->ram_words, plain.file + FENCE, test->file_words,
+                         plain.place, plain.word, 1, &plain.why, &plain.number, &plain.count, &plain.word, &plain.place);
+    }
+}
+
 const char *difference_of_frames(const struct test *test)
 {
     uint32_t lent = lent_of(test);
@@ -80,7 +96,11 @@ const char *difference_of_frames(const struct test *test)
     const char *found = compare_frames();
     if (found == NULL && test->beam == 0)
         found = difference_of_entries(test, lent);
-    return found != NULL ? found : difference_of_cut(test, lent);
+    if (found == NULL)
+        found = difference_of_cut(test, lent);
+    if (found == NULL && test->file[1] & LINE)
+        count_lines(test, plain.count);
+    return found;
 }
 
 void print_frames(void)

@@ -27,13 +27,15 @@ static void put_colour(struct list *list)
     put_move(list, offsets[BLITTER + 1 + below(32)], random_word());
 }
 
-/* One of the Blitter's registers, or both halves of a pointer; then the blit, or not. */
+static bool is_line(const struct list *list) { return list->plan.file[1] & LINE; }
+
+/* One of the Blitter's registers, or both halves of a pointer, or for a line all pointers; then the blit, or not. */
 static void put_blitter(struct list *list)
 {
     uint32_t which = below(BLITTER), last = which;
     if (which >= FIRST_POINTER && which < FIRST_MODULO) {
-        which -= which % 2;
-        last = which + 1;
+        which = is_line(list) ? FIRST_POINTER : which - which % 2;
+        last = is_line(list) ? FIRST_MODULO - 1 : which + 1;
     }
     for (uint32_t i = which; i <= last; i++)
         put_move(list, offsets[i], one_in(16) ? random_word() : list->plan.file[i]);
@@ -43,7 +45,9 @@ static void put_blitter(struct list *list)
 
 static uint16_t pick_size(const struct list *list)
 {
-    return one_in(3) ? 0x0041 + below(3) : list->care != LAWFUL && one_in(16) ? random64() : list->plan.size;
+    if (one_in(3))
+        return is_line(list) ? 0x0042 : 0x0041 + below(3);
+    return list->care != LAWFUL && one_in(16) ? random64() : list->plan.size;
 }
 
 /* Offsets next to the ones that count, or any: forbidden, with danger or without, or not modelled. */

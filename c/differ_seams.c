@@ -419,5 +419,6 @@ uint64_t seams(void)
             if (!all_of(&sets[i], descending))
                 return 0;
     uint64_t pictures = picture_seams();
-    return pictures == 0 ? 0 : cases + pictures;
+    uint64_t lines = pictures == 0 ? 0 : line_seams();
+    return lines == 0 ? 0 : cases + pictures + lines;
 }

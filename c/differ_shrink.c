@@ -190,6 +190,8 @@ void print_test(const struct test *test)
         print_picture(test);
     else
         print_words(test->call == FRAME ? "list" : "job", test->job, test->job_words);
+    if (test->call == BLIT && test->file[1] & LINE)
+        describe_line(test);
     if (test->call == FRAME)
         print_frame(test);
     if (test->call == WIDEN)

@@ -1,4 +1,4 @@
-/* A second Blitter, in plain C, written from the papers alone: one area blit, a job run, a job folded,
+/* A second Blitter, in plain C, written from the papers alone: one area blit or line, a job run, a job folded,
  * an old register file widened, one frame of a Copper list, one line of picture.
  * Nothing of it is proved. It is what the archive is compared with, call by call, and what its cost is set beside.
  * Parameters, numbers and what a refusal leaves are those of the entries of the same name in desk.h. */

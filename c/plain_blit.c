@@ -1,4 +1,5 @@
-/* The area blit of paper 01, word by word, with the order of fetches and stores of paper 02's W2. */
+/* The area blit of paper 01, word by word, with the order of fetches and stores of paper 02's W2. A blit with the line
+ * bit is a line, which plain_line.c does. */
 #include "plain.h"
 #include "plain_parts.h"
 
@@ -22,7 +23,7 @@ struct blit {
     uint32_t height, width;
     uint16_t first_mask, last_mask;
     uint32_t shift_a, shift_b;
-    uint16_t minterm[8];  /* all ones where the logic function has that bit */
+    uint16_t minterm[8];
     bool descending, inclusive, exclusive;
     uint32_t carry_in, carry;
 };
@@ -88,6 +89,12 @@ static struct source source_of(const uint16_t *file, uint16_t use, int pointer_h
     return source;
 }
 
+void plain_minterms(uint16_t con0, uint16_t *minterm)
+{
+    for (int setting = 0; setting < 8; setting++)
+        minterm[setting] = con0 >> setting & 1 ? 0xFFFF : 0;
+}
+
 static struct blit blit_of(const uint16_t *file, uint16_t size)
 {
     struct blit blit;
@@ -101,8 +108,7 @@ static struct blit blit_of(const uint16_t *file, uint16_t size)
     blit.last_mask = file[BLTALWM];
     blit.shift_a = file[BLTCON0] >> 12;
     blit.shift_b = file[BLTCON1] >> 12;
-    for (int setting = 0; setting < 8; setting++)
-        blit.minterm[setting] = file[BLTCON0] >> setting & 1 ? 0xFFFF : 0;
+    plain_minterms(file[BLTCON0], blit.minterm);
     blit.exclusive = file[BLTCON1] >> 4 & 1;
     blit.inclusive = file[BLTCON1] >> 3 & 1;
     blit.carry_in = file[BLTCON1] >> 2 & 1;
@@ -145,10 +151,8 @@ static uint32_t leaving(const struct blit *blit, size_t ram_words)
     return 0;
 }
 
-static uint32_t refusal(const struct blit *blit, uint16_t con1, size_t ram_words)
+static uint32_t refusal(const struct blit *blit, size_t ram_words)
 {
-    if (con1 & 1)
-        return 7;
     if (blit->exclusive && blit->inclusive)
         return 8;
     if ((blit->exclusive || blit->inclusive) && !blit->descending)
@@ -158,8 +162,10 @@ static uint32_t refusal(const struct blit *blit, uint16_t con1, size_t ram_words
 
 uint32_t plain_blit_refusal(const uint16_t *file, size_t ram_words, uint16_t size)
 {
+    if (file[BLTCON1] & LINE)
+        return plain_line_refusal(file, ram_words, size);
     struct blit blit = blit_of(file, size);
-    return refusal(&blit, file[BLTCON1], ram_words);
+    return refusal(&blit, ram_words);
 }
 
 static void fetch(struct source *source, const uint16_t *ram)
@@ -186,7 +192,7 @@ static uint16_t shifted(struct source *source, uint16_t word, uint32_t n, bool d
 }
 
 /* Bit 4a + 2b + c of the function, for the sixteen bits at once: each minterm holds where its setting stands. */
-static uint16_t logic(const uint16_t *minterm, uint16_t a, uint16_t b, uint16_t c)
+uint16_t plain_logic(const uint16_t *minterm, uint16_t a, uint16_t b, uint16_t c)
 {
     return (minterm[0] & ~a & ~b & ~c) | (minterm[1] & ~a & ~b & c) | (minterm[2] & ~a & b & ~c)
          | (minterm[3] & ~a & b & c) | (minterm[4] & a & ~b & ~c) | (minterm[5] & a & ~b & c)
@@ -218,7 +224,7 @@ static uint16_t next_word(struct blit *blit, bool first, bool last)
         a &= blit->last_mask;
     a = shifted(&blit->a, a, blit->shift_a, blit->descending);
     b = shifted(&blit->b, b, blit->shift_b, blit->descending);
-    uint16_t word = logic(blit->minterm, a, b, c);
+    uint16_t word = plain_logic(blit->minterm, a, b, c);
     if (first)
         blit->carry = blit->carry_in;
     if (blit->exclusive || blit->inclusive)
@@ -272,6 +278,8 @@ static void keep(uint16_t *file, const struct blit *blit, bool all_zero)
 
 uint32_t plain_blit_done(uint16_t *ram, uint16_t *file, uint16_t size)
 {
+    if (file[BLTCON1] & LINE)
+        return plain_line_done(ram, file, size);
     struct blit blit = blit_of(file, size);
     keep(file, &blit, do_words(&blit, ram, NULL));
     return blit.d.used ? blit.height * blit.width : 0;

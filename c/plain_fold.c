@@ -1,4 +1,4 @@
-/* The folder of paper 01. */
+/* The folder of paper 01, with paper 02's W3: a line is kept. */
 #include <string.h>
 
 #include "plain.h"
@@ -70,10 +70,12 @@ static bool sources_known(const struct knowledge *knowledge)
     return !depends(function, 1) || known[BLTCDAT];
 }
 
+/* A line is never settled. */
 static bool settled(const struct knowledge *knowledge, size_t ram_words, uint16_t size)
 {
     const bool *known = knowledge->known;
     return known[BLTCON0] && known[BLTCON1] && known[BLTDPTH] && known[BLTDPTL] && known[BLTDMOD]
+        && !(knowledge->file[BLTCON1] & LINE)
         && (knowledge->file[BLTCON0] & USES) == USE_D
         && plain_height(size) * plain_width(size) <= SETTLED_WORDS
         && plain_blit_refusal(knowledge->file, ram_words, size) == 0

@@ -27,8 +27,9 @@ enum {
 /* The Blitter's registers are the file's first words. */
 enum { BLITTER_WORDS = BLTADAT + 1 };
 
-/* Bits 11 to 8 of BLTCON0. */
+/* Bits 11 to 8 of BLTCON0, and bit 0 of BLTCON1. */
 enum { USE_A = 0x800, USE_B = 0x400, USE_C = 0x200, USE_D = 0x100, USES = 0xF00 };
+enum { LINE = 0x01 };
 
 struct store {
     uint32_t at;  /* a word number */
@@ -47,13 +48,22 @@ bool plain_file_lawful(const uint16_t *file, size_t file_words);
 uint32_t plain_height(uint16_t size);
 uint32_t plain_width(uint16_t size);
 
-/* The first of 7, 8, 9, 14, 15, 16 and 17 that refuses the blit, or 0. */
+/* The logic function of BLTCON0 by its eight settings, all ones where the function has that bit; and what the function
+ * makes of a, b and c. */
+void plain_minterms(uint16_t con0, uint16_t *minterm);
+uint16_t plain_logic(const uint16_t *minterm, uint16_t a, uint16_t b, uint16_t c);
+
+/* The first that refuses the blit, or 0: of 18, 19 and 16 for a line, of 8, 9, 14, 15, 16 and 17 for an area. */
 uint32_t plain_blit_refusal(const uint16_t *file, size_t ram_words, uint16_t size);
 
 /* Does a blit that nothing refuses; gives the count of words stored. */
 uint32_t plain_blit_done(uint16_t *ram, uint16_t *file, uint16_t size);
 
-/* What a blit of at most 64 words that uses D alone would store, in its order; file is left as after the blit.
+/* The same two of a blit that has the line bit. */
+uint32_t plain_line_refusal(const uint16_t *file, size_t ram_words, uint16_t size);
+uint32_t plain_line_done(uint16_t *ram, uint16_t *file, uint16_t size);
+
+/* What an area blit of at most 64 words that uses D alone would store, in its order; file is left as after the blit.
  * Gives the count of stores. */
 uint32_t plain_blit_stores(uint16_t *file, uint16_t size, struct store *stores);
 

@@ -2,7 +2,7 @@
 
 #include <string.h>
 
-enum { LINE = 0x0001, USE_A = 0x0800, USE_B = 0x0400, USE_C = 0x0200, USE_D = 0x0100, USES = 0x0F00 };
+enum { LINE = 0x0001 };
 
 struct known nothing_known(void)
 {

@@ -8,6 +8,9 @@
 
 #include "step.h"
 
+/* Bits of BLTCON0. */
+enum { USE_A = 0x0800, USE_B = 0x0400, USE_C = 0x0200, USE_D = 0x0100, USES = USE_A | USE_B | USE_C | USE_D };
+
 struct known {
     bool said[FILE_WORDS];
     uint16_t file[FILE_WORDS];

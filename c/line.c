@@ -23,6 +23,15 @@ static int as_signed(uint16_t word)
     return word & 0x8000 ? (int)word - 0x10000 : (int)word;
 }
 
+void add_uses(char line[LINE_ROOM], uint16_t con0)
+{
+    if (con0 & USES)
+        add(line, "use%s%s%s%s", con0 & USE_A ? " A" : "", con0 & USE_B ? " B" : "", con0 & USE_C ? " C" : "",
+            con0 & USE_D ? " D" : "");
+    else
+        add(line, "use no channel");
+}
+
 void add_line_control(char line[LINE_ROOM], uint16_t con1)
 {
     add(line, "line, octant %u, sign %u, texture from bit %u", octant_of(con1)->number, con1 & SIGN ? 1u : 0u,
@@ -76,16 +85,49 @@ static void add_dots(char line[LINE_ROOM], const struct known *known, uint16_t s
         add(line, ", width %u,", width);
 }
 
-static void add_start(char line[LINE_ROOM], const struct known *known)
+static bool pointer_known(const struct known *known, size_t high)
 {
-    if (known->said[BLTCPTH] && known->said[BLTCPTL])
-        add(line, " from byte %05lX", (unsigned long)known->file[BLTCPTH] << 16 | known->file[BLTCPTL]);
+    return known->said[high] && known->said[high + 1];
+}
+
+static unsigned long pointer(const struct known *known, size_t high)
+{
+    return (unsigned long)known->file[high] << 16 | known->file[high + 1];
+}
+
+static void add_byte(char line[LINE_ROOM], const struct known *known, size_t high)
+{
+    if (pointer_known(known, high))
+        add(line, " from byte %05lX", pointer(known, high));
     else
         add(line, " from byte ?");
-    if (known->said[BLTCON0])
-        add(line, " pixel %u", (unsigned)known->file[BLTCON0] >> 12);
-    else
+}
+
+/* Whether it is to be told where D is: not where C is, or not known of one of the two alone. */
+static bool apart(const struct known *known)
+{
+    bool c = pointer_known(known, BLTCPTH), d = pointer_known(known, BLTDPTH);
+
+    return c && d ? pointer(known, BLTCPTH) != pointer(known, BLTDPTH) : c || d;
+}
+
+static void add_start(char line[LINE_ROOM], const struct known *known)
+{
+    uint16_t con0 = known->file[BLTCON0];
+
+    add_byte(line, known, BLTCPTH);
+    if (!known->said[BLTCON0])
         add(line, " pixel ?");
+    else
+        add(line, " pixel %u", (unsigned)con0 >> 12);
+    if (apart(known)) {
+        add(line, ", D");
+        add_byte(line, known, BLTDPTH);
+    }
+    if (known->said[BLTCON0] && (con0 & USES) != (USE_A | USE_C | USE_D)) {
+        add(line, ", ");
+        add_uses(line, con0);
+    }
 }
 
 static void add_octant(char line[LINE_ROOM], uint16_t con1)

@@ -8,11 +8,7 @@
 
 static void add_con0(char line[LINE_ROOM], uint16_t value)
 {
-    if (value & 0x0F00)
-        add(line, "use%s%s%s%s", value & 0x0800 ? " A" : "", value & 0x0400 ? " B" : "",
-            value & 0x0200 ? " C" : "", value & 0x0100 ? " D" : "");
-    else
-        add(line, "use no channel");
+    add_uses(line, value);
     add(line, ", function %02X", (unsigned)value & 0xFF);
     if (value >> 12)
         add(line, ", shift A %u", (unsigned)value >> 12);

@@ -2,7 +2,7 @@
 #ifndef TEXT_H
 #define TEXT_H
 
-enum { LINE_ROOM = 240 };
+enum { LINE_ROOM = 320 };
 
 /* Adds text to a line; what has no room is left out. */
 void add(char line[LINE_ROOM], const char *format, ...);

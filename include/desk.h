@@ -37,11 +37,11 @@
  *     24  a picture not of 1 to 5 bit planes or not of 1 to 40 words a line, or a delay above 15
  *     25  an output shorter than a picture's line, 16 pixels for each word
  *   Of an area blit's channels those in use count, in the order A, B, C, D, whichever leaves memory earlier.
- * - With bit 0 of BLTCON1 set a blit is a line, otherwise it is an area blit. A line has one dot a row of its size. C
- *   fetches the word of each dot, and D stores it before the next is fetched; with bit 1 of BLTCON1 only for the first
- *   dot and the first after each vertical move. The step behind the last dot is made too; where it goes isn't judged.
- *   A line leaves the accumulator in BLTAPTL, in C's and D's pointers the word to which that step went, and in the zero
- *   flag 1 exactly when every word that it stored was zero. Every other register is as before, BLTCDAT too.
+ * - With bit 0 of BLTCON1 set a blit is a line, otherwise it is an area blit. A line has as many dots as its size has
+ *   rows. C fetches the word of each dot, and D stores it before the next is fetched; with bit 1 of BLTCON1 only for the
+ *   first dot and the first after each vertical move. The step behind the last dot is made too; where it goes isn't
+ *   judged. A line leaves the accumulator in BLTAPTL, in C's and D's pointers the word to which that step went, and in
+ *   the zero flag 1 exactly when every word that it stored was zero. Every other register is as before, BLTCDAT too.
  * - All numbers are written at every call, refused or not.
  * - There is no state: calls on different buffers may run at the same time. No call allocates, prints or fails otherwise.
  */
@@ -89,9 +89,9 @@ void desk_widen(const uint16_t *old, size_t old_words, uint16_t *target, size_t 
  * - *why is 0 when the frame is over, otherwise 1 when lent instructions are done, otherwise 2 when the next one is
  *   refused; the three are looked at in this order before each instruction.
  * - *number is 0 unless *why is 2. 1 and 2 come before any instruction and whatever lent is: ram and file are unchanged,
- *   *done and *word are 0. Otherwise it is 23, 21, 22, or of a MOVE to 058 the blit's own, 8, 9, 14, 15, 16 or 17 for an
- *   area blit, 18, 19 or 16 for a line (the first that holds, in this order); the refused instruction changes nothing,
- *   and those before it stand.
+ *   *done and *word are 0. Otherwise it is 23, 21, 22, or of a MOVE to 058 the blit's own, 8, 9, 14, 15, 16 or 17 for
+ *   an area blit, 18, 19 or 16 for a line (the first that holds, in this order); the refused instruction changes
+ *   nothing, and those before it stand.
  * - *word is the word number of the next instruction, or of the refused one. Nothing goes round: past the end of memory it
  *   counts on.
  * The first word of an instruction even: a MOVE of the second to the offset in its bits 8-1, with the kept bits; bits 15-9

@@ -38,8 +38,8 @@
  *     25  an output shorter than a picture's line, 16 pixels for each word
  *   Of an area blit's channels those in use count, in the order A, B, C, D, whichever leaves memory earlier.
  * - With bit 0 of BLTCON1 set a blit is a line, otherwise it is an area blit. A line has as many dots as its size has
- *   rows. C fetches the word of each dot, and D stores it before the next is fetched; with bit 1 of BLTCON1 only for the
- *   first dot and the first after each vertical move. The step behind the last dot is made too; where it goes isn't
+ *   rows. C fetches the word of each dot, and D stores it before the next is fetched; with bit 1 of BLTCON1 only for
+ *   the first dot and the first after each vertical move. The step behind the last dot is made too; where it goes isn't
  *   judged. A line leaves the accumulator in BLTAPTL, in C's and D's pointers the word to which that step went, and in
  *   the zero flag 1 exactly when every word that it stored was zero. Every other register is as before, BLTCDAT too.
  * - All numbers are written at every call, refused or not.

@@ -6,6 +6,7 @@
 #include "beam.h"
 #include "desk.h"
 #include "instruction.h"
+#include "line.h"
 #include "outcome.h"
 
 enum { DANGER = 0x0002 };
@@ -50,8 +51,19 @@ static struct frame next_of(const struct jobfile *list, struct frame frame, uint
     return next;
 }
 
+/* Adds the line that the next instruction starts, if it starts one, by the registers as the frame has come to them. */
+static void add_started(char line[LINE_ROOM], const struct machine *machine, size_t ram_words, uint32_t word)
+{
+    struct known known = all_known(machine->file);
+
+    if (!starts_blit(machine->ram, ram_words, word) || !line_known(&known))
+        return;
+    add(line, "  line of ");
+    add_line(line, &known, machine->ram[word + 1]);
+}
+
 /* Does the frame one instruction at a time, the beam handed on, and prints each one as it stood in memory when it was
- * done, behind the beam's line and position where it started. */
+ * done, behind the beam's line and position where it started; behind a MOVE that starts a line that line. */
 static struct frame trace(const struct jobfile *list, uint32_t lent, struct machine *machine)
 {
     struct frame frame = {USED_UP, 0, 0, list->start, 0};
@@ -64,6 +76,7 @@ static struct frame trace(const struct jobfile *list, uint32_t lent, struct mach
 
         add(line, "%4lu %3lu", (unsigned long)frame.place / POSITIONS, (unsigned long)frame.place % POSITIONS);
         add_instruction(line, machine->ram, list->ram_words, frame.word);
+        add_started(line, machine, list->ram_words, frame.word);
         frame = next_of(list, frame, done < lent, machine);
         if (frame.done > done)
             puts(line);
@@ -105,7 +118,7 @@ static int print_frames(const struct jobfile *list, uint32_t lent)
     parts = trace(list, lent, &machines[0]);
     whole = frame_of(list, lent, &machines[1]);
     print_frame(whole);
-    print_changed_words(list->ram, machines[1].ram, list->ram_words);
+    print_changed_words(list->ram, machines[1].ram, list->ram_words, false);
     print_changed_registers(list->file, machines[1].file);
     if (!alike(parts, whole, machines)) {
         fputs("desk copper: done one instruction at a time the frame ends otherwise\n", stderr);

@@ -5,6 +5,7 @@
 
 #include "check.h"
 #include "copper.h"
+#include "drawn.h"
 #include "fold.h"
 #include "jobfile.h"
 #include "listing.h"
@@ -16,7 +17,7 @@ static const char usage[] =
     "desk list FILE      the job's steps, one a line: word index, first word, name, value, sense. A word that begins\n"
     "                    no step, a step cut off and a store to an odd address are shown with their number and end\n"
     "                    the listing\n"
-    "desk run FILE       runs the job: number, place, count, zero flag, and what it changed\n"
+    "desk run FILE       runs the job: number, place, count, zero flag, each line that it draws, and what it changed\n"
     FOLD_USAGE "\n"
     "                    folds the job for memory of N words (decimal; the file's own if not given): number, place,\n"
     "                    both lengths, and the job and its folding side by side. OUT becomes a job file of the folded\n"
@@ -78,22 +79,32 @@ static int list_command(const char *name)
     return DONE;
 }
 
+static int print_run(const struct jobfile *jobfile)
+{
+    static struct machine machines[2];
+    struct run whole = run_of(jobfile, &machines[0]), parts;
+    bool drew;
+
+    print_answer(whole.number, whole.place);
+    printf("count %lu\n", (unsigned long)whole.count);
+    printf("zero flag %u\n", (unsigned)machines[0].file[ZERO_FLAG]);
+    parts = print_drawn(jobfile, &machines[1], &drew);
+    print_changed_words(jobfile->ram, machines[0].ram, jobfile->ram_words, drew);
+    print_changed_registers(jobfile->file, machines[0].file);
+    if (!same_run(parts, whole) || !same_machine(&machines[0], &machines[1])) {
+        fputs("desk run: done in parts the run ends otherwise\n", stderr);
+        return ERROR;
+    }
+    return whole.number == 0 ? DONE : REFUSED;
+}
+
 static int run_command(const char *name)
 {
-    static struct machine machine;
     struct jobfile *jobfile = jobfile_read(name, JOB);
-    struct run run;
+    int status = jobfile == NULL ? ERROR : print_run(jobfile);
 
-    if (jobfile == NULL)
-        return ERROR;
-    run = run_of(jobfile, &machine);
-    print_answer(run.number, run.place);
-    printf("count %lu\n", (unsigned long)run.count);
-    printf("zero flag %u\n", (unsigned)machine.file[ZERO_FLAG]);
-    print_changed_words(jobfile->ram, machine.ram, jobfile->ram_words);
-    print_changed_registers(jobfile->file, machine.file);
     free(jobfile);
-    return run.number == 0 ? DONE : REFUSED;
+    return status;
 }
 
 static int check_command(char **names)

@@ -13,6 +13,11 @@ static bool is_move(uint16_t first)
     return first % 2 == 0;
 }
 
+static bool is_skip(const uint16_t words[2])
+{
+    return words[0] % 2 != 0 && words[1] % 2 != 0;
+}
+
 static uint16_t offset_of(uint16_t first)
 {
     return first & 0x01FE;
@@ -86,6 +91,11 @@ void add_instruction(char line[LINE_ROOM], const uint16_t *ram, size_t ram_words
         add_comparison(line, ram[word], ram[word + 1]);
 }
 
+bool starts_blit(const uint16_t *ram, size_t ram_words, uint32_t word)
+{
+    return word < ram_words && ram_words - word >= 2 && is_move(ram[word]) && offset_of(ram[word]) == BLTSIZE;
+}
+
 static void add_number(char line[LINE_ROOM], uint32_t number)
 {
     add(line, "%s (%lu)", number_meaning(number), (unsigned long)number);
@@ -100,12 +110,22 @@ static void add_move_sense(char line[LINE_ROOM], struct listing *listing, uint16
     if (number != 0) {
         add_number(line, number);
     } else if (offset == BLTSIZE) {
-        add_blit(line, value);
+        add_blit(line, &listing->known, value);
+        forget_blit(&listing->known);
     } else {
         listing->high = high;
         add_register(line, listing, reg, value);
         remember_write(listing, reg, value);
     }
+}
+
+/* A MOVE behind a SKIP may be passed over: what its register holds then isn't known. */
+static void forget_move(struct listing *listing, uint16_t offset)
+{
+    size_t reg = register_at(offset);
+
+    if (reg < ZERO_FLAG)
+        forget(&listing->known, reg);
 }
 
 static void add_comparison_sense(char line[LINE_ROOM], uint16_t first, uint16_t second)
@@ -139,6 +159,7 @@ static void add_blanks(char line[LINE_ROOM])
 void print_instructions(const uint16_t *ram, size_t ram_words, uint32_t start, size_t list_words, bool danger)
 {
     struct listing listing = listing_of(NULL, 0);
+    bool perhaps = false;
 
     for (uint32_t word = start; word - start < list_words; word += 2) {
         char line[LINE_ROOM] = "";
@@ -150,5 +171,8 @@ void print_instructions(const uint16_t *ram, size_t ram_words, uint32_t start, s
         else
             add_number(line, 23);
         puts(line);
+        if (perhaps && is_move(ram[word]))
+            forget_move(&listing, offset_of(ram[word]));
+        perhaps = word + 1 < ram_words && is_skip(ram + word);
     }
 }

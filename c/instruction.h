@@ -12,6 +12,9 @@
  * memory hasn't got whole, only what is there. */
 void add_instruction(char line[LINE_ROOM], const uint16_t *ram, size_t ram_words, uint32_t word);
 
+/* Whether the instruction at a word of memory is a MOVE to BLTSIZE. */
+bool starts_blit(const uint16_t *ram, size_t ram_words, uint32_t word);
+
 /* The instructions of a list of so many words on standard output, each with its sense. COPCON, and with it what is
  * forbidden, stays as it is throughout a frame. */
 void print_instructions(const uint16_t *ram, size_t ram_words, uint32_t start, size_t list_words, bool danger);

@@ -1,34 +1,14 @@
 #include "listing.h"
 
-#include <stdarg.h>
-#include <stdbool.h>
 #include <stdio.h>
 #include <string.h>
 
+#include "line.h"
 #include "step.h"
-
-void add(char line[LINE_ROOM], const char *format, ...)
-{
-    size_t used = strlen(line);
-    va_list arguments;
-
-    va_start(arguments, format);
-    vsnprintf(line + used, LINE_ROOM - used, format, arguments);
-    va_end(arguments);
-}
-
-static const char *plural(unsigned long count)
-{
-    return count == 1 ? "" : "s";
-}
 
 static void add_con0(char line[LINE_ROOM], uint16_t value)
 {
-    if (value & 0x0F00)
-        add(line, "use%s%s%s%s", value & 0x0800 ? " A" : "", value & 0x0400 ? " B" : "",
-            value & 0x0200 ? " C" : "", value & 0x0100 ? " D" : "");
-    else
-        add(line, "use no channel");
+    add_uses(line, value);
     add(line, ", function %02X", (unsigned)value & 0xFF);
     if (value >> 12)
         add(line, ", shift A %u", (unsigned)value >> 12);
@@ -38,7 +18,7 @@ static void add_con0(char line[LINE_ROOM], uint16_t value)
 static void add_con1(char line[LINE_ROOM], uint16_t value)
 {
     if (value & 1) {
-        add(line, "line");
+        add_line_control(line, value);
         return;
     }
     add(line, value & 2 ? "descending" : "ascending");
@@ -80,22 +60,22 @@ static void add_colour(char line[LINE_ROOM], size_t reg, uint16_t kept)
         (unsigned)kept >> 4 & 15, (unsigned)kept & 15);
 }
 
-void add_register(char line[LINE_ROOM], const struct listing *listing, size_t reg, uint16_t value)
+/* The sense that a register has in an area blit, or in every one. */
+static void add_area_register(char line[LINE_ROOM], const struct listing *listing, size_t reg, uint16_t kept)
 {
     const char *name = register_name(reg);
-    uint16_t kept = register_kept(reg, value);
 
     if (reg == COPCON)
         add(line, kept ? "Copper's danger bit set" : "Copper's danger bit clear");
     else if (reg >= COLOUR0)
         add_colour(line, reg, kept);
-    else if (strcmp(name, "BLTCON0") == 0)
-        add_con0(line, value);
-    else if (strcmp(name, "BLTCON1") == 0)
-        add_con1(line, value);
-    else if (strcmp(name, "BLTAFWM") == 0)
+    else if (reg == BLTCON0)
+        add_con0(line, kept);
+    else if (reg == BLTCON1)
+        add_con1(line, kept);
+    else if (reg == BLTAFWM)
         add(line, "mask of A in a row's first word");
-    else if (strcmp(name, "BLTALWM") == 0)
+    else if (reg == BLTALWM)
         add(line, "mask of A in a row's last word");
     else if (strncmp(name + 4, "PT", 2) == 0)
         add_pointer(line, listing, reg, kept);
@@ -103,14 +83,27 @@ void add_register(char line[LINE_ROOM], const struct listing *listing, size_t re
         add_modulo(line, reg, kept);
     else
         add(line, "%c data", name[3]);
+}
+
+void add_register(char line[LINE_ROOM], const struct listing *listing, size_t reg, uint16_t value)
+{
+    uint16_t kept = register_kept(reg, value);
+
+    if (!listing->line || !add_line_register(line, reg, kept))
+        add_area_register(line, listing, reg, kept);
     if (kept != value)
         add(line, ", kept as %04X", (unsigned)kept);
 }
 
-void add_blit(char line[LINE_ROOM], uint16_t size)
+void add_blit(char line[LINE_ROOM], const struct known *known, uint16_t size)
 {
     unsigned height = size_height(size), width = size_width(size);
 
+    if (line_known(known)) {
+        add(line, "line of ");
+        add_line(line, known, size);
+        return;
+    }
     add(line, "blit: %u row%s of %u word%s", height, plural(height), width, plural(width));
 }
 
@@ -145,7 +138,7 @@ static void add_sense(char line[LINE_ROOM], const struct listing *listing, const
         add_register(line, listing, step->reg, step->value);
         break;
     case STEP_SIZE:
-        add_blit(line, step->value);
+        add_blit(line, &listing->known, step->value);
         break;
     case STEP_STORE:
         add(line, "byte %05lX, word %lu becomes %04X", (unsigned long)step->address,
@@ -191,13 +184,31 @@ void remember_write(struct listing *listing, size_t reg, uint16_t value)
 
     listing->high = high ? reg : FILE_WORDS;
     listing->high_value = register_kept(reg, value);
+    know(&listing->known, reg, value);
 }
 
 struct listing listing_of(const uint16_t *job, size_t words)
 {
-    struct listing listing = {job, words, 0, FILE_WORDS, 0};
+    struct listing listing = {job, words, 0, FILE_WORDS, 0, nothing_known(), 0, false};
 
     return listing;
+}
+
+/* Finds the next write of BLTSIZE, and whether it starts a line as far as the job itself says. */
+static void look_ahead(struct listing *listing)
+{
+    bool line = line_known(&listing->known);
+    size_t place = listing->place;
+    struct step step;
+
+    do {
+        step = step_at(listing->job, listing->words, place);
+        if (step.kind == STEP_REGISTER && step.reg == BLTCON1)
+            line = step.value & 1;
+        place += step.words;
+    } while (place < listing->words && step.kind != STEP_SIZE && step.kind != STEP_REFUSED);
+    listing->until = place;
+    listing->line = line && step.kind == STEP_SIZE;
 }
 
 /* The next step's line in one of the two forms. */
@@ -209,12 +220,16 @@ static int next_line(struct listing *listing, char line[LINE_ROOM],
     line[0] = '\0';
     if (listing->place == listing->words)
         return 0;
+    if (listing->place >= listing->until)
+        look_ahead(listing);
     step = step_at(listing->job, listing->words, listing->place);
     add_form(line, listing, &step);
     listing->place = step.kind == STEP_REFUSED ? listing->words : listing->place + step.words;
     listing->high = FILE_WORDS;
     if (step.kind == STEP_REGISTER)
         remember_write(listing, step.reg, step.value);
+    else if (step.kind == STEP_SIZE)
+        forget_blit(&listing->known);
     return 1;
 }
 

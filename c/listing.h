@@ -2,10 +2,12 @@
 #ifndef LISTING_H
 #define LISTING_H
 
+#include <stdbool.h>
 #include <stddef.h>
 #include <stdint.h>
 
-enum { LINE_ROOM = 160 };
+#include "known.h"
+#include "text.h"
 
 struct listing {
     const uint16_t *job;
@@ -13,18 +15,18 @@ struct listing {
     size_t place;      /* of the next step; words at the end, and after a step that is refused */
     size_t high;       /* the register of a pointer's high half if the step before wrote one, else FILE_WORDS */
     uint16_t high_value;
+    struct known known;  /* the registers as the steps before wrote them */
+    size_t until;        /* the place behind the next write of BLTSIZE, if it was looked for, .. */
+    bool line;           /* .. and whether that write starts a line */
 };
 
-/* Adds text to a line; what has no room is left out. */
-void add(char line[LINE_ROOM], const char *format, ...);
-
 /* Adds the sense of a register write. A pointer's low half is read together with its high half if the write before, as
- * remembered in the listing, was of that. */
+ * remembered in the listing, was of that. In a job, where the next blit is a line the sense is the line's. */
 void add_register(char line[LINE_ROOM], const struct listing *listing, size_t reg, uint16_t value);
 void remember_write(struct listing *listing, size_t reg, uint16_t value);
 
-/* Adds the rows and words of a blit. */
-void add_blit(char line[LINE_ROOM], uint16_t size);
+/* Adds what a write of BLTSIZE starts: a line if it is known for one, else the rows and words of a blit. */
+void add_blit(char line[LINE_ROOM], const struct known *known, uint16_t size);
 
 struct listing listing_of(const uint16_t *job, size_t words);
 

@@ -15,6 +15,11 @@ bool same_machine(const struct machine *one, const struct machine *other)
     return memcmp(one->ram, other->ram, sizeof one->ram) == 0 && memcmp(one->file, other->file, sizeof one->file) == 0;
 }
 
+bool same_run(struct run one, struct run other)
+{
+    return one.number == other.number && one.place == other.place && one.count == other.count;
+}
+
 struct run run_of(const struct jobfile *jobfile, struct machine *machine)
 {
     struct run run;

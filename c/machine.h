@@ -20,8 +20,9 @@ struct run {
 /* A machine that begins as the file says. */
 void begin(const struct jobfile *jobfile, struct machine *machine);
 
-/* Whether two machines hold the same. */
+/* Whether two machines hold the same, and whether two runs ended alike. */
 bool same_machine(const struct machine *one, const struct machine *other);
+bool same_run(struct run one, struct run other);
 
 /* Runs the file's job on a machine that begins as the file says. */
 struct run run_of(const struct jobfile *jobfile, struct machine *machine);

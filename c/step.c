@@ -40,7 +40,7 @@ static const struct reg registers[FILE_WORDS] = {
     {"zero", 0, 0x0001},
 };
 
-/* Paper 01's "Numbers given back", as paper 02 leaves it: 13, 18 and 19 aren't given. */
+/* Paper 01's "Numbers given back", as paper 02 leaves it: 7 and 13 aren't given. */
 static const char *const meanings[] = {
     "done",
     "memory of no words or of more than 262,144",
@@ -49,7 +49,7 @@ static const char *const meanings[] = {
     "begins no step",
     "cut off by the job's end",
     "a store to an odd byte address",
-    "a line",
+    NULL,
     "both fills",
     "a fill without descending",
     "a store at a word that memory doesn't have",
@@ -58,10 +58,10 @@ static const char *const meanings[] = {
     NULL,
     "channel A at a word that memory doesn't have",
     "channel B at a word that memory doesn't have",
-    "channel C at a word that memory doesn't have",
+    "channel C, or a dot of a line, at a word that memory doesn't have",
     "channel D at a word that memory doesn't have",
-    NULL,
-    NULL,
+    "a line whose width isn't 2, or that doesn't use exactly A, C and D",
+    "a line whose C and D pointers differ",
     "a new register file that hasn't 53 words",
     "a MOVE to a forbidden offset",
     "a MOVE to a permitted offset that isn't modelled",
@@ -74,7 +74,7 @@ const char *number_meaning(uint32_t number)
 {
     bool given = number < sizeof meanings / sizeof meanings[0] && meanings[number] != NULL;
 
-    return given ? meanings[number] : "not a number of the papers";
+    return given ? meanings[number] : "a number that no call gives";
 }
 
 const char *register_name(size_t reg)

@@ -5,8 +5,18 @@
 #include <stddef.h>
 #include <stdint.h>
 
-/* Places in the register file, and its length: the Blitter's registers stand before COPCON, 32 colours from COLOUR0 on. */
-enum { COPCON = 19, COLOUR0 = 20, ZERO_FLAG = 52, FILE_WORDS = 53 };
+/* Places in the register file, and its length: the Blitter's registers, COPCON, 32 colours from COLOUR0 on. */
+enum {
+    BLTCON0, BLTCON1, BLTAFWM, BLTALWM,
+    BLTCPTH, BLTCPTL, BLTBPTH, BLTBPTL, BLTAPTH, BLTAPTL, BLTDPTH, BLTDPTL,
+    BLTCMOD, BLTBMOD, BLTAMOD, BLTDMOD,
+    BLTCDAT, BLTBDAT, BLTADAT,
+    COPCON,
+    COLOUR0,
+    ZERO_FLAG = COLOUR0 + 32,
+    FILE_WORDS
+};
+/* An offset, and the longest job. */
 enum { BLTSIZE = 0x058, JOB_LIMIT = 4096 };
 
 enum step_kind { STEP_REGISTER, STEP_SIZE, STEP_STORE, STEP_FLAG, STEP_REFUSED };

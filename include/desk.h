@@ -1,5 +1,5 @@
-/* The machine-checked Blitter for C: one area blit, a job run, a job folded, an old register file widened, Copper lists,
- * one line of picture.
+/* The machine-checked Blitter for C: one blit, of an area or a line, a job run, a job folded, an old register file
+ * widened, Copper lists, one line of picture.
  *
  * Common to all calls
  * - Memory, register file, job and output are runs of 16-bit words; every length counts words, not bytes.
@@ -19,22 +19,29 @@
  *      4  a word that begins no step
  *      5  a step cut off by the job's end
  *      6  a store to an odd byte address
- *      7  a line: bit 0 of BLTCON1
- *      8  both fills
- *      9  a fill without descending
+ *      7  is given by none of these calls
+ *      8  an area blit with both fills
+ *      9  an area blit with a fill without descending
  *     10  a store at a word that memory doesn't have; for desk_picture a bit plane with such a word
  *     11  a folded job longer than the output or than 4,096 words
- *     14  a blit whose channel A comes to a word that memory doesn't have
+ *     14  an area blit whose channel A comes to a word that memory doesn't have
  *     15  the same of channel B, but not of A
- *     16  the same of channel C, but not of A or B
+ *     16  the same of channel C, but not of A or B; or a line with a dot, stored or not, in such a word
  *     17  the same of channel D, but not of A, B or C
+ *     18  a line whose width isn't 2, or that doesn't use exactly A, C and D
+ *     19  a line whose C and D pointers differ
  *     20  a new register file that hasn't 53 words
  *     21  a MOVE to an offset that is forbidden to the Copper: below 040, or 040 to 07E without the danger bit
  *     22  a MOVE to an offset that is permitted but isn't 058 nor a register's of the file
  *     23  a Copper instruction whose first or second word memory doesn't have
  *     24  a picture not of 1 to 5 bit planes or not of 1 to 40 words a line, or a delay above 15
  *     25  an output shorter than a picture's line, 16 pixels for each word
- *   Of a blit's channels those in use count, in the order A, B, C, D, whichever leaves memory earlier.
+ *   Of an area blit's channels those in use count, in the order A, B, C, D, whichever leaves memory earlier.
+ * - With bit 0 of BLTCON1 set a blit is a line, otherwise it is an area blit. A line has as many dots as its size has
+ *   rows. C fetches the word of each dot, and D stores it before the next is fetched; with bit 1 of BLTCON1 only for
+ *   the first dot and the first after each vertical move. The step behind the last dot is made too; where it goes isn't
+ *   judged. A line leaves the accumulator in BLTAPTL, in C's and D's pointers the word to which that step went, and in
+ *   the zero flag 1 exactly when every word that it stored was zero. Every other register is as before, BLTCDAT too.
  * - All numbers are written at every call, refused or not.
  * - There is no state: calls on different buffers may run at the same time. No call allocates, prints or fails otherwise.
  */
@@ -48,15 +55,16 @@
 extern "C" {
 #endif
 
-/* Does one area blit of the given BLTSIZE. *number is 0 when it is done, and *stored the count of words stored;
- * otherwise it is 1, 2, 7, 8, 9, 14, 15, 16 or 17 (the first that holds, in this order), *stored is 0, and ram and
- * file are unchanged. */
+/* Does one blit of the given BLTSIZE. *number is 0 when it is done, and *stored the count of words stored; otherwise it
+ * is 1, 2, 8, 9, 14, 15, 16 or 17 for an area blit, 1, 2, 18, 19 or 16 for a line (the first that holds, in this
+ * order), *stored is 0, and ram and file are unchanged. */
 void desk_blit(uint16_t *ram, size_t ram_words, uint16_t *file, size_t file_words, uint16_t size,
                uint32_t *number, uint32_t *stored);
 
-/* Runs a job. *number is 0 when it is done, and *place is 0; otherwise it is 1 to 10 or 14 to 17, *place the word
- * index of the refused step (0 for 1 to 3), and ram, file and *stored are as after the last step that was done.
- * *stored counts the words stored by blits and store steps together. */
+/* Runs a job. *number is 0 when it is done, and *place is 0; otherwise it is 1 to 6, 10 for a store, 8, 9 or 14 to 17
+ * for an area blit, 18, 19 or 16 for a line, *place is the word index of the refused step (0 for 1 to 3), and ram, file
+ * and *stored are as after the last step that was done. *stored counts the words stored by blits and store steps
+ * together. */
 void desk_run(uint16_t *ram, size_t ram_words, uint16_t *file, size_t file_words,
               const uint16_t *job, size_t job_words,
               uint32_t *number, uint32_t *place, uint32_t *stored);
@@ -64,8 +72,9 @@ void desk_run(uint16_t *ram, size_t ram_words, uint16_t *file, size_t file_words
 /* Folds a job for memory of ram_words words. *number is 0 when it is done, *place is 0, *length is the length of the
  * folded job, which stands at the start of out; out beyond it is unchanged. Otherwise *number is 1, 3, 4, 5, 6 or 11,
  * *place the word index of the refused step (0 for 1, 3 and 11), *length 0, and the whole of out is unchanged.
- * No folded job is longer than 4,096 words. A step that a run would refuse is copied, not refused. On every memory
- * of ram_words words the folded job and its original end alike, but for the place told with a refusal. */
+ * No folded job is longer than 4,096 words. A step that a run would refuse is copied, not refused. A line is copied
+ * always. On every memory of ram_words words the folded job and its original end alike, but for the place told with a
+ * refusal. */
 void desk_fold(size_t ram_words, const uint16_t *job, size_t job_words, uint16_t *out, size_t out_words,
                uint32_t *number, uint32_t *place, uint32_t *length);
 
@@ -80,8 +89,9 @@ void desk_widen(const uint16_t *old, size_t old_words, uint16_t *target, size_t 
  * - *why is 0 when the frame is over, otherwise 1 when lent instructions are done, otherwise 2 when the next one is
  *   refused; the three are looked at in this order before each instruction.
  * - *number is 0 unless *why is 2. 1 and 2 come before any instruction and whatever lent is: ram and file are unchanged,
- *   *done and *word are 0. Otherwise it is 23, 21, 22, or of a MOVE to 058 a blit's own 7, 8, 9, 14, 15, 16 or 17 (the
- *   first that holds, in this order); the refused instruction changes nothing, and those before it stand.
+ *   *done and *word are 0. Otherwise it is 23, 21, 22, or of a MOVE to 058 the blit's own, 8, 9, 14, 15, 16 or 17 for
+ *   an area blit, 18, 19 or 16 for a line (the first that holds, in this order); the refused instruction changes
+ *   nothing, and those before it stand.
  * - *word is the word number of the next instruction, or of the refused one. Nothing goes round: past the end of memory it
  *   counts on.
  * The first word of an instruction even: a MOVE of the second to the offset in its bits 8-1, with the kept bits; bits 15-9

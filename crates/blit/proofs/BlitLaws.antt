@@ -125,6 +125,13 @@ module _ (memory file : List ℕ) (size : ℕ) (by : Plan) (same : by ≡ plan f
   unfolding done
   done-of-line course is does = rw (line-bit file size by same course is) does
 
+-- a blit that is done has the number 0
+pub done-number : (memory file : List ℕ) (size : ℕ) → done memory file size .number ≡ 0
+unfolding done areaDone lineDone
+done-number memory file size =
+    lineOrArea-cases (λ (outcome : Outcome). outcome .number ≡ 0) file (lineDone file (drawn memory file size))
+    (areaDone file (finished memory file size)) (λ _. refl) (λ _. refl)
+
 pub answered-when-done : (memory file after changed : List ℕ) (size stored : ℕ) (verdict : Verdict) (by : Plan)
     → verdict ≡ verdicts.Lawful by → left (Done stored) after changed ≡ done memory file size
     → left (Done stored) after changed ≡ answered (verdictNumber verdict) memory file size

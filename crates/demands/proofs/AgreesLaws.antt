@@ -101,3 +101,13 @@ agrees-of-pointer known file true false at pointer only agrees place value is =
 agrees-of-pointer known file false false at pointer only agrees place value is = agrees place value is
 agrees-of-pointer known file false true at pointer only agrees place value is =
     let impossible = only refl in let wrong : _≡_ {A = ℕ} 0 1 = cc in absurd (omega arith)
+
+-- of a pointer's registers a line writes A's low half alone
+pub agrees-of-low : (known : List Known) (file : List ℕ) (may : Bool) (at word : ℕ) → may ≡ true
+    → Agrees known file → Agrees (forgetPointer may at known) (set file (at + 1) word)
+unfolding Agrees forgetPointer
+agrees-of-low known file true at word only agrees place value is =
+    let second = forget-one (set known at Known.Unknown) (at + 1) place value is in
+    getD-set-other file (at + 1) place word 0 (λ same. second .0 (sym same))
+    ∙ agrees place value (forget-one known at place value (second .1) .1)
+agrees-of-low known file false at word only agrees place value is = let wrong : _≡_ {A = ℕ} 0 1 = cc in absurd (omega arith)

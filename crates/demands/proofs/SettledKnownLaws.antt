@@ -1,5 +1,5 @@
 -- Laws of a settled blit: the file of the known numbers agrees with the register file on all that the blit depends on.
-use Rattle.word.proofs.Base.{_≡_, refl, sym, _∙_, ℕ, _+_, _*_, _<_, arith, Bool, true, false, _&&_, _||_, not, eqb, leb}
+use Rattle.word.proofs.Base.{_≡_, refl, sym, ap, _∙_, ℕ, _+_, _*_, _<_, arith, Bool, true, false, _&&_, _||_, not, eqb, leb}
 use Rattle.word.proofs.Base.{eqb-true, not-true, List, length, getD}
 use lib.Dec.{lit<}
 use Rattle.word.specs.Size.{height, width}
@@ -7,8 +7,8 @@ use Rattle.word.proofs.ChoiceLaws.{and-left, and-right}
 use Rattle.file.specs.Places.{blitterLength, control0, control1, firstMask, lastMask, pointerD, moduloD, sourceA, sourceB, sourceC}
 use Rattle.word.specs.declared.types.Uses.{Uses}
 use Rattle.area.specs.Setup.{setup}
-use Rattle.file.specs.File.{con0}
-use Rattle.word.specs.Control.{uses, function}
+use Rattle.file.specs.File.{con0, con1}
+use Rattle.word.specs.Control.{uses, function, line}
 use Rattle.refusal.specs.Refusal.{stepRefusal}
 use Rattle.depends.specs.Depends.{counts}
 use Rattle.knowledge.specs.declared.types.Known.{Known}
@@ -18,8 +18,10 @@ use Rattle.knowledge.proofs.KnownLaws.{known-is-number}
 use Rattle.knowledge.proofs.KnowledgeLaws.{numbers-at}
 use Rattle.stores.proofs.OnlyDLaws.{OnlyD}
 use Rattle.settled.proofs.AgreeLaws.{Agree}
+use Rattle.settled.proofs.WordsLaws.{area-of-only-d}
 use Rattle.learning.specs.Learn.{knownAt}
 use Rattle.settled.specs.Settled.{has, controlsKnown, onlyDUsed, sourcesKnown, settled}
+use Rattle.demands.specs.ALineIsNeverSettled.{ALineIsNeverSettled}
 use Rattle.demands.proofs.AgreesLaws.{Agrees}
 
 -- a condition that is asked for holds
@@ -96,3 +98,15 @@ module _ (n : ℕ) (known : List Known) (size : ℕ) (holds : settled n known si
         b = λ counted. known-agrees known file sourceB long (lit< tt) agrees (asked (counts f 2) (has known sourceB) (and-right ask-a ask-b ab) counted);
         c = λ counted. known-agrees known file sourceC long (lit< tt) agrees (asked (counts f 1) (has known sourceC) (and-right (ask-a && ask-b) ask-c sources) counted);
       }
+
+-- a settled blit uses D alone and isn't refused, and a line that does is
+pub a-line-is-never-settled : ALineIsNeverSettled
+unfolding Agrees
+a-line-is-never-settled n known file size long agrees lined = by-test (settled n known size) refl
+  where
+    by-test : (holds : Bool) → settled n known size ≡ holds → holds ≡ false
+    by-test true holds =
+        let area : line (con1 (numbers known)) ≡ false =
+        area-of-only-d n (numbers known) size (settled-uses-d n known size holds) (settled-is-lawful n known size holds) in
+        sym lined ∙ ap line (sym (settled-agrees n known size holds file long agrees .control1)) ∙ area
+    by-test false kept = refl

@@ -1,4 +1,5 @@
--- What is demanded of a folding, and of the registers that are neither a blit's nor the folder's.
+-- What is demanded of a folding, of a line, and of the registers that are neither a blit's nor the folder's.
 pub mod DemandThree
 pub mod SettledAreReplaced
+pub mod ALineIsNeverSettled
 pub mod ScreenTouchesNeither

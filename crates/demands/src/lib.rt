@@ -1,6 +1,7 @@
-// What is demanded of a folding, and of COPCON and the colours; each function has its theorem as its contract, and does nothing.
+// What is demanded of a folding, of a line, and of COPCON and the colours; each function has its theorem as its contract, and does nothing.
 ghost use Rattle.demands.specs.DemandThree.{DemandThree};
 ghost use Rattle.demands.specs.SettledAreReplaced.{SettledAreReplaced};
+ghost use Rattle.demands.specs.ALineIsNeverSettled.{ALineIsNeverSettled};
 ghost use Rattle.demands.specs.ScreenTouchesNeither.{ScreenTouchesNeither};
 
 pub fn demand_three()
@@ -9,6 +10,10 @@ pub fn demand_three()
 
 pub fn settled_are_replaced()
     ensures { λ _. ⌜ SettledAreReplaced ⌝ }
+{}
+
+pub fn a_line_is_never_settled()
+    ensures { λ _. ⌜ ALineIsNeverSettled ⌝ }
 {}
 
 pub fn screen_touches_neither()

@@ -219,20 +219,29 @@ channelNumbered a b c d =
     if d then 17 else
     0
 
+-- and of an area blit
+abbrev pub areaNumbered : (both upward : Bool) → (channel : ℕ) → ℕ
+areaNumbered both upward channel =
+    if both then 8 else
+    if upward then 9 else
+    channel
+
+pub stepRefusal-of-area : (n : ℕ) (file : List ℕ) (size : ℕ) → line (con1 file) ≡ false
+    → stepRefusal n file size ≡ areaNumbered (bothFills (con1 file)) (fillUpward (con1 file)) (leaving n (areaPlan file size))
+unfolding stepRefusal given leaving
+stepRefusal-of-area n file size area = rw area
+
 -- an area blit that nothing refuses doesn't leave memory
-areaRules-of-none : (n : ℕ) (file : List ℕ) (size : ℕ) → given (areaRules n file size) ≡ 0 → leaving n (areaPlan file size) ≡ 0
-unfolding given leaving
-areaRules-of-none n file size lawful = by-fills (bothFills (con1 file)) (fillUpward (con1 file)) (leaving n (areaPlan file size)) lawful
-  where
-    by-fills : (both upward : Bool) (channel : ℕ) → (if both then 8 else if upward then 9 else channel) ≡ 0 → channel ≡ 0
-    by-fills true upward channel none = absurd (omega arith)
-    by-fills false true channel none = absurd (omega arith)
-    by-fills false false channel none = none
+areaNumbered-of-none : (both upward : Bool) (channel : ℕ) → areaNumbered both upward channel ≡ 0 → channel ≡ 0
+areaNumbered-of-none true upward channel none = absurd (omega arith)
+areaNumbered-of-none false true channel none = absurd (omega arith)
+areaNumbered-of-none false false channel none = none
 
 pub stepRefusal-of-none : (n : ℕ) (file : List ℕ) (size : ℕ) → line (con1 file) ≡ false → stepRefusal n file size ≡ 0
     → leaving n (areaPlan file size) ≡ 0
-unfolding stepRefusal
-stepRefusal-of-none n file size area lawful = areaRules-of-none n file size (rw area at lawful)
+stepRefusal-of-none n file size area lawful =
+    areaNumbered-of-none (bothFills (con1 file)) (fillUpward (con1 file)) (leaving n (areaPlan file size))
+    (sym (stepRefusal-of-area n file size area) ∙ lawful)
 
 -- a line that nothing refuses uses A, C and D, and not B
 pub record Drawing (uses : Uses) : Type 0 where
@@ -268,6 +277,16 @@ stepRefusal-of-line n file size lines lawful =
     by-form : (form differ outside : Bool) → _≡_ {A = ℕ} (if form then 18 else if differ then 19 else if outside then 16 else 0) 0 → form ≡ false
     by-form true differ outside none = absurd (omega arith)
     by-form false differ outside none = refl
+
+-- one that doesn't use A is refused for its form
+pub stepRefusal-without-a : (n : ℕ) (file : List ℕ) (size : ℕ) → line (con1 file) ≡ true → uses (con0 file) .a ≡ false
+    → stepRefusal n file size ≡ 18
+unfolding stepRefusal given otherForm
+stepRefusal-without-a n file size lined idle = rw (lined, idle) (by-width (eqb (width size) 2) _)
+  where
+    by-width : (two : Bool) (rest : ℕ) → _≡_ {A = ℕ} (if not two || true then 18 else rest) 18
+    by-width true rest = refl
+    by-width false rest = refl
 
 -- the blit called alone is refused by memory, by the file, or as a job's
 pub refusal-of-none : (n : ℕ) (file : List ℕ) (size : ℕ) → refusal n file size ≡ 0 → stepRefusal n file size ≡ 0

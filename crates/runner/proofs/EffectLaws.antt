@@ -6,10 +6,10 @@ use Rattle.file.specs.File.{kept}
 use Rattle.file.specs.Places.{flag}
 use Rattle.refusal.specs.declared.types.Refusal.{Refusal}
 use Rattle.refusal.specs.Refusal.{stepRefusal}
-use Rattle.blit.specs.Blit.{Outcome, done, refused, blitStep}
+use Rattle.blit.specs.Blit.{Outcome, refused, blitStep}
 use Rattle.blit.specs.Blit as blit
 use Rattle.blit.specs.declared.types.Answer.{Answer}
-use Rattle.blit.proofs.BlitLaws.{blitStep-counts}
+use Rattle.blit.proofs.BlitLaws.{done-number, blitStep-counts}
 use Rattle.job.specs.declared.types.Step.{Step}
 use Rattle.runner.specs.declared.types.Refusal as reasons
 use Rattle.runner.specs.declared.types.Taken.{Taken}
@@ -70,9 +70,9 @@ stepEffect-either Holds step memory file does stays =
     (refused (given (stepRules (length memory) file step)) memory file) does (stays (given (stepRules (length memory) file step)))
 
 pub taken-number : (step : Step) (memory file : List ℕ) → taken step memory file .number ≡ 0
-unfolding taken done
+unfolding taken
 taken-number (Step.Register place value) memory file = refl
-taken-number (Step.Size size) memory file = refl
+taken-number (Step.Size size) memory file = done-number memory file size
 taken-number (Step.Store to value) memory file = refl
 taken-number (Step.Flag value) memory file = refl
 

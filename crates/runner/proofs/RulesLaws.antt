@@ -3,6 +3,8 @@ use Rattle.word.proofs.Base.{_≡_, refl, sym, _∙_, ℕ, _<_, Bool, true, fal
 use Rattle.word.proofs.Base.{[], _∷_, length}
 use Rattle.word.specs.Choice.{if_then_else_, Rule, given}
 use Rattle.word.proofs.ChoiceLaws.{and-left, and-right}
+use Rattle.refusal.specs.Refusal.{areaRules, lineRules}
+use Rattle.refusal.proofs.PlanLaws.{lineOrArea-cases}
 use Rattle.blit.specs.Blit.{refused}
 use Rattle.job.specs.declared.types.Refusal.{Refusal}
 use Rattle.job.specs.declared.types.Step.{Step}
@@ -49,7 +51,8 @@ given-lt (rule ∷ rest) all refusal =
 rulesAt-are-late : (n : ℕ) (file : List ℕ) (read : Read) → late (rulesAt n file read) ≡ true
 unfolding rulesAt ownRules
 rulesAt-are-late n file (Read.Step (Step.Register place value) next) = refl
-rulesAt-are-late n file (Read.Step (Step.Size size) next) = refl
+rulesAt-are-late n file (Read.Step (Step.Size size) next) =
+    lineOrArea-cases (λ (rules : List Rule). late rules ≡ true) file (lineRules n file size) (areaRules n file size) (λ _. refl) (λ _. refl)
 rulesAt-are-late n file (Read.Step (Step.Store to value) next) = refl
 rulesAt-are-late n file (Read.Step (Step.Flag value) next) = refl
 rulesAt-are-late n file Read.End = refl

@@ -9,7 +9,7 @@ use Rattle.word.specs.Choice.{if_then_else_, Rule, _when_, given}
 use Rattle.file.specs.File.{kept}
 use Rattle.file.specs.Places.{flag}
 use Rattle.refusal.specs.Refusal.{blitRules}
-use Rattle.blit.specs.Blit.{Outcome, finished, done, refused}
+use Rattle.blit.specs.Blit.{Outcome, done, refused}
 use Rattle.job.specs.declared.types.Step.{Step}
 use Rattle.job.specs.declared.types.Read.{Read}
 use Rattle.job.specs.Step.{readRules, readNumber}
@@ -47,7 +47,7 @@ did stored memory file = record { number = 0; stored = stored; memory = memory; 
 -- or 1"
 unfoldable pub taken : Step → (memory file : List ℕ) → Outcome
 taken (Step.Register place value) memory file = did 0 memory (set file place (kept place value))
-taken (Step.Size size) memory file = done file (finished memory file size)
+taken (Step.Size size) memory file = done memory file size
 taken (Step.Store to value) memory file = did 1 (set memory to value) file
 taken (Step.Flag value) memory file = did 0 memory (set file flag value)
 

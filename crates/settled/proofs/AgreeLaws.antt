@@ -14,8 +14,9 @@ use Rattle.file.specs.Pointers.{pointerAt}
 use Rattle.area.specs.Flow.{pointers, sources, start}
 use Rattle.refusal.specs.Touch.{touches, leaves, channelLeaves}
 use Rattle.refusal.specs.declared.types.AreaPlan.{AreaPlan}
-use Rattle.refusal.specs.Refusal.{bothFills, fillUpward, areaPlan, leaving, stepRefusal}
-use Rattle.refusal.proofs.RefusalLaws.{channelNumbered, numbered}
+use Rattle.refusal.specs.Plan.{areaPlan}
+use Rattle.refusal.specs.Refusal.{bothFills, fillUpward, leaving, stepRefusal}
+use Rattle.refusal.proofs.RefusalLaws.{channelNumbered, areaNumbered, stepRefusal-of-area, stepRefusal-without-a}
 use Rattle.depends.specs.Depends.{counts}
 use Rattle.stores.specs.Stores.{stores, finalD}
 use Rattle.stores.proofs.OnlyDLaws.{OnlyD}
@@ -99,15 +100,26 @@ module _ (this other : List ℕ) (agree : Agree this other) where
         d = sym (ap (λ (used : Uses). used .d) same) ∙ only .d;
       }
 
-  pub stepRefusal-alike : (n size : ℕ) → OnlyD (setup this .uses) → stepRefusal n this size ≡ stepRefusal n other size
-  unfolding stepRefusal given leaving
-  stepRefusal-alike n size only =
-      ap₂ (λ (control channel : ℕ). numbered false false (line control) (bothFills control) (fillUpward control) channel)
-      (agree .control1)
-      (leaving-of-only-d n (areaPlan this size) only
+  leaving-alike : (n size : ℕ) → OnlyD (setup this .uses) → leaving n (areaPlan this size) ≡ leaving n (areaPlan other size)
+  leaving-alike n size only =
+      leaving-of-only-d n (areaPlan this size) only
       ∙ touches-alike n (width size) (height size) (setup this .direction) (setup other .direction) (setup this .modulos .d) (setup other .modulos .d) (pointers this .d) (pointers other .d)
       (setup-alike .direction) (setup-alike .modulo) pointers-alike
-      ∙ sym (leaving-of-only-d n (areaPlan other size) (uses-alike only)))
+      ∙ sym (leaving-of-only-d n (areaPlan other size) (uses-alike only))
+
+  -- a line is refused for its form, an area blit as its fills and channels say
+  pub stepRefusal-alike : (n size : ℕ) → OnlyD (setup this .uses) → stepRefusal n this size ≡ stepRefusal n other size
+  unfolding setup
+  stepRefusal-alike n size only = by-bit (line (con1 this)) refl
+    where
+      by-bit : (bit : Bool) → line (con1 this) ≡ bit → stepRefusal n this size ≡ stepRefusal n other size
+      by-bit true lined =
+          stepRefusal-without-a n this size lined (only .a)
+          ∙ sym (stepRefusal-without-a n other size (sym (ap line (agree .control1)) ∙ lined) (uses-alike only .a))
+      by-bit false area =
+          stepRefusal-of-area n this size area
+          ∙ ap₂ (λ (control channel : ℕ). areaNumbered (bothFills control) (fillUpward control) channel) (agree .control1) (leaving-alike n size only)
+          ∙ sym (stepRefusal-of-area n other size (sym (ap line (agree .control1)) ∙ area))
 
   pub finalD-alike : (size : ℕ) → finalD this size ≡ finalD other size
   unfolding finalD

@@ -8,7 +8,7 @@ use Rattle.word.specs.declared.types.Uses.{Uses}
 use Rattle.file.specs.File.{con0}
 use Rattle.word.specs.Control.{uses, function}
 use Rattle.refusal.specs.declared.types.Refusal.{Refusal}
-use Rattle.refusal.specs.declared.types.AreaPlan.{AreaPlan}
+use Rattle.refusal.specs.declared.types.Plan.{Plan}
 use Rattle.refusal.specs.declared.types.Verdict.{Verdict}
 use Rattle.refusal.specs.Refusal.{stepRefusal, verdictNumber}
 use Rattle.refusal.proofs.RefusalLaws.{refusal-is-some}
@@ -38,7 +38,7 @@ sourcesKnown-of-parts con0 decoded known on a first last b c is-function same is
     (ap (λ (d : Depends). (not (d .a) || has known sourceA && has known firstMask && has known lastMask) && (not (d .b) || has known sourceB) && (not (d .c) || has known sourceC)) (same ∙ ap depends is-function))
 
 module _ (verdict : Verdict) (number : ℕ) (gives : verdictNumber verdict ≡ number) where
-  pub lawful-when-lawful : (by : AreaPlan) → verdict ≡ Verdict.Lawful by → true ≡ eqb number 0
+  pub lawful-when-lawful : (by : Plan) → verdict ≡ Verdict.Lawful by → true ≡ eqb number 0
   lawful-when-lawful by same = sym (eq-eqb number 0 (sym gives ∙ ap verdictNumber same))
 
   pub lawful-when-refused : (why : Refusal) → verdict ≡ Verdict.Refused why → false ≡ eqb number 0

@@ -1,5 +1,5 @@
 -- A settled blit's words, run, leave what the blit leaves.
-use Rattle.word.proofs.Base.{_≡_, sym, ap, _∙_, ℕ, _+_, _*_, zero-add, Bool, true, false, List, [], _++_, length, set}
+use Rattle.word.proofs.Base.{_≡_, refl, sym, ap, _∙_, ℕ, _+_, _*_, zero-add, arith, Bool, true, false, List, [], _++_, length, set}
 use mathlib.Core.List.{append-assoc}
 use native.Mathlib.Nat.{mul-one}
 use Rattle.word.specs.declared.types.Pointer.{Pointer}
@@ -15,12 +15,16 @@ use Rattle.area.specs.Flow.{state, pointers, start}
 use Rattle.area.specs.Store.{memoryWith, countWith, storePending}
 use Rattle.area.specs.Rows.{areaBlit}
 use Rattle.area.proofs.CountLaws.{each, each-of-used, rows-count-all}
-use Rattle.refusal.specs.Refusal.{areaPlan, stepRefusal}
+use Rattle.word.specs.Control.{line}
+use Rattle.file.specs.File.{con1}
+use Rattle.refusal.specs.Plan.{areaPlan}
+use Rattle.refusal.specs.Refusal.{stepRefusal}
 use Rattle.file.specs.Pointers.{putFlag}
 use Rattle.blit.specs.WriteBack.{putPointer, putPointers, putSource, putSources}
-use Rattle.blit.specs.Blit.{Outcome, finished, done, answered, blitStep}
+use Rattle.blit.specs.Blit.{Outcome, finished, areaDone, done, answered, blitStep}
+use Rattle.blit.proofs.BlitLaws.{done-number}
 use Rattle.file.proofs.PointersLaws.{pointerAt-lt}
-use Rattle.refusal.proofs.RefusalLaws.{stepRefusal-of-none, leaving-of-d}
+use Rattle.refusal.proofs.RefusalLaws.{stepRefusal-of-none, stepRefusal-without-a, leaving-of-d}
 use Rattle.runner.specs.Run.{machine, after, runFrom}
 use Rattle.stores.specs.Stores.{Store, stores, allZero, finalD}
 use Rattle.stores.proofs.OnlyDLaws.{OnlyD}
@@ -57,10 +61,19 @@ written-back uses at sources file only =
     ∙ putPointer-of-unused (uses .b) pointerB (at .b) _ (only .b)
     ∙ putPointer-of-unused (uses .a) pointerA (at .a) file (only .a))
 
-blitStep-of-lawful : (memory file : List ℕ) (size : ℕ) → stepRefusal (length memory) file size ≡ 0
-    → blitStep memory file size ≡ done file (finished memory file size)
-unfolding blitStep answered
-blitStep-of-lawful memory file size lawful = rw lawful
+-- a blit that uses D alone and isn't refused is an area blit
+pub area-of-only-d : (n : ℕ) (file : List ℕ) (size : ℕ) → OnlyD (setup file .uses) → stepRefusal n file size ≡ 0 → line (con1 file) ≡ false
+unfolding setup
+area-of-only-d n file size only lawful = by-bit (line (con1 file)) refl
+  where
+    by-bit : (bit : Bool) → line (con1 file) ≡ bit → bit ≡ false
+    by-bit true lined = let refused : _≡_ {A = ℕ} 18 0 = sym (stepRefusal-without-a n file size lined (only .a)) ∙ lawful in absurd (omega arith)
+    by-bit false area = refl
+
+blitStep-of-lawful : (memory file : List ℕ) (size : ℕ) → line (con1 file) ≡ false → stepRefusal (length memory) file size ≡ 0
+    → blitStep memory file size ≡ areaDone file (finished memory file size)
+unfolding blitStep answered done
+blitStep-of-lawful memory file size area lawful = rw (lawful, area)
 
 -- the place after a settled blit's words
 unfoldable pub afterSettled : (at size : ℕ) → ℕ
@@ -92,18 +105,21 @@ module _ (memory file : List ℕ) (size : ℕ) (only : OnlyD (setup file .uses))
       ∙ sym (stores-length file size)
 
   module _ (lawful : stepRefusal (length memory) file size ≡ 0) where
+    area : line (con1 file) ≡ false
+    area = area-of-only-d (length memory) file size only lawful
+
     stores-inside : Inside (length memory) (stores file size)
     unfolding stores start pointers
     stores-inside =
         blitStores-inside (setup file) only (width size) (length memory) (height size) (state [] (start file)) (pointerAt-lt file pointerD)
-        (leaving-of-d (length memory) (areaPlan file size) (only .d) (stepRefusal-of-none (length memory) file size lawful))
+        (leaving-of-d (length memory) (areaPlan file size) (only .d) (stepRefusal-of-none (length memory) file size area lawful))
 
     -- what a settled blit leaves in the file
     pub blitStep-file : blitStep memory file size .file
         ≡ set (set (set file pointerD (high (finalD file size))) (pointerD + 1) (low (finalD file size))) flag (if allZero (stores file size) then 1 else 0)
-    unfolding done putFlag
+    unfolding areaDone putFlag
     blitStep-file =
-        ap (λ (outcome : Outcome). outcome .file) (blitStep-of-lawful memory file size lawful)
+        ap (λ (outcome : Outcome). outcome .file) (blitStep-of-lawful memory file size area lawful)
         ∙ ap (λ (written : List ℕ). set written flag (if finished memory file size .flow .allzero then 1 else 0))
         (written-back (setup file .uses) (finished memory file size .flow .pointers) (finished memory file size .flow .sources) file only)
         ∙ ap (λ (to : Pointer). set (set (set file pointerD (high to)) (pointerD + 1) (low to)) flag (if finished memory file size .flow .allzero then 1 else 0)) d-of-stores
@@ -113,9 +129,9 @@ module _ (memory file : List ℕ) (size : ℕ) (only : OnlyD (setup file .uses))
         ≡ machine (storedInto (stores file size) memory)
         (set (set (set file pointerD (high (finalD file size))) (pointerD + 1) (low (finalD file size))) flag (if allZero (stores file size) then 1 else 0))
         (stored + length (stores file size))
-    unfolding done
+    unfolding areaDone
     after-blit stored =
-        let does = blitStep-of-lawful memory file size lawful in
+        let does = blitStep-of-lawful memory file size area lawful in
         same
         (ap (λ (outcome : Outcome). outcome .memory) does ∙ memory-of-stores)
         blitStep-file
@@ -140,5 +156,5 @@ module _ (memory file : List ℕ) (size : ℕ) (only : OnlyD (setup file .uses))
 
 -- its number is that of a blit that is done
 pub blitStep-number : (memory file : List ℕ) (size : ℕ) → stepRefusal (length memory) file size ≡ 0 → blitStep memory file size .number ≡ 0
-unfolding done
-blitStep-number memory file size lawful = ap (λ (outcome : Outcome). outcome .number) (blitStep-of-lawful memory file size lawful)
+unfolding blitStep answered
+blitStep-number memory file size lawful = rw lawful (done-number memory file size)

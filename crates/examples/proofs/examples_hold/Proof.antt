@@ -21,7 +21,7 @@ use Rattle.area.specs.Rows.{finishedWord, storedBefore, oneWord, rowStart, oneR
 use Rattle.refusal.specs.Touch.{rowTouches, touches, leaves, channelLeaves}
 use Rattle.refusal.specs.Refusal.{bothFills, fillUpward, stepRefusal, refusal}
 use Rattle.word.specs.Memory.{memorySize}
-use Rattle.blit.specs.Blit.{finished, done, answered, blit}
+use Rattle.blit.specs.Blit.{finished, areaDone, done, answered, blit}
 use Rattle.job.specs.Kind.{kind}
 use Rattle.job.specs.Step.{operands, found, begun, front}
 use Rattle.job.specs.Steps.{behind, stepsFrom}
@@ -41,7 +41,7 @@ returns : tie.Need-returns
 unfolding fold foldFrom foldSteps piece learnedAfter becomes learned settled controlsKnown onlyDUsed sourcesKnown written forgotten forgetUsed forgetPointer forgetSource mayUse movedD
     settledWords storesWords stores blitStores rowStores allZero finalD numbers number isKnown counts changes stepsFrom behind front begun found operands kind place placeIn isRegister registers kept keptBits keptAt
     stepRefusal given bothFills fillUpward channelLeaves leaves touches rowTouches nextRow repeated setup uses shifts direction fill masks modulos start pointers pointerAt sources pointer half moved passed
-    blit answered done finished areaBlit refusal memorySize accepted storePending memoryWith countWith wait
+    blit answered done areaDone finished areaBlit refusal memorySize accepted storePending memoryWith countWith wait
     oneWord storedBefore finishedWord finish final result maskedA fetch fetched moveOn stepped rowStart oneRow rowEnd turned filled examples ofBits height width maskedWhen masked logic carry exclusive inclusive
 returns c = refl
 

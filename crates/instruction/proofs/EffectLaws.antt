@@ -10,9 +10,9 @@ use Rattle.refusal.specs.declared.types.Refusal as blits
 use Rattle.blit.specs.declared.types.Answer as answers
 use Rattle.refusal.specs.Refusal.{stepRefusal}
 use Rattle.blit.specs.Blit as blit
-use Rattle.blit.specs.Blit.{done, refused, answered, blitStep}
+use Rattle.blit.specs.Blit.{refused, answered, blitStep}
 use Rattle.refusal.proofs.RefusalLaws.{refusal-is-some}
-use Rattle.blit.proofs.BlitLaws.{blitStep-stays}
+use Rattle.blit.proofs.BlitLaws.{done-number, blitStep-stays}
 use Rattle.instruction.specs.declared.types.Instruction.{Instruction}
 use Rattle.instruction.specs.declared.types.Instruction.the-variants.{Move, Wait, Skip}
 use Rattle.instruction.specs.declared.types.Refusal.{Refusal}
@@ -44,8 +44,8 @@ module _ (answer : answers.Answer) (size beam word : ℕ) (memory file next end 
 -- a blit's number is that of its own rules
 blitStep-gives : (memory file : List ℕ) (size number : ℕ) → stepRefusal (length memory) file size ≡ number
     → blitStep memory file size .number ≡ number
-unfolding blitStep answered done refused
-blitStep-gives memory file size zero same = rw same
+unfolding blitStep answered refused
+blitStep-gives memory file size zero same = rw same (done-number memory file size)
 blitStep-gives memory file size (suc number) same = rw (same, ne-eqb (suc number) 0 (λ none. omega (arith, none)))
 
 pub skipped-when-satisfied : (first second beam word : ℕ) (holds : Bool) → holds ≡ satisfied first second beam → holds ≡ true

@@ -97,14 +97,6 @@ areaDone-of-parts file size by memory after changed end same does writes = rw (�
 
 -- a line by its plan
 module _ (file : List ℕ) (size : ℕ) (by : LinePlan) (same : by ≡ linePlan file size) where
-  pub course-shift : by .first .spot .shift < 16
-  unfolding firstDot
-  course-shift = rw same (omega arith)
-
-  pub course-bit : by .first .bit < 16
-  unfolding firstDot
-  course-bit = rw same (omega arith)
-
   pub course-room : by .dots < 4294967295
   course-room = rw same (omega (arith, height-le size))
 

@@ -1,4 +1,5 @@
 -- The laws of the definitions in specs/, a file for each.
 pub mod MoveLaws
+pub mod WalkLaws
 pub mod LineLaws
 pub mod DotsLaws

@@ -1,7 +1,7 @@
 -- Laws of a line: one dot's word, one dot, all dots, and what is left.
 use Rattle.word.proofs.Base.{_≡_, refl, sym, ap, _∙_, ℕ, suc, _+_, _-_, _%_, _/_, _^_, _<_, _≤_, arith, Bool, true, false, _&&_, eqb, eq-eqb, ne-eqb, List, length, getD, set}
 use Rattle.word.specs.Choice.{if_then_else_}
-use Rattle.word.specs.declared.types.Pointer.{Pointer}
+use Rattle.word.specs.Pointer.{pointerEnd}
 use Rattle.word.specs.Repeat.{repeated}
 use Rattle.word.proofs.ChoiceLaws.{if-either}
 use Rattle.word.proofs.RepeatLaws.{repeated-turn, repeated-done}
@@ -15,42 +15,37 @@ use Rattle.line.specs.Texture.{textured}
 use Rattle.line.specs.Word.{dotWord}
 use Rattle.line.specs.Sing.{isStored}
 use Rattle.line.specs.Accumulator.{gained}
-use Rattle.line.specs.Line.{State, state, next, dotStored, advanced, oneDot, lineBlit}
+use Rattle.line.specs.Line.{State, state, next, dotStored, oneDot, begun, lineBlit}
 use Rattle.line.specs.Leave.{leave}
-use Rattle.line.proofs.MoveLaws.{movedSpot-shift-lt}
+use Rattle.line.specs.declared.types.Mark.{Mark}
+use Rattle.line.specs.declared.types.Marked.{Marked}
+use Rattle.line.specs.declared.types.Steps.{Steps}
+use Rattle.line.specs.Inner.Walk.{dotOf, markOf, drawnOf, steps, stepBy, walked}
+use Rattle.line.proofs.WalkLaws.{walked-is-next, dotOf-of-markOf}
 
-pub textured-when-set : (texture bit : ℕ) → texture / 2 ^ bit % 2 ≡ 1 → 0xFFFF ≡ textured texture bit
-textured-when-set texture bit set = rw (eq-eqb (texture / 2 ^ bit % 2) 1 set)
-
-pub textured-when-clear : (texture bit : ℕ) → (texture / 2 ^ bit % 2 ≡ 1 → ⊥) → 0 ≡ textured texture bit
-textured-when-clear texture bit clear = rw (ne-eqb (texture / 2 ^ bit % 2) 1 clear)
-
-pub gained-when-set : (gains : Gains) (sign : Bool) (accumulator : ℕ) → sign ≡ true
-    → (accumulator + gains .b) % 65536 ≡ gained gains sign accumulator
-gained-when-set gains sign accumulator set = rw set
-
-pub gained-when-clear : (gains : Gains) (sign : Bool) (accumulator : ℕ) → sign ≡ false
-    → (accumulator + gains .a) % 65536 ≡ gained gains sign accumulator
-gained-when-clear gains sign accumulator clear = rw clear
-
-module _ (memory : List ℕ) (line : Line) (here : Drawn) (stores : Bool) (of-stores : stores ≡ isStored line (here .dot)) where
-  pub dotStored-when-stored : (c word : ℕ) (after : List ℕ) → stores ≡ true
-      → c ≡ getD memory (here .dot .spot .at .word) 0 → word ≡ dotWord line (here .dot) c
-      → after ≡ set memory (here .dot .spot .at .word) word
-      → state after (record { dot = here .dot; allzero = here .allzero && eqb word 0; stored = here .stored + 1 })
-      ≡ dotStored line (state memory here)
+module _ (memory : List ℕ) (line : Line) (here : Marked) (stores : Bool) (of-stores : stores ≡ isStored line (dotOf (here .mark))) where
+  pub dotStored-when-stored : (place c word : ℕ) (after : List ℕ) → stores ≡ true
+      → place ≡ here .mark .pixel / 16 % pointerEnd
+      → c ≡ getD memory place 0 → word ≡ dotWord line (dotOf (here .mark)) c
+      → after ≡ set memory place word
+      → state after (drawnOf (record { mark = here .mark; allzero = here .allzero && eqb word 0; stored = here .stored + 1 }))
+      ≡ dotStored line (state memory (drawnOf here))
   unfolding dotStored
-  dotStored-when-stored c word after holds fetched made written = rw (← of-stores, holds, written, made, fetched)
+  dotStored-when-stored place c word after holds there fetched made written = rw (← of-stores, holds, written, made, fetched, there)
 
-  pub dotStored-when-not : stores ≡ false → state memory here ≡ dotStored line (state memory here)
+  pub dotStored-when-not : stores ≡ false → state memory (drawnOf here) ≡ dotStored line (state memory (drawnOf here))
   unfolding dotStored
   dotStored-when-not fails = rw (← of-stores, fails)
 
-pub oneDot-of-parts : (memory after : List ℕ) (line : Line) (here between end : Drawn)
-    → state after between ≡ dotStored line (state memory here) → end ≡ advanced line between
-    → state after end ≡ oneDot line (state memory here)
+pub oneDot-of-parts : (memory after : List ℕ) (line : Line) (by : Steps) (here between : Marked) (mark : Mark)
+    → by ≡ steps line
+    → (between .mark ≡ here .mark) × (state after (drawnOf between) ≡ dotStored line (state memory (drawnOf here)))
+    → mark ≡ walked (stepBy by (between .mark .sign)) (between .mark)
+    → state after (drawnOf (record { mark = mark; allzero = between .allzero; stored = between .stored }))
+    ≡ oneDot line (state memory (drawnOf here))
 unfolding oneDot
-oneDot-of-parts memory after line here between end first second = rw (second, ← first)
+oneDot-of-parts memory after line by here between mark paces (same, stores) goes =
+    rw (← stores, goes, paces, walked-is-next line (between .mark))
 
 -- the dot after one dot, stored or not, is the next one
 dotStored-keeps-dot : (line : Line) (now : State) → dotStored line now .drawn .dot ≡ now .drawn .dot
@@ -68,23 +63,12 @@ unfolding oneDot dotStored
 oneDot-counts line now =
     if-either (λ (after : State). after .drawn .stored ≤ now .drawn .stored + 1) (isStored line (now .drawn .dot)) _ now (omega arith) (omega arith)
 
--- what the loop over the dots keeps
-module _ (line : Line) (memory after : List ℕ) (here there : Drawn) (turn : state after there ≡ oneDot line (state memory here)) where
-  dot-there : there .dot ≡ next line (here .dot)
-  dot-there = ap (λ (now : State). now .drawn .dot) turn ∙ oneDot-goes-on line (state memory here)
-
-  pub oneDot-shift-lt : here .dot .spot .shift < 16 → there .dot .spot .shift < 16
-  unfolding next
-  oneDot-shift-lt small = rw dot-there (movedSpot-shift-lt line (here .dot .sign) (here .dot .spot) small)
-
-  pub oneDot-bit-lt : there .dot .bit < 16
-  unfolding next
-  oneDot-bit-lt = rw dot-there (omega arith)
-
-  pub oneDot-room : (remaining dots : ℕ) → 0 < remaining → here .stored + remaining ≤ dots → there .stored + (remaining - 1) ≤ dots
-  oneDot-room remaining dots more room =
-      let count : there .stored ≤ here .stored + 1 = rw (ap (λ (now : State). now .drawn .stored) turn) (oneDot-counts line (state memory here)) in
-      omega arith
+-- what the loop over the dots keeps: room for the count
+pub oneDot-room : (line : Line) (memory after : List ℕ) (here there : Marked) → state after (drawnOf there) ≡ oneDot line (state memory (drawnOf here))
+    → (remaining dots : ℕ) → 0 < remaining → here .stored + remaining ≤ dots → there .stored + (remaining - 1) ≤ dots
+oneDot-room line memory after here there turn remaining dots more room =
+    let count : there .stored ≤ here .stored + 1 = rw (ap (λ (now : State). now .drawn .stored) turn) (oneDot-counts line (state memory (drawnOf here))) in
+    omega arith
 
 pub lineBlit-turn : (line : Line) (dots : ℕ) (memory after : List ℕ) (here there : Drawn) (whole : State)
     → 0 < dots → state after there ≡ oneDot line (state memory here) → lineBlit line dots (state memory here) ≡ whole
@@ -97,6 +81,13 @@ pub lineBlit-done : (line : Line) (dots : ℕ) (memory : List ℕ) (here : Drawn
     → dots ≤ 0 → lineBlit line dots (state memory here) ≡ whole → state memory here ≡ whole
 unfolding lineBlit
 lineBlit-done line dots memory here whole none same = repeated-done (λ _. oneDot line) dots (state memory here) whole none same
+
+pub lineBlit-of-marks : (line : Line) (dots : ℕ) (first dot : Dot) (mark : Mark) (end : Marked) (memory after : List ℕ)
+    → first .spot .at .word < pointerEnd → first .spot .shift < 16 → first .bit < 16
+    → mark ≡ markOf first → state after (drawnOf end) ≡ lineBlit line dots (state memory (begun (dotOf mark))) → dot ≡ dotOf (end .mark)
+    → state after (record { dot = dot; allzero = end .allzero; stored = end .stored }) ≡ lineBlit line dots (state memory (begun first))
+lineBlit-of-marks line dots first dot mark end memory after word shift bit marks does is =
+    rw is (rw (marks, dotOf-of-markOf first word shift bit) at does)
 
 pub leave-of-parts : (end : Drawn) (file one two three four : List ℕ)
     → one ≡ set file (pointerA + 1) (end .dot .accumulator)

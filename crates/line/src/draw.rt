@@ -1,22 +1,29 @@
 // All dots of a line, each stored before the next is fetched.
 ghost use mathlib.Core.Path.{_≡_};
-ghost use Prim.Native.Nat.{_<_};
-ghost use Rattle.line.specs.Line.{state, dotStored, advanced, oneDot, begun, lineBlit};
+ghost use Prim.Native.Nat.{_+_, _<_};
+ghost use Rattle.word.specs.Pointer.{pointerEnd};
+ghost use Rattle.line.specs.Line.{state, dotStored, oneDot, begun, lineBlit};
+ghost use Rattle.line.specs.Inner.Walk.{dotOf, drawnOf, steps};
 use crate::types::Dot;
 use crate::types::Drawn;
 use crate::types::Line;
+use crate::types::Mark;
+use crate::types::Marked;
+use crate::types::Steps;
 
-fn dot_stored(ram: &mut [u16], line: Line, here: Drawn) -> Drawn
-    requires { ⌜ (here .dot .spot .shift < 16) × (here .dot .bit < 16) × (here .stored < 4294967295) ⌝ }
-    ensures { λ after. ⌜ state (now (ram .exit)) after ≡ dotStored line (state (now (ram .entry)) here) ⌝ }
+// The dot stored, if it is.
+fn dot_stored(ram: &mut [u16], line: Line, here: Marked) -> Marked
+    requires { ⌜ here .stored < 4294967295 ⌝ }
+    ensures { λ after. ⌜ (after .mark ≡ here .mark)
+        × (state (now (ram .exit)) (drawnOf after) ≡ dotStored line (state (now (ram .entry)) (drawnOf here))) ⌝ }
 {
-    let dot = here.dot;
-    if crate::word_of_dot::is_stored(line, dot) {
-        let place = dot.spot.at.word;
-        let word = crate::word_of_dot::dot_word(line, dot, word::memory::read(ram, place));
+    let mark = here.mark;
+    if crate::word_of_dot::is_stored(line, mark) {
+        let place = crate::walk::word_of(mark);
+        let word = crate::word_of_dot::dot_word(line, mark, word::memory::read(ram, place));
         word::memory::write(ram, place, word);
-        return Drawn {
-            dot,
+        return Marked {
+            mark,
             allzero: here.allzero & (word == 0),
             stored: here.stored + 1,
         };
@@ -24,40 +31,53 @@ fn dot_stored(ram: &mut [u16], line: Line, here: Drawn) -> Drawn
     here
 }
 
-fn advanced(line: Line, drawn: Drawn) -> Drawn
-    ensures { λ after. ⌜ after ≡ advanced line drawn ⌝ }
+fn one_dot(ram: &mut [u16], line: Line, by: Steps, here: Marked) -> Marked
+    requires { ⌜ (by ≡ steps line) × (here .stored < 4294967295) ⌝ }
+    ensures { λ after. ⌜ state (now (ram .exit)) (drawnOf after) ≡ oneDot line (state (now (ram .entry)) (drawnOf here)) ⌝ }
 {
-    let from = drawn.dot;
-    let dot = crate::moves::next(line, from);
-    Drawn {
-        dot,
+    let drawn = dot_stored(ram, line, here);
+    let from = drawn.mark;
+    let mark = crate::walk::walked(by, from);
+    Marked {
+        mark,
         allzero: drawn.allzero,
         stored: drawn.stored,
     }
 }
 
-fn one_dot(ram: &mut [u16], line: Line, here: Drawn) -> Drawn
-    requires { ⌜ (here .dot .spot .shift < 16) × (here .dot .bit < 16) × (here .stored < 4294967295) ⌝ }
-    ensures { λ after. ⌜ state (now (ram .exit)) after ≡ oneDot line (state (now (ram .entry)) here) ⌝ }
+// All dots, from a mark on.
+fn all_dots(ram: &mut [u16], line: Line, by: Steps, dots: u32, first: Mark) -> Marked
+    requires { ⌜ (by ≡ steps line) × (dots < 4294967295) ⌝ }
+    ensures { λ end. ⌜
+        state (now (ram .exit)) (drawnOf end)
+        ≡ lineBlit line dots (state (now (ram .entry)) (begun (dotOf first))) ⌝ }
 {
-    let drawn = dot_stored(ram, line, here);
-    advanced(line, drawn)
-}
-
-// All dots from the first on.
-pub fn line_blit(ram: &mut [u16], line: Line, dots: u32, first: Dot) -> Drawn
-    requires { ⌜ (first .spot .shift < 16) × (first .bit < 16) × (dots < 4294967295) ⌝ }
-    ensures { λ end. ⌜ state (now (ram .exit)) end ≡ lineBlit line dots (state (now (ram .entry)) (begun first)) ⌝ }
-{
-    let mut here = Drawn {
-        dot: first,
+    let mut so_far = Marked {
+        mark: first,
         allzero: true,
         stored: 0,
     };
     let mut remaining = dots;
     while 0 < remaining {
-        here = one_dot(ram, line, here);
+        so_far = one_dot(ram, line, by, so_far);
         remaining = remaining - 1;
     }
-    here
+    so_far
+}
+
+// All dots from the first on.
+pub fn line_blit(ram: &mut [u16], line: Line, dots: u32, first: Dot) -> Drawn
+    requires { ⌜ (first .spot .at .word < pointerEnd) × (first .spot .shift < 16) × (first .bit < 16) × (dots < 4294967295) ⌝ }
+    ensures { λ end. ⌜ state (now (ram .exit)) end ≡ lineBlit line dots (state (now (ram .entry)) (begun first)) ⌝ }
+{
+    let mark = crate::walk::mark_of(first);
+    let by = crate::walk::steps(line);
+    let end = all_dots(ram, line, by, dots, mark);
+    let last = end.mark;
+    let dot = crate::walk::dot_of(last);
+    Drawn {
+        dot,
+        allzero: end.allzero,
+        stored: end.stored,
+    }
 }

@@ -1,9 +1,8 @@
-// A line: its set-up, what changes from dot to dot, one dot's word and moves, all dots, and what is left in the register
-// file.
+// A line: its set-up, the way from dot to dot, one dot's word, all dots, and what is left in the register file.
 pub mod draw;
 pub mod leave;
-pub mod moves;
 pub mod setup;
 pub mod theorems;
 pub mod types;
-pub mod word_of_dot;
+pub mod walk;
+mod word_of_dot;

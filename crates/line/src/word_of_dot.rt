@@ -1,21 +1,12 @@
 // The word of one dot: A and the texture with what memory holds, and whether it is stored.
 ghost use mathlib.Core.Path.{_≡_};
 ghost use Prim.Native.Nat.{_/_, _^_, _<_};
-ghost use Rattle.line.specs.Texture.{textured};
+ghost use Rattle.word.specs.Word.{isSet};
 ghost use Rattle.line.specs.Word.{dotWord};
 ghost use Rattle.line.specs.Sing.{isStored};
-use crate::types::Dot;
+ghost use Rattle.line.specs.Inner.Walk.{dotOf};
 use crate::types::Line;
-
-fn textured(texture: u16, bit: u32) -> u16
-    requires { ⌜ bit < 16 ⌝ }
-    ensures { λ b. ⌜ b ≡ textured texture bit ⌝ }
-{
-    if (texture >> bit) % 2 == 1 {
-        return 0xFFFF;
-    }
-    0
-}
+use crate::types::Mark;
 
 fn shifted(a: u16, n: u32) -> u16
     requires { ⌜ n < 16 ⌝ }
@@ -24,17 +15,27 @@ fn shifted(a: u16, n: u32) -> u16
     a >> n
 }
 
-pub fn dot_word(line: Line, dot: Dot, c: u16) -> u16
-    requires { ⌜ (dot .spot .shift < 16) × (dot .bit < 16) ⌝ }
-    ensures { λ word. ⌜ word ≡ dotWord line dot c ⌝ }
+fn is_set(texture: u16, bit: u32) -> bool
+    requires { ⌜ bit < 16 ⌝ }
+    ensures { λ set. ⌜ set ≡ isSet texture bit ⌝ }
 {
-    let a = shifted(line.a, dot.spot.shift);
-    let b = textured(line.texture, dot.bit);
-    word::logic::logic(line.function, a, b, c)
+    (texture >> bit) % 2 == 1
 }
 
-pub fn is_stored(line: Line, dot: Dot) -> bool
-    ensures { λ told. ⌜ told ≡ isStored line dot ⌝ }
+// The logic function is taken with B all ones or with B zero, and so comes to half of its bits.
+pub fn dot_word(line: Line, mark: Mark, c: u16) -> u16
+    ensures { λ word. ⌜ word ≡ dotWord line (dotOf mark) c ⌝ }
 {
-    !line.sing | dot.first
+    let shift = crate::walk::shift_of(mark);
+    let a = shifted(line.a, shift);
+    if is_set(line.texture, mark.bit % 16) {
+        return word::logic::logic(line.function, a, 0xFFFF, c);
+    }
+    word::logic::logic(line.function, a, 0, c)
+}
+
+pub fn is_stored(line: Line, mark: Mark) -> bool
+    ensures { λ told. ⌜ told ≡ isStored line (dotOf mark) ⌝ }
+{
+    !line.sing | mark.first
 }

@@ -151,6 +151,14 @@ pub first-lt : (file : List ℕ) (size : ℕ) (by : LinePlan) → by ≡ linePla
 unfolding firstDot
 first-lt file size by same = rw same (pointerAt-lt file pointerC)
 
+pub first-shift-lt : (file : List ℕ) (size : ℕ) (by : LinePlan) → by ≡ linePlan file size → by .first .spot .shift < 16
+unfolding firstDot
+first-shift-lt file size by same = rw same (omega arith)
+
+pub first-bit-lt : (file : List ℕ) (size : ℕ) (by : LinePlan) → by ≡ linePlan file size → by .first .bit < 16
+unfolding firstDot
+first-bit-lt file size by same = rw same (omega arith)
+
 pub handed-of-line : (file : List ℕ) (size : ℕ) (by : LinePlan) → by ≡ linePlan file size
     → handed (verdicts.Lawful (plans.Line by)) (plans.Line (linePlan file size)) ≡ plans.Line (linePlan file size)
 handed-of-line file size by same = rw same

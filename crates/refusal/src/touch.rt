@@ -2,9 +2,11 @@
 ghost use mathlib.Core.Path.{_≡_};
 ghost use Prim.Native.Nat.{_<_, _≤_};
 ghost use Rattle.word.specs.Pointer.{pointerEnd};
+ghost use Rattle.line.specs.Inner.Walk.{dotOf};
 ghost use Rattle.refusal.specs.Touch.{rowTouches, touches, lineTouches, leaves, channelLeaves};
 use line::types::Dot;
 use line::types::Line;
+use line::types::Mark;
 use word::pointer::POINTER_END;
 use word::types::Direction;
 use word::types::Pointer;
@@ -70,16 +72,17 @@ pub fn channel_leaves(
     false
 }
 
-fn dots_leave(n: u32, line: Line, dots: u32, first: Dot) -> bool
-    ensures { λ outside. ⌜ outside ≡ leaves n (lineTouches line dots first) ⌝ }
+fn dots_leave(n: u32, line: Line, dots: u32, first: Mark) -> bool
+    ensures { λ outside. ⌜ outside ≡ leaves n (lineTouches line dots (dotOf first)) ⌝ }
 {
-    let mut dot = first;
+    let by = line::walk::steps(line);
+    let mut mark = first;
     let mut remaining = dots;
     while 0 < remaining {
-        if n <= dot.spot.at.word {
+        if n <= line::walk::word_of(mark) {
             return true;
         }
-        dot = line::moves::next(line, dot);
+        mark = line::walk::walked(by, mark);
         remaining = remaining - 1;
     }
     false
@@ -87,11 +90,12 @@ fn dots_leave(n: u32, line: Line, dots: u32, first: Dot) -> bool
 
 // Memory as long as a pointer reaches is left by no dot.
 pub fn line_leaves(n: usize, line: Line, dots: u32, first: Dot) -> bool
-    requires { ⌜ first .spot .at .word < pointerEnd ⌝ }
+    requires { ⌜ (first .spot .at .word < pointerEnd) × (first .spot .shift < 16) × (first .bit < 16) ⌝ }
     ensures { λ outside. ⌜ outside ≡ leaves n (lineTouches line dots first) ⌝ }
 {
     if (POINTER_END as usize) <= n {
         return false;
     }
-    dots_leave(n as u32, line, dots, first)
+    let mark = line::walk::mark_of(first);
+    dots_leave(n as u32, line, dots, mark)
 }

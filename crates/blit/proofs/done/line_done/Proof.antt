@@ -1,11 +1,12 @@
 -- `blit::done::line_done` meets its contract: what all dots leave is written back.
-use Rattle.blit.proofs.BlitLaws.{course-shift, course-bit, course-room, lineDone-of-parts}
+use Rattle.refusal.proofs.RefusalLaws.{first-lt, first-shift-lt, first-bit-lt}
+use Rattle.blit.proofs.BlitLaws.{course-room, lineDone-of-parts}
 use Rattle.word.proofs.Base.{needs}
 use Rattle.blit.proofs.done.line_done.Statement.{statement}
 use Rattle.blit.proofs.done.line_done.Tie as tie
 
 line-blit-requires : tie.Need-line-blit-requires
-line-blit-requires c κs = (search course-shift, search course-bit, search course-room)
+line-blit-requires c κs = (search first-lt, search first-shift-lt, search first-bit-lt, search course-room)
 
 returns : tie.Need-returns
 returns c = search lineDone-of-parts

@@ -1,4 +1,4 @@
--- `line::draw::one_dot` meets its contract: the dot, and what follows it.
+-- `line::draw::one_dot` meets its contract: the dot, and the mark after it.
 use Rattle.line.proofs.LineLaws.{oneDot-of-parts}
 use Rattle.word.proofs.Base.{needs}
 use Rattle.line.proofs.draw.one_dot.Statement.{statement}

@@ -1,5 +1,5 @@
 -- `refusal::line_rules::line_refusal` meets its contract: each test is a rule of the list, in the list's order.
-use Rattle.refusal.proofs.RefusalLaws.{line-by-form, line-by-pointers, line-by-leaving, line-by-none, first-lt, handed-of-line}
+use Rattle.refusal.proofs.RefusalLaws.{line-by-form, line-by-pointers, line-by-leaving, line-by-none, first-lt, first-shift-lt, first-bit-lt, handed-of-line}
 use Rattle.word.proofs.Base.{refl, needs}
 use Rattle.refusal.proofs.line_rules.line_refusal.Statement.{statement}
 use Rattle.refusal.proofs.line_rules.line_refusal.Tie as tie
@@ -11,7 +11,7 @@ returns-2 : tie.Need-returns-2
 returns-2 c = (search line-by-pointers, refl)
 
 line-leaves-requires : tie.Need-line-leaves-requires
-line-leaves-requires c κs = search first-lt
+line-leaves-requires c κs = (search first-lt, search first-shift-lt, search first-bit-lt)
 
 returns-3 : tie.Need-returns-3
 returns-3 c = (search line-by-leaving, refl)

@@ -35,7 +35,7 @@ use Rattle.line.specs.Line.{begun, lineBlit}
 use Rattle.line.specs.Leave.{leave}
 use Rattle.line.proofs.DotsLaws.{lineBlit-keeps-length, lineBlit-counts}
 use Rattle.refusal.specs.Plan.{areaPlan, linePlan, plan}
-use Rattle.refusal.proofs.PlanLaws.{lineOrArea-cases, area-bit, line-bit}
+use Rattle.refusal.proofs.PlanLaws.{lineOrArea-cases, area-bit, area-of-plan, line-bit, line-of-plan}
 use Rattle.refusal.specs.Refusal.{stepRefusal, refusal, verdictNumber, handed}
 use Rattle.refusal.proofs.RefusalLaws.{plan-lt-a, plan-lt-b, plan-lt-c, plan-lt-d, refusal-is-some}
 use Rattle.file.specs.Pointers.{putFlag}
@@ -107,16 +107,6 @@ module _ (file : List ℕ) (size : ℕ) (by : LinePlan) (same : by ≡ linePlan 
   unfolding lineDone drawn
   lineDone-of-parts memory after changed end does leaves = rw (leaves, ← (rw same at does))
 
--- a blit is a line or an area blit, as its plan says
-module _ (memory file : List ℕ) (size : ℕ) (by : Plan) (same : by ≡ plan file size) (outcome : Outcome) where
-  pub done-of-area : (area : AreaPlan) → by ≡ plans.Area area → outcome ≡ areaDone file (finished memory file size) → outcome ≡ done memory file size
-  unfolding done
-  done-of-area area is does = rw (area-bit file size by same area is) does
-
-  pub done-of-line : (course : LinePlan) → by ≡ plans.Line course → outcome ≡ lineDone file (drawn memory file size) → outcome ≡ done memory file size
-  unfolding done
-  done-of-line course is does = rw (line-bit file size by same course is) does
-
 -- a blit that is done has the number 0
 pub done-number : (memory file : List ℕ) (size : ℕ) → done memory file size .number ≡ 0
 unfolding done areaDone lineDone
@@ -124,15 +114,28 @@ done-number memory file size =
     lineOrArea-cases (λ (outcome : Outcome). outcome .number ≡ 0) file (lineDone file (drawn memory file size))
     (areaDone file (finished memory file size)) (λ _. refl) (λ _. refl)
 
-pub answered-when-done : (memory file after changed : List ℕ) (size stored : ℕ) (verdict : Verdict) (by : Plan)
-    → verdict ≡ verdicts.Lawful by → left (Done stored) after changed ≡ done memory file size
-    → left (Done stored) after changed ≡ answered (verdictNumber verdict) memory file size
-unfolding answered
-answered-when-done memory file after changed size stored verdict by lawful does = rw lawful does
+-- a lawful blit is a line or an area blit, as the plan says that its verdict hands on
+module _ (file : List ℕ) (size : ℕ) (verdict : Verdict) (by : Plan) (lawful : verdict ≡ verdicts.Lawful by)
+    (hands : handed verdict (plan file size) ≡ plan file size) where
+  plan-of-verdict : by ≡ plan file size
+  plan-of-verdict = rw lawful at hands
 
-pub plan-of-verdict : (file : List ℕ) (size : ℕ) (verdict : Verdict) (by : Plan) → verdict ≡ verdicts.Lawful by
-    → handed verdict (plan file size) ≡ plan file size → by ≡ plan file size
-plan-of-verdict file size verdict by lawful hands = rw lawful at hands
+  pub area-of-verdict : (area : AreaPlan) → by ≡ plans.Area area → area ≡ areaPlan file size
+  area-of-verdict area is = area-of-plan file size by plan-of-verdict area is
+
+  pub line-of-verdict : (course : LinePlan) → by ≡ plans.Line course → course ≡ linePlan file size
+  line-of-verdict course is = line-of-plan file size by plan-of-verdict course is
+
+  module _ (memory : List ℕ) (outcome : Outcome) where
+    pub answered-of-area : (area : AreaPlan) → by ≡ plans.Area area → outcome ≡ areaDone file (finished memory file size)
+        → outcome ≡ answered (verdictNumber verdict) memory file size
+    unfolding answered done
+    answered-of-area area is does = rw (lawful, area-bit file size by plan-of-verdict area is) does
+
+    pub answered-of-line : (course : LinePlan) → by ≡ plans.Line course → outcome ≡ lineDone file (drawn memory file size)
+        → outcome ≡ answered (verdictNumber verdict) memory file size
+    unfolding answered done
+    answered-of-line course is does = rw (lawful, line-bit file size by plan-of-verdict course is) does
 
 pub answered-when-refused : (memory file : List ℕ) (size : ℕ) (why : Refusal) (verdict : Verdict)
     → verdict ≡ verdicts.Refused why → left (Refused why) memory file ≡ answered (verdictNumber verdict) memory file size

@@ -8,6 +8,8 @@ pub mod types;
 ghost use mathlib.Core.Path.{_≡_};
 ghost use Rattle.blit.specs.Blit.{blitStep, blit, left};
 use crate::types::Answer;
+use refusal::types::Plan;
+use refusal::types::Verdict;
 
 // Does a blit. A refused one changes nothing.
 pub fn blit(ram: &mut [u16], file: &mut [u16], size: u16) -> Answer
@@ -15,8 +17,13 @@ pub fn blit(ram: &mut [u16], file: &mut [u16], size: u16) -> Answer
         left answer (now (ram .exit)) (now (file .exit))
         ≡ blit (now (ram .entry)) (now (file .entry)) size ⌝ }
 {
-    let verdict = refusal::refusal(ram.len(), file, size);
-    crate::done::answered(ram, file, size, verdict)
+    match refusal::refusal(ram.len(), file, size) {
+        Verdict::Refused(why) => Answer::Refused(why),
+        Verdict::Lawful(by) => match by {
+            Plan::Area(area) => crate::done::area_done(ram, file, size, area),
+            Plan::Line(line) => crate::done::line_done(ram, file, size, line),
+        },
+    }
 }
 
 // Does the blit of a job's step, whose memory and file have been taken. A refused one changes nothing.
@@ -25,6 +32,11 @@ pub fn blit_step(ram: &mut [u16], file: &mut [u16], size: u16) -> Answer
         left answer (now (ram .exit)) (now (file .exit))
         ≡ blitStep (now (ram .entry)) (now (file .entry)) size ⌝ }
 {
-    let verdict = refusal::step_refusal(ram.len(), file, size);
-    crate::done::answered(ram, file, size, verdict)
+    match refusal::step_refusal(ram.len(), file, size) {
+        Verdict::Refused(why) => Answer::Refused(why),
+        Verdict::Lawful(by) => match by {
+            Plan::Area(area) => crate::done::area_done(ram, file, size, area),
+            Plan::Line(line) => crate::done::line_done(ram, file, size, line),
+        },
+    }
 }

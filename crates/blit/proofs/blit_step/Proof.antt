@@ -1,12 +1,26 @@
--- `blit::blit_step` meets its contract: it is answered as its refusal says.
-use Rattle.blit.proofs.BlitLaws.{blitStep-of-answer}
+-- `blit::blit_step` meets its contract: refused, or done as the plan says.
+use Rattle.blit.proofs.BlitLaws.{area-of-verdict, line-of-verdict, answered-of-area, answered-of-line, answered-when-refused, blitStep-of-answer}
 use Rattle.word.proofs.Base.{needs}
 use Rattle.blit.proofs.blit_step.Statement.{statement}
 use Rattle.blit.proofs.blit_step.Tie as tie
 
+area-done-requires : tie.Need-area-done-requires
+area-done-requires c κs = search area-of-verdict
+
+line-done-requires : tie.Need-line-done-requires
+line-done-requires c κs = search line-of-verdict
+
 returns : tie.Need-returns
-returns c = search blitStep-of-answer
+returns c = search (blitStep-of-answer, answered-when-refused)
+
+returns-2 : tie.Need-returns-2
+returns-2 c = search (blitStep-of-answer, answered-of-area)
+
+returns-3 : tie.Need-returns-3
+returns-3 c = search (blitStep-of-answer, answered-of-line)
 
 pub blit-step-spec : {M : Type 1} → statement M
 blit-step-spec =
-    tie.close (tie.spec (λ c κs. search needs) (λ c κs. search needs) (λ c. search needs) (λ c. search needs) returns)
+    tie.close (tie.spec (λ c κs. search needs) (λ c. search needs) (λ c. search needs) (λ c. search needs)
+    area-done-requires (λ c. search needs) line-done-requires (λ c. search needs) returns (λ c. search needs)
+    (λ c. search needs) returns-2 (λ c. search needs) (λ c. search needs) returns-3)

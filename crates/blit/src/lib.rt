@@ -33,7 +33,7 @@ pub fn blit_step(ram: &mut [u16], file: &mut [u16], size: u16) -> Answer
         ≡ blitStep (now (ram .entry)) (now (file .entry)) size ⌝ }
 {
     match refusal::step_refusal(ram.len(), file, size) {
-        Verdict::Refused(why) => Answer::Refused(why),
+        Verdict::Refused(reason) => Answer::Refused(reason),
         Verdict::Lawful(by) => match by {
             Plan::Area(area) => crate::done::area_done(ram, file, size, area),
             Plan::Line(line) => crate::done::line_done(ram, file, size, line),

@@ -119,12 +119,44 @@ fn job_lengths() {
     );
 }
 
-// Numbers 4 to 10 and 17, each after steps that are done.
+// Numbers 4 to 10 and 16 to 19, each after steps that are done.
 fn refused_steps() {
     on_zeros(b"begins no step", &[0xC001, 0x0041, 0x0000]);
     on_zeros(b"cut off, and odd", &[0xC001, 0x8000, 0x0001]);
     on_zeros(b"odd, and at N", &[0xC001, 0x8000, 0x0021, 0x0000]);
     on_zeros(b"line, both fills", &[0x0042, 0x0019, 0x0058, 0x0041]);
+    on_zeros(
+        b"line, D apart",
+        &[
+            0x0040,
+            0x0BCA,
+            0x0042,
+            0x0001,
+            0x0056,
+            0x0002,
+            0x0058,
+            0x0042,
+        ],
+    );
+    on_zeros(
+        b"line at N",
+        &[
+            0x0040,
+            0x0BCA,
+            0x0042,
+            0x0001,
+            0x004A,
+            0x0020,
+            0x0056,
+            0x0020,
+            0x0058,
+            0x0042,
+        ],
+    );
+    on_zeros(
+        b"line of 1024 dots",
+        &[0x0040, 0x0BCA, 0x0042, 0x0001, 0x0058, 0x0002],
+    );
     on_zeros(b"both fills", &[0x0042, 0x0018, 0x0058, 0x0041]);
     on_zeros(b"fill upward", &[0x0042, 0x0008, 0x0058, 0x0041]);
     on_zeros(

@@ -6,7 +6,7 @@ use Rattle.line.proofs.setup.first_dot.Tie as tie
 
 returns : tie.Need-returns
 unfolding firstDot
-returns c = 
+returns c =
     rw (
       c .read3 .ensures,
       c .before .shift2 .ensures,

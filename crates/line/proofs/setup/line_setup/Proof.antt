@@ -6,7 +6,7 @@ use Rattle.line.proofs.setup.line_setup.Tie as tie
 
 returns : tie.Need-returns
 unfolding lineSetup
-returns c = 
+returns c =
     rw (
       c .gains .ensures,
       c .before .half .ensures,

@@ -2,7 +2,7 @@
 # make test   everything from nothing: the proofs, the wrong programs that must be refused, the programs run and compared,
 #             then the C tests; the last line is 'N passed, 0 failed', and the exit status says the same
 # make desk   the archive for C, target/staticlib/libdesk.a, and the desk tool over it, target/c/desk
-# make bench  the instructions that a word, a frame and a pixel cost, counted: the tables of docs/BENCH.md
+# make bench  the instructions that a word, a dot, a frame and a pixel cost, counted: the tables of docs/BENCH.md
 # make figure the cookie cut of the manual's Figure 6-4, memory before and after
 # What is proved is proved again only where something changed, but for make test.
 .PHONY: run test desk bench figure

@@ -263,7 +263,11 @@ static unsigned long steps_beside(const struct listing *original, const struct l
     return (unsigned long)size_height(step.value) * size_width(step.value) + 3;
 }
 
-static int longest_line(const uint16_t *job, size_t words)
+/* The width of the original's column: its longest line's, but at most this many signs. What is longer, as a line's size,
+ * moves what stands beside it to the right. */
+enum { BESIDE_WIDTH = 80 };
+
+static int beside_width(const uint16_t *job, size_t words)
 {
     struct listing listing = listing_of(job, words);
     char line[LINE_ROOM];
@@ -272,14 +276,14 @@ static int longest_line(const uint16_t *job, size_t words)
     while (listing_next(&listing, line))
         if (strlen(line) > longest)
             longest = strlen(line);
-    return (int)longest;
+    return longest < BESIDE_WIDTH ? (int)longest : BESIDE_WIDTH;
 }
 
 void print_beside(const uint16_t *job, size_t words, const uint16_t *folded, size_t length)
 {
     struct listing left = listing_of(job, words), right = listing_of(folded, length);
     char left_line[LINE_ROOM], right_line[LINE_ROOM];
-    int width = longest_line(job, words);
+    int width = beside_width(job, words);
 
     while (left.place < left.words && right.place < right.words) {
         unsigned long steps = steps_beside(&left, &right);

@@ -155,7 +155,16 @@ fn refused_steps() {
     );
     on_zeros(
         b"line of 1024 dots",
-        &[0x0040, 0x0BCA, 0x0042, 0x0001, 0x0058, 0x0002],
+        &[
+            0x0040,
+            0x0BCA,
+            0x0042,
+            0x0041,
+            0x0052,
+            0x8000,
+            0x0058,
+            0x0002,
+        ],
     );
     on_zeros(b"both fills", &[0x0042, 0x0018, 0x0058, 0x0041]);
     on_zeros(b"fill upward", &[0x0042, 0x0008, 0x0058, 0x0041]);

@@ -1,6 +1,6 @@
 -- A line changes only words where a dot stands, stores a word a row, or with SING at most that, and leaves all registers
 -- but those that it names.
-use Rattle.word.proofs.Base.{_≡_, refl, subst, ℕ, _+_, _≤_, zero-add, arith, Bool, true, false, List, length, getD}
+use Rattle.word.proofs.Base.{_≡_, refl, subst, ℕ, _≤_, zero-add, arith, Bool, true, false, List, length, getD}
 use Rattle.word.specs.Size.{height}
 use Rattle.word.specs.Control.{line}
 use Rattle.word.proofs.SizeLaws.{height-positive}

@@ -3,7 +3,6 @@
 use Rattle.word.proofs.Base.{_≡_, refl, _∙_, ℕ, _+_, _<_, arith, Bool, true, false, List, length, getD, set}
 use lib.Dec.{lit<}
 use Rattle.word.specs.declared.types.Pointer.{Pointer}
-use Rattle.word.specs.Choice.{if_then_else_}
 use Rattle.word.specs.Pointer.{high, low}
 use Rattle.word.specs.Size.{height, width}
 use Rattle.word.specs.Word.{SixteenBits}

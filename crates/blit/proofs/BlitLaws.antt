@@ -1,5 +1,5 @@
 -- Laws of the blit: what it writes back, and how it is put together from its parts.
-use Rattle.word.proofs.Base.{_≡_, refl, ap, ℕ, _+_, _*_, _<_, _≤_, arith, Bool, true, false, eqb, eqb-true, List, length, set}
+use Rattle.word.proofs.Base.{_≡_, refl, ap, ℕ, _+_, _*_, _<_, _≤_, arith, Bool, true, false, eqb, eqb-true, List, length}
 use Rattle.word.proofs.Base.{length-set}
 use native.Mathlib.Nat.{mul-one, mul-zero}
 use Rattle.word.specs.declared.types.Pointer.{Pointer}
@@ -8,7 +8,6 @@ use Rattle.word.specs.Pointer.{pointerEnd}
 use Rattle.word.specs.Size.{height, width}
 use Rattle.word.specs.Choice.{if_then_else_}
 use Rattle.word.proofs.SizeLaws.{height-le, words-le}
-use Rattle.area.specs.declared.types.Pointers.{Pointers}
 use Rattle.area.specs.declared.types.Flow.{Flow}
 use Rattle.refusal.specs.declared.types.Refusal.{Refusal}
 use Rattle.refusal.specs.declared.types.AreaPlan.{AreaPlan}

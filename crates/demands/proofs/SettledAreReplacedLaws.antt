@@ -1,5 +1,5 @@
 -- The steps of a folded job: a settled blit's words are whole steps, and any other step is its own.
-use Rattle.word.proofs.Base.{_≡_, refl, sym, ap, subst, _∙_, ℕ, zero, suc, _+_, _<_, arith, Bool, true, false, List, []}
+use Rattle.word.proofs.Base.{_≡_, refl, sym, ap, subst, _∙_, ℕ, _+_, _<_, arith, Bool, true, false, List, []}
 use Rattle.word.proofs.Base.{_∷_, _++_, length}
 use Rattle.word.specs.declared.types.Pointer.{Pointer}
 use Rattle.word.specs.Choice.{if_then_else_}

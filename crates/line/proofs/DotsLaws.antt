@@ -1,5 +1,5 @@
 -- What all dots of a line keep, and how many they store.
-use Rattle.word.proofs.Base.{_≡_, refl, sym, ap, _∙_, ℕ, zero, suc, _+_, _%_, _<_, _≤_, add-zero, add-suc, arith, Bool, true, false, not, _||_, eqb, List, length, getD, set, length-set}
+use Rattle.word.proofs.Base.{_≡_, refl, ℕ, zero, suc, _+_, _%_, _<_, _≤_, arith, Bool, true, false, not, _||_, List, length, set, length-set}
 use Rattle.word.specs.Choice.{if_then_else_}
 use Rattle.word.specs.Word.{SixteenBits}
 use Rattle.word.specs.Repeat.{repeated}

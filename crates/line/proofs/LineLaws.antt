@@ -1,25 +1,21 @@
 -- Laws of a line: one dot's word, one dot, all dots, and what is left.
-use Rattle.word.proofs.Base.{_≡_, refl, sym, ap, _∙_, ℕ, suc, _+_, _-_, _%_, _/_, _^_, _<_, _≤_, arith, Bool, true, false, _&&_, eqb, eq-eqb, ne-eqb, List, length, getD, set}
+use Rattle.word.proofs.Base.{_≡_, refl, ap, ℕ, _+_, _-_, _%_, _/_, _<_, _≤_, arith, Bool, true, false, _&&_, eqb, List, getD, set}
 use Rattle.word.specs.Choice.{if_then_else_}
 use Rattle.word.specs.Pointer.{pointerEnd}
-use Rattle.word.specs.Repeat.{repeated}
 use Rattle.word.proofs.ChoiceLaws.{if-either}
 use Rattle.word.proofs.RepeatLaws.{repeated-turn, repeated-done}
 use Rattle.file.specs.Places.{pointerA, pointerC, pointerD}
 use Rattle.file.specs.Pointers.{withPointer, putFlag}
-use Rattle.line.specs.declared.types.Gains.{Gains}
 use Rattle.line.specs.declared.types.Line.{Line}
 use Rattle.line.specs.declared.types.Dot.{Dot}
 use Rattle.line.specs.declared.types.Drawn.{Drawn}
-use Rattle.line.specs.Texture.{textured}
 use Rattle.line.specs.Word.{dotWord}
 use Rattle.line.specs.Sing.{isStored}
-use Rattle.line.specs.Accumulator.{gained}
 use Rattle.line.specs.Line.{State, state, next, dotStored, oneDot, begun, lineBlit}
 use Rattle.line.specs.Leave.{leave}
-use Rattle.line.specs.declared.types.Mark.{Mark}
-use Rattle.line.specs.declared.types.Marked.{Marked}
-use Rattle.line.specs.declared.types.Steps.{Steps}
+use Rattle.line.specs.declared.marks.Mark.{Mark}
+use Rattle.line.specs.declared.marks.Marked.{Marked}
+use Rattle.line.specs.declared.marks.Steps.{Steps}
 use Rattle.line.specs.Inner.Walk.{dotOf, markOf, drawnOf, steps, stepBy, walked}
 use Rattle.line.proofs.WalkLaws.{walked-is-next, dotOf-of-markOf}
 

@@ -1,23 +1,22 @@
 -- Laws of a dot's place as one number: a move is a sum, and the mark after a mark is the mark of the dot after its dot.
-use Rattle.word.proofs.Base.{_≡_, refl, sym, ap, ap₂, _∙_, ℕ, _+_, _-_, _*_, _/_, _%_, _^_, _<_, _≤_, mod-eq-of-lt, decLt, arith, Bool, true, false, not, _||_, eqb, eqb-true, eqb-false}
+use Rattle.word.proofs.Base.{_≡_, refl, sym, ap, _∙_, ℕ, _+_, _-_, _*_, _/_, _%_, _^_, _<_, mod-eq-of-lt, arith, Bool, true, false, not, _||_, eqb, eqb-true, eqb-false}
 use native.Mathlib.Nat.{add-assoc}
-use Rattle.word.specs.declared.types.Pointer.{Pointer}
 use Rattle.word.specs.Choice.{if_then_else_}
 use Rattle.word.specs.Word.{isSet}
 use Rattle.word.specs.Logic.{logic}
-use Rattle.word.specs.Pointer.{pointerEnd, up, down, plus, minus}
+use Rattle.word.specs.Pointer.{pointerEnd, up, down}
 use Rattle.line.specs.declared.types.Line.{Line}
 use Rattle.line.specs.declared.types.Spot.{Spot}
 use Rattle.line.specs.declared.types.Dot.{Dot}
-use Rattle.line.specs.declared.types.Step.{Step}
-use Rattle.line.specs.declared.types.Steps.{Steps}
-use Rattle.line.specs.declared.types.Mark.{Mark}
+use Rattle.line.specs.declared.marks.Step.{Step}
+use Rattle.line.specs.declared.marks.Steps.{Steps}
+use Rattle.line.specs.declared.marks.Mark.{Mark}
 use Rattle.line.specs.Texture.{lower}
-use Rattle.line.specs.Accumulator.{gained, signOf}
-use Rattle.line.specs.Move.{vertical, right, left, horizontal, sometimes, always, movedSpot, wentVertical}
+use Rattle.line.specs.Accumulator.{signOf}
+use Rattle.line.specs.Move.{vertical, right, left, horizontal, sometimes, always, movedSpot}
 use Rattle.line.specs.Word.{dotWord}
 use Rattle.line.specs.Line.{next}
-use Rattle.line.specs.Inner.Walk.{pixelEnd, spotOf, pixelOf, dotOf, markOf, verticalPixels, horizontalPixels, sometimesPixels, alwaysPixels, steps, stepBy, walked}
+use Rattle.line.specs.Inner.Walk.{pixelEnd, spotOf, dotOf, markOf, verticalPixels, horizontalPixels, sometimesPixels, alwaysPixels, steps, stepBy, walked}
 
 -- a spot of a word and a shift
 spot-of : {word word′ shift shift′ : ℕ} → word ≡ word′ → shift ≡ shift′

@@ -1,6 +1,6 @@
 -- Paper 01, "Kept for lines and Copper lists": the line, "one dot per row of the size, stored before the next is fetched".
 use Prim.Native.Nat.{ℕ, zero, suc, _+_}
-use mathlib.Core.Bool.{Bool, true, _&&_}
+use mathlib.Core.Bool.{true, _&&_}
 use mathlib.Core.List.{List, [], _∷_}
 use lib.Dec.{eqb}
 use lib.ListN.{getD, set}

@@ -4,12 +4,12 @@ ghost use Prim.Native.Nat.{_+_, _<_};
 ghost use Rattle.word.specs.Pointer.{pointerEnd};
 ghost use Rattle.line.specs.Line.{state, dotStored, oneDot, begun, lineBlit};
 ghost use Rattle.line.specs.Inner.Walk.{dotOf, drawnOf, steps};
+use crate::marks::Mark;
+use crate::marks::Marked;
+use crate::marks::Steps;
 use crate::types::Dot;
 use crate::types::Drawn;
 use crate::types::Line;
-use crate::types::Mark;
-use crate::types::Marked;
-use crate::types::Steps;
 
 // The dot stored, if it is.
 fn dot_stored(ram: &mut [u16], line: Line, here: Marked) -> Marked

@@ -7,13 +7,12 @@ ghost use Rattle.line.specs.Texture.{lower};
 ghost use Rattle.line.specs.Accumulator.{signOf};
 ghost use Rattle.line.specs.Inner.Walk.{pixelEnd, pixelOf, dotOf, markOf, verticalPixels, horizontalPixels};
 ghost use Rattle.line.specs.Inner.Walk.{sometimesPixels, alwaysPixels, steps, stepBy, walked};
+use crate::marks::Mark;
+use crate::marks::Step;
+use crate::marks::Steps;
 use crate::types::Dot;
 use crate::types::Line;
-use crate::types::Mark;
-use crate::types::Octant;
 use crate::types::Spot;
-use crate::types::Step;
-use crate::types::Steps;
 use word::pointer::POINTER_END;
 use word::types::Pointer;
 

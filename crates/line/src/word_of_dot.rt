@@ -5,8 +5,8 @@ ghost use Rattle.word.specs.Word.{isSet};
 ghost use Rattle.line.specs.Word.{dotWord};
 ghost use Rattle.line.specs.Sing.{isStored};
 ghost use Rattle.line.specs.Inner.Walk.{dotOf};
+use crate::marks::Mark;
 use crate::types::Line;
-use crate::types::Mark;
 
 fn shifted(a: u16, n: u32) -> u16
     requires { ⌜ n < 16 ⌝ }

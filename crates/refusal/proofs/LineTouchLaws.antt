@@ -1,10 +1,10 @@
 -- Laws of the words that a line touches: a dot tells for the rest.
-use Rattle.word.proofs.Base.{_≡_, refl, ap, _∙_, ℕ, zero, suc, _-_, _/_, _%_, _<_, _≤_, sub-one, arith, Bool, true, false, le-leb, lt-leb}
+use Rattle.word.proofs.Base.{_≡_, refl, ℕ, zero, suc, _-_, _/_, _%_, _<_, _≤_, sub-one, arith, Bool, true, false, le-leb, lt-leb}
 use Rattle.word.specs.Pointer.{pointerEnd}
 use Rattle.line.specs.declared.types.Line.{Line}
 use Rattle.line.specs.declared.types.Dot.{Dot}
-use Rattle.line.specs.declared.types.Mark.{Mark}
-use Rattle.line.specs.declared.types.Steps.{Steps}
+use Rattle.line.specs.declared.marks.Mark.{Mark}
+use Rattle.line.specs.declared.marks.Steps.{Steps}
 use Rattle.line.specs.Line.{next, spots}
 use Rattle.line.specs.Inner.Walk.{dotOf, markOf, steps, stepBy, walked}
 use Rattle.line.proofs.MoveLaws.{movedSpot-at-lt}

@@ -1,5 +1,5 @@
 -- Laws of the refusals.
-use Rattle.word.proofs.Base.{_≡_, refl, sym, ap, _∙_, ℕ, _<_, _≤_, arith, Bool, true, false, _&&_, _||_, not, eqb, not-true, not-false, List}
+use Rattle.word.proofs.Base.{_≡_, refl, sym, _∙_, ℕ, _<_, _≤_, arith, Bool, true, false, _&&_, _||_, not, eqb, not-true, not-false, List}
 use Rattle.word.specs.Choice.{if_then_else_, given}
 use Rattle.word.specs.Pointer.{pointerEnd, pointer}
 use Rattle.word.specs.Size.{height, width}

@@ -1,5 +1,5 @@
 -- Laws of a step: what each kind of step leaves, how many words a step stores at most, and that a refused one changes nothing.
-use Rattle.word.proofs.Base.{_≡_, refl, ap, ℕ, _<_, _≤_, arith, eqb, le-leb, lt-leb, List, length, set}
+use Rattle.word.proofs.Base.{_≡_, refl, ℕ, _<_, _≤_, arith, eqb, le-leb, lt-leb, List, length, set}
 use Rattle.word.specs.Choice.{given}
 use Rattle.word.proofs.ChoiceLaws.{if-either}
 use Rattle.file.specs.File.{kept}

@@ -1,5 +1,5 @@
 -- Two register files that agree on what a settled blit depends on are refused alike, and become the same words.
-use Rattle.word.proofs.Base.{_≡_, refl, sym, ap, ap₂, _∙_, ℕ, _+_, Bool, true, false, _&&_, List, _++_, getD}
+use Rattle.word.proofs.Base.{_≡_, refl, sym, ap, ap₂, _∙_, ℕ, _+_, Bool, true, false, _&&_, List, getD}
 use Rattle.word.specs.declared.types.Direction.{Direction}
 use Rattle.word.specs.declared.types.Pointer.{Pointer}
 use Rattle.word.specs.Choice.{given}

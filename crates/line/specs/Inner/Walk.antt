@@ -8,10 +8,10 @@ use Rattle.line.specs.declared.types.Line.{Line}
 use Rattle.line.specs.declared.types.Spot.{Spot}
 use Rattle.line.specs.declared.types.Dot.{Dot}
 use Rattle.line.specs.declared.types.Drawn.{Drawn}
-use Rattle.line.specs.declared.types.Step.{Step}
-use Rattle.line.specs.declared.types.Steps.{Steps}
-use Rattle.line.specs.declared.types.Mark.{Mark}
-use Rattle.line.specs.declared.types.Marked.{Marked}
+use Rattle.line.specs.declared.marks.Step.{Step}
+use Rattle.line.specs.declared.marks.Steps.{Steps}
+use Rattle.line.specs.declared.marks.Mark.{Mark}
+use Rattle.line.specs.declared.marks.Marked.{Marked}
 use Rattle.line.specs.Texture.{lower}
 use Rattle.line.specs.Move.{wentVertical}
 use Rattle.line.specs.Accumulator.{signOf}

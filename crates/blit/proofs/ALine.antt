@@ -1,6 +1,6 @@
 -- A line changes only words where a dot stands, stores a word a row, or with SING at most that, and leaves all registers
 -- but those that it names.
-use Rattle.word.proofs.Base.{_≡_, refl, subst, ℕ, _≤_, zero-add, arith, Bool, true, false, List, length, getD}
+use Rattle.word.proofs.Base.{_≡_, refl, subst, ℕ, _≤_, zero-add, true, List, length, getD}
 use Rattle.word.specs.Size.{height}
 use Rattle.word.specs.Control.{line}
 use Rattle.word.proofs.SizeLaws.{height-positive}
@@ -13,7 +13,7 @@ use Rattle.line.proofs.DotsLaws.{lineBlit-counts, lineBlit-counts-all, lineBlit
 use Rattle.refusal.specs.Refusal.{refusal}
 use Rattle.blit.specs.Blit.{Outcome, drawn, lineDone, done, refused, answered, blit}
 use Rattle.blit.specs.ALine.{namedPlaces, OnlyDotsChange, AWordARow, OthersAsBefore}
-use Rattle.blit.proofs.BlitLaws.{answered-cases}
+use Rattle.blit.proofs.BlitLaws.{not-both, answered-cases}
 use Rattle.blit.proofs.OnlyDChanges.{only-d-changes}
 use Rattle.blit.proofs.UnusedStay.{apart-from, leave-elsewhere}
 
@@ -42,8 +42,5 @@ unfolding blit lineDone refused
 others-as-before memory file size place lined apart =
     answered-cases (λ (end : Outcome). getD (end .file) place 0 ≡ getD file place 0) (refusal (length memory) file size) memory file size
     (λ lawful _. leave-elsewhere (drawn memory file size .drawn) file place (λ named. apart-from place named namedPlaces apart))
-    (λ lawful area. absurd (both lined area))
+    (λ lawful area. absurd (not-both lined area))
     refl
-  where
-    both : {bit : Bool} → bit ≡ true → bit ≡ false → ⊥
-    both holds fails = let n : _≡_ {A = ℕ} 0 1 = cc in absurd (omega arith)

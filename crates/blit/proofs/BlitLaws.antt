@@ -106,6 +106,10 @@ module _ (file : List ℕ) (size : ℕ) (by : LinePlan) (same : by ≡ linePlan 
   unfolding lineDone drawn
   lineDone-of-parts memory after changed end does leaves = rw (leaves, ← (rw same at does))
 
+-- no test both holds and fails
+pub not-both : {test : Bool} → test ≡ true → test ≡ false → ⊥
+not-both holds fails = let n : _≡_ {A = ℕ} 0 1 = cc in absurd (omega arith)
+
 -- a blit that is done has the number 0
 pub done-number : (memory file : List ℕ) (size : ℕ) → done memory file size .number ≡ 0
 unfolding done areaDone lineDone

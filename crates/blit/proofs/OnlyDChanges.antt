@@ -1,5 +1,5 @@
 -- A blit changes no word that D doesn't touch: each word is for D's pointer, which goes where the list of touched words goes.
-use Rattle.word.proofs.Base.{_≡_, refl, sym, ap, _∙_, ℕ, zero, suc, arith, Bool, true, false, _||_, eqb, eqb-false, List, []}
+use Rattle.word.proofs.Base.{_≡_, refl, sym, ap, _∙_, ℕ, zero, suc, Bool, true, false, _||_, eqb, eqb-false, List, []}
 use Rattle.word.proofs.Base.{_∷_, _++_, length, getD, getD-set-other}
 use mathlib.Core.Bool.{or-assoc}
 use Rattle.word.specs.declared.types.Pointer.{Pointer}
@@ -26,7 +26,7 @@ use Rattle.refusal.specs.Touch.{rowTouches, touches, lineTouches, among}
 use Rattle.refusal.proofs.RefusalLaws.{stepRefusal-of-line, refusal-of-none}
 use Rattle.refusal.specs.Refusal.{refusal}
 use Rattle.blit.specs.Blit.{Outcome, finished, drawn, areaDone, lineDone, refused, blit}
-use Rattle.blit.proofs.BlitLaws.{answered-cases}
+use Rattle.blit.proofs.BlitLaws.{not-both, answered-cases}
 use Rattle.blit.specs.OnlyDChanges.{OnlyDChanges, WithoutDNothingChanges}
 
 pub among-of-append : (word : ℕ) (first rest : List ℕ) → among word (first ++ rest) ≡ (among word first || among word rest)
@@ -110,8 +110,5 @@ pub without-d-nothing-changes : WithoutDNothingChanges
 unfolding blit areaDone lineDone refused finished areaBlit storePending memoryWith start setup
 without-d-nothing-changes memory file size idle =
     answered-cases (λ (end : Outcome). end .memory ≡ memory) (refusal (length memory) file size) memory file size
-    (λ lawful lined. absurd (both (stepRefusal-of-line (length memory) file size lined (refusal-of-none (length memory) file size lawful) .d) idle))
+    (λ lawful lined. absurd (not-both (stepRefusal-of-line (length memory) file size lined (refusal-of-none (length memory) file size lawful) .d) idle))
     (λ lawful area. rows-without-d (setup file) (width size) (height size) (state memory (start file)) idle) refl
-  where
-    both : {used : Bool} → used ≡ true → used ≡ false → ⊥
-    both holds fails = let n : _≡_ {A = ℕ} 0 1 = cc in absurd (omega arith)

@@ -41,7 +41,7 @@ pub fn line_done(ram: &mut [u16], file: &mut [u16], size: u16, by: LinePlan) -> 
 {
     let line = by.line;
     let first = by.first;
-    let drawn = line::draw::line_blit(ram, line, by.dots as u32, first);
-    line::leave::leave(file, drawn);
+    let drawn = drawing::draw::line_blit(ram, line, by.dots as u32, first);
+    drawing::leave::leave(file, drawn);
     Answer::Done(drawn.stored)
 }

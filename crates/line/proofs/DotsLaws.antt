@@ -1,5 +1,5 @@
 -- What all dots of a line keep, and how many they store.
-use Rattle.word.proofs.Base.{_≡_, refl, ℕ, zero, suc, _+_, _%_, _<_, _≤_, arith, Bool, true, false, not, _||_, List, length, set, length-set}
+use Rattle.word.proofs.Base.{_≡_, refl, ℕ, zero, suc, _+_, _%_, _<_, _≤_, arith, Bool, true, false, not, List, length, set, length-set}
 use Rattle.word.specs.Choice.{if_then_else_}
 use Rattle.word.specs.Word.{SixteenBits}
 use Rattle.word.specs.Repeat.{repeated}
@@ -14,6 +14,7 @@ use Rattle.line.specs.Word.{dotWord}
 use Rattle.line.specs.Sing.{isStored}
 use Rattle.line.specs.Accumulator.{gained}
 use Rattle.line.specs.Line.{State, wordHere, next, dotStored, oneDot, lineBlit}
+use Rattle.line.proofs.WalkLaws.{or-true}
 use Rattle.line.proofs.LineLaws.{oneDot-goes-on, oneDot-counts}
 
 -- memory after one dot: its word is set, or it is as it was
@@ -94,10 +95,6 @@ lineBlit-counts-all line each (suc dots) now =
     let here = oneDot-counts-one line now (rw each) in omega arith
 
 -- the first dot always
-or-true : (test : Bool) → (test || true) ≡ true
-or-true true = refl
-or-true false = refl
-
 pub lineBlit-counts-some : (line : Line) (dots : ℕ) (now : State) → 1 ≤ dots → now .drawn .dot .first ≡ true → 1 ≤ lineBlit line dots now .drawn .stored
 unfolding lineBlit repeated
 lineBlit-counts-some line zero now some first = absurd (omega arith)

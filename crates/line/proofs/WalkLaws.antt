@@ -99,7 +99,7 @@ walked-by-parts line pixel bit accumulator false first = rw (moved-when-clear li
 pub walked-is-next : (line : Line) (mark : Mark) → dotOf (walked (stepBy (steps line) (mark .sign)) mark) ≡ next line (dotOf mark)
 walked-is-next line mark = walked-by-parts line (mark .pixel) (mark .bit) (mark .accumulator) (mark .sign) (mark .first)
 
-or-true : (test : Bool) → (test || true) ≡ true
+pub or-true : (test : Bool) → (test || true) ≡ true
 or-true true = refl
 or-true false = refl
 

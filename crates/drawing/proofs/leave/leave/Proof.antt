@@ -1,8 +1,8 @@
--- `line::leave::leave` meets its contract: the accumulator, the two pointers, the flag.
-use Rattle.line.proofs.LineLaws.{leave-of-parts}
+-- `drawing::leave::leave` meets its contract: the accumulator, the two pointers, the flag.
+use Rattle.drawing.proofs.DrawLaws.{leave-of-parts}
 use Rattle.word.proofs.Base.{needs}
-use Rattle.line.proofs.leave.leave.Statement.{statement}
-use Rattle.line.proofs.leave.leave.Tie as tie
+use Rattle.drawing.proofs.leave.leave.Statement.{statement}
+use Rattle.drawing.proofs.leave.leave.Tie as tie
 
 returns : tie.Need-returns
 returns c = search leave-of-parts

@@ -1,8 +1,8 @@
--- `line::draw::dot_stored` meets its contract: stored and counted, or not.
-use Rattle.line.proofs.LineLaws.{dotStored-when-stored, dotStored-when-not}
+-- `drawing::draw::dot_stored` meets its contract: stored and counted, or not.
+use Rattle.drawing.proofs.DrawLaws.{dotStored-when-stored, dotStored-when-not}
 use Rattle.word.proofs.Base.{refl, needs}
-use Rattle.line.proofs.draw.dot_stored.Statement.{statement}
-use Rattle.line.proofs.draw.dot_stored.Tie as tie
+use Rattle.drawing.proofs.draw.dot_stored.Statement.{statement}
+use Rattle.drawing.proofs.draw.dot_stored.Tie as tie
 
 returns : tie.Need-returns
 returns c = (refl, search dotStored-when-stored)

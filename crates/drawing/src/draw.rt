@@ -2,14 +2,14 @@
 ghost use mathlib.Core.Path.{_≡_};
 ghost use Prim.Native.Nat.{_+_, _<_};
 ghost use Rattle.word.specs.Pointer.{pointerEnd};
 ghost use Rattle.line.specs.Line.{state, dotStored, oneDot, begun, lineBlit};
 ghost use Rattle.line.specs.Inner.Walk.{dotOf, drawnOf, steps};
-use crate::marks::Mark;
-use crate::marks::Marked;
-use crate::marks::Steps;
-use crate::types::Dot;
-use crate::types::Drawn;
-use crate::types::Line;
+use line::marks::Mark;
+use line::marks::Marked;
+use line::marks::Steps;
+use line::types::Dot;
+use line::types::Drawn;
+use line::types::Line;
 
 // The dot stored, if it is.
 fn dot_stored(ram: &mut [u16], line: Line, here: Marked) -> Marked
@@ -18,9 +18,9 @@ fn dot_stored(ram: &mut [u16], line: Line, here: Marked) -> Marked
         × (state (now (ram .exit)) (drawnOf after) ≡ dotStored line (state (now (ram .entry)) (drawnOf here))) ⌝ }
 {
     let mark = here.mark;
-    if crate::word_of_dot::is_stored(line, mark) {
-        let place = crate::walk::word_of(mark);
-        let word = crate::word_of_dot::dot_word(line, mark, word::memory::read(ram, place));
+    if line::word_of_dot::is_stored(line, mark) {
+        let place = line::walk::word_of(mark);
+        let word = line::word_of_dot::dot_word(line, mark, word::memory::read(ram, place));
         word::memory::write(ram, place, word);
         return Marked {
             mark,
@@ -37,7 +37,7 @@ fn one_dot(ram: &mut [u16], line: Line, by: Steps, here: Marked) -> Marked
 {
     let drawn = dot_stored(ram, line, here);
     let from = drawn.mark;
-    let mark = crate::walk::walked(by, from);
+    let mark = line::walk::walked(by, from);
     Marked {
         mark,
         allzero: drawn.allzero,
@@ -70,11 +70,11 @@ pub fn line_blit(ram: &mut [u16], line: Line, dots: u32, first: Dot) -> Drawn
     requires { ⌜ (first .spot .at .word < pointerEnd) × (first .spot .shift < 16) × (first .bit < 16) × (dots < 4294967295) ⌝ }
     ensures { λ end. ⌜ state (now (ram .exit)) end ≡ lineBlit line dots (state (now (ram .entry)) (begun first)) ⌝ }
 {
-    let mark = crate::walk::mark_of(first);
-    let by = crate::walk::steps(line);
+    let mark = line::walk::mark_of(first);
+    let by = line::walk::steps(line);
     let end = all_dots(ram, line, by, dots, mark);
     let last = end.mark;
-    let dot = crate::walk::dot_of(last);
+    let dot = line::walk::dot_of(last);
     Drawn {
         dot,
         allzero: end.allzero,

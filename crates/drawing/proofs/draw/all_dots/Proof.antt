@@ -1,10 +1,10 @@
--- `line::draw::all_dots` meets its contract: what remains of the dots from here gives what the whole gives.
+-- `drawing::draw::all_dots` meets its contract: what remains of the dots from here gives what the whole gives.
 use Rattle.word.proofs.Base.{_≡_, _+_, _≤_, needs, length}
 use Rattle.line.specs.Line.{state, lineBlit}
 use Rattle.line.specs.Inner.Walk.{drawnOf}
-use Rattle.line.proofs.LineLaws.{lineBlit-turn, lineBlit-done, oneDot-room}
-use Rattle.line.proofs.draw.all_dots.Statement.{statement}
-use Rattle.line.proofs.draw.all_dots.Tie as tie
+use Rattle.drawing.proofs.DrawLaws.{lineBlit-turn, lineBlit-done, oneDot-room}
+use Rattle.drawing.proofs.draw.all_dots.Statement.{statement}
+use Rattle.drawing.proofs.draw.all_dots.Tie as tie
 
 abbrev Inv-loop : tie.InvT-loop
 Inv-loop ram₀ line by dots so-far₀ remaining₀ ram so-far remaining =

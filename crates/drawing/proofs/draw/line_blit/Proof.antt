@@ -1,8 +1,8 @@
--- `line::draw::line_blit` meets its contract: the dots by their marks.
-use Rattle.line.proofs.LineLaws.{lineBlit-of-marks}
+-- `drawing::draw::line_blit` meets its contract: the dots by their marks.
+use Rattle.drawing.proofs.DrawLaws.{lineBlit-of-marks}
 use Rattle.word.proofs.Base.{needs}
-use Rattle.line.proofs.draw.line_blit.Statement.{statement}
-use Rattle.line.proofs.draw.line_blit.Tie as tie
+use Rattle.drawing.proofs.draw.line_blit.Statement.{statement}
+use Rattle.drawing.proofs.draw.line_blit.Tie as tie
 
 returns : tie.Need-returns
 returns c = search lineBlit-of-marks

@@ -1,7 +1,7 @@
 // What a line leaves in the register file.
 ghost use mathlib.Core.Path.{_≡_};
 ghost use Rattle.line.specs.Leave.{leave};
-use crate::types::Drawn;
+use line::types::Drawn;
 
 pub fn leave(file: &mut [u16], end: Drawn)
     ensures { λ _. ⌜ now (file .exit) ≡ leave end (now (file .entry)) ⌝ }

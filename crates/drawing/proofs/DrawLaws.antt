@@ -1,8 +1,7 @@
 -- Laws of all dots done by their marks, and of what is left.
-use Rattle.word.proofs.Base.{_≡_, refl, ap, ℕ, _+_, _-_, _%_, _/_, _<_, _≤_, arith, Bool, true, false, _&&_, eqb, List, getD, set}
+use Rattle.word.proofs.Base.{_≡_, ap, ℕ, _+_, _-_, _%_, _/_, _<_, _≤_, arith, Bool, true, false, _&&_, eqb, List, getD, set}
 use Rattle.word.specs.Choice.{if_then_else_}
 use Rattle.word.specs.Pointer.{pointerEnd}
-use Rattle.word.proofs.ChoiceLaws.{if-either}
 use Rattle.word.proofs.RepeatLaws.{repeated-turn, repeated-done}
 use Rattle.file.specs.Places.{pointerA, pointerC, pointerD}
 use Rattle.file.specs.Pointers.{withPointer, putFlag}
@@ -11,7 +10,7 @@ use Rattle.line.specs.declared.types.Dot.{Dot}
 use Rattle.line.specs.declared.types.Drawn.{Drawn}
 use Rattle.line.specs.Word.{dotWord}
 use Rattle.line.specs.Sing.{isStored}
-use Rattle.line.specs.Line.{State, state, next, dotStored, oneDot, begun, lineBlit}
+use Rattle.line.specs.Line.{State, state, dotStored, oneDot, begun, lineBlit}
 use Rattle.line.specs.Leave.{leave}
 use Rattle.line.specs.declared.marks.Mark.{Mark}
 use Rattle.line.specs.declared.marks.Marked.{Marked}

@@ -1,23 +1,10 @@
 -- Laws of one dot: the dot after it, and the count.
-use Rattle.word.proofs.Base.{_≡_, refl, ap, ℕ, _+_, _-_, _%_, _/_, _<_, _≤_, arith, Bool, true, false, _&&_, eqb, List, getD, set}
+use Rattle.word.proofs.Base.{_≡_, refl, ap, _+_, _-_, _≤_, arith}
 use Rattle.word.specs.Choice.{if_then_else_}
-use Rattle.word.specs.Pointer.{pointerEnd}
 use Rattle.word.proofs.ChoiceLaws.{if-either}
-use Rattle.word.proofs.RepeatLaws.{repeated-turn, repeated-done}
-use Rattle.file.specs.Places.{pointerA, pointerC, pointerD}
-use Rattle.file.specs.Pointers.{withPointer, putFlag}
 use Rattle.line.specs.declared.types.Line.{Line}
-use Rattle.line.specs.declared.types.Dot.{Dot}
-use Rattle.line.specs.declared.types.Drawn.{Drawn}
-use Rattle.line.specs.Word.{dotWord}
 use Rattle.line.specs.Sing.{isStored}
-use Rattle.line.specs.Line.{State, state, next, dotStored, oneDot, begun, lineBlit}
-use Rattle.line.specs.Leave.{leave}
-use Rattle.line.specs.declared.marks.Mark.{Mark}
-use Rattle.line.specs.declared.marks.Marked.{Marked}
-use Rattle.line.specs.declared.marks.Steps.{Steps}
-use Rattle.line.specs.Inner.Walk.{dotOf, markOf, drawnOf, steps, stepBy, walked}
-use Rattle.line.proofs.WalkLaws.{walked-is-next, dotOf-of-markOf}
+use Rattle.line.specs.Line.{State, next, dotStored, oneDot}
 
 -- the dot after one dot, stored or not, is the next one
 dotStored-keeps-dot : (line : Line) (now : State) → dotStored line now .drawn .dot ≡ now .drawn .dot

@@ -23,7 +23,8 @@ fn fetched(used: bool, ram: &[u16], direction: Direction, pointer: Pointer, sour
 {
     if used {
         let word = word::memory::read(ram, pointer.word);
-        let next = pointer.moved(direction);
+        let made = pointer.moved(direction);
+        let next = made.to;
         return Source {
             word,
             pointer: next,

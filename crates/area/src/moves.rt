@@ -35,7 +35,8 @@ fn stepped(direction: Direction, used: bool, pointer: Pointer) -> Pointer
     ensures { λ next. ⌜ next ≡ stepped direction used pointer ⌝ }
 {
     if used {
-        return pointer.moved(direction);
+        let made = pointer.moved(direction);
+        return made.to;
     }
     pointer
 }
@@ -66,7 +67,8 @@ fn turned(direction: Direction, used: bool, modulo: u32, pointer: Pointer) -> Po
     ensures { λ next. ⌜ next ≡ turned direction used modulo pointer ⌝ }
 {
     if used {
-        return pointer.passed(direction, modulo);
+        let made = pointer.passed(direction, modulo);
+        return made.to;
     }
     pointer
 }

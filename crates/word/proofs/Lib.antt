@@ -5,6 +5,7 @@ pub mod RepeatLaws
 pub mod WordLaws
 pub mod LaidLaws
 pub mod PointerLaws
+pub mod RoundLaws
 pub mod MemoryLaws
 pub mod StrideLaws
 pub mod EvenLaws

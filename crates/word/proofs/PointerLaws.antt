@@ -10,26 +10,6 @@ use Rattle.word.specs.Pointer.{pointerEnd, pointer, up, down, plus, minu
 pub sum-of-remainder : (word by : ℕ) → (word % pointerEnd + by) % pointerEnd ≡ (word + by) % pointerEnd
 sum-of-remainder word by = omega arith
 
-pub moved-when-ascending : (direction : Direction) (from next : Pointer)
-    → direction ≡ Ascending → next ≡ up from → next ≡ moved direction from
-unfolding moved
-moved-when-ascending direction from next way same = rw way same
-
-pub moved-when-descending : (direction : Direction) (from next : Pointer)
-    → direction ≡ Descending → next ≡ down from → next ≡ moved direction from
-unfolding moved
-moved-when-descending direction from next way same = rw way same
-
-pub passed-when-ascending : (direction : Direction) (words : ℕ) (from next : Pointer)
-    → direction ≡ Ascending → next ≡ plus words from → next ≡ passed direction words from
-unfolding passed
-passed-when-ascending direction words from next way same = rw way same
-
-pub passed-when-descending : (direction : Direction) (words : ℕ) (from next : Pointer)
-    → direction ≡ Descending → next ≡ minus words from → next ≡ passed direction words from
-unfolding passed
-passed-when-descending direction words from next way same = rw way same
-
 -- one word and so many more, upward and downward
 up-and-on : (word remaining : ℕ) → (word + suc remaining) % pointerEnd ≡ ((word + 1) % pointerEnd + remaining) % pointerEnd
 up-and-on word remaining = omega arith

@@ -8,8 +8,7 @@ use Rattle.word.specs.declared.types.Direction.{Direction}
 use Rattle.word.specs.declared.types.Direction.the-variants.{Ascending, Descending}
 use Rattle.word.specs.declared.types.Pointer.{Pointer}
 use Rattle.word.specs.Repeat.{repeated}
-use Rattle.word.specs.Inner.Even.{downward}
-use Rattle.word.specs.Pointer.{pointerEnd, passed, nextRow}
+use Rattle.word.specs.Pointer.{pointerEnd, downward, passed, nextRow}
 use Rattle.word.proofs.PointerLaws.{sum-of-remainder, nextRow-lt, nextRow-of-moves}
 
 -- the start of memory, from which a stride is measured

@@ -4,6 +4,7 @@ pub mod Repeat
 pub mod Word
 pub mod Laid
 pub mod Pointer
+pub mod Round
 pub mod Memory
 pub mod Size
 pub mod Control

@@ -33,6 +33,10 @@ down pointer = record { word = (pointer .word + (pointerEnd - 1)) % pointerEnd }
 unfoldable pub half : (modulo : ℕ) → ℕ
 half modulo = modulo / 2 % 32768 + bit modulo 15 * (pointerEnd - 32768)
 
+-- a number modulo 262,144 stands for one below 0 from here on
+abbrev pub downward : ℕ
+downward = 131072
+
 -- "half of it is added or taken away, modulo 262,144"; words is that half
 abbrev pub plus : (words : ℕ) → Pointer → Pointer
 plus words pointer = record { word = (pointer .word + words % pointerEnd) % pointerEnd }

@@ -2,8 +2,8 @@
 ghost use mathlib.Core.Path.{_≡_};
 ghost use mathlib.Core.Bool.{true};
 ghost use Prim.Native.Nat.{_-_, _*_, _<_, _≤_};
-ghost use Rattle.word.specs.Pointer.{pointerEnd, nextRow};
-ghost use Rattle.word.specs.Inner.Even.{downward, RowsInside, SpanInside};
+ghost use Rattle.word.specs.Pointer.{pointerEnd, downward, nextRow};
+ghost use Rattle.word.specs.Inner.Even.{RowsInside, SpanInside};
 use crate::pointer::DOWNWARD;
 use crate::pointer::POINTER_END;
 use crate::types::Direction;

@@ -1,9 +1,10 @@
 // Pointers: made of two registers, moved by one and by a modulo, each modulo 262,144.
 ghost use mathlib.Core.Path.{_≡_};
 ghost use Prim.Native.Nat.{_<_, _≤_};
-ghost use Rattle.word.specs.Pointer.{pointerEnd, pointer, high, low, up, down, half, plus, minus};
-ghost use Rattle.word.specs.Pointer.{moved, passed, nextRow};
+ghost use Rattle.word.specs.Pointer.{pointerEnd, pointer, high, low, half, nextRow};
+ghost use Rattle.word.specs.Round.{plusRound, minusRound, upMove, downMove, plusMove, minusMove, wordMove, moduloMove};
 use crate::types::Direction;
+use crate::types::Move;
 use crate::types::Pointer;
 
 // The words that a pointer reaches.
@@ -34,6 +35,27 @@ pub fn half(modulo: u16) -> u32
     bytes / 2 % 32768 + bytes / 32768 % 2 * (POINTER_END - 32768)
 }
 
+// Whether a sum, or a difference, goes round. From 131,072 on words stand for a number below 0.
+fn plus_round(word: u32, words: u32) -> bool
+    ensures { λ told. ⌜ told ≡ plusRound words (record { word = word }) ⌝ }
+{
+    let by = words % POINTER_END;
+    if DOWNWARD <= by {
+        return word < POINTER_END - by;
+    }
+    POINTER_END - by <= word
+}
+
+fn minus_round(word: u32, words: u32) -> bool
+    ensures { λ told. ⌜ told ≡ minusRound words (record { word = word }) ⌝ }
+{
+    let by = words % POINTER_END;
+    if DOWNWARD <= by {
+        return by <= word;
+    }
+    word < by
+}
+
 impl Pointer {
     // The register halves of the pointer.
     pub fn high(self) -> u16
@@ -48,43 +70,55 @@ impl Pointer {
         (self.word % 32768 * 2) as u16
     }
 
-    // One word up, or down; past the end it goes round.
-    pub fn up(self) -> Pointer
-        ensures { λ next. ⌜ next ≡ up self ⌝ }
+    // One word up, or down; past the end it goes round, and says so.
+    pub fn up(self) -> Move
+        ensures { λ made. ⌜ made ≡ upMove self ⌝ }
     {
-        Pointer {
+        let to = Pointer {
             word: (self.word % POINTER_END + 1) % POINTER_END,
+        };
+        Move {
+            to,
+            round: POINTER_END - 1 <= self.word,
         }
     }
 
-    pub fn down(self) -> Pointer
-        ensures { λ next. ⌜ next ≡ down self ⌝ }
+    pub fn down(self) -> Move
+        ensures { λ made. ⌜ made ≡ downMove self ⌝ }
     {
-        Pointer {
+        let to = Pointer {
             word: (self.word % POINTER_END + (POINTER_END - 1)) % POINTER_END,
+        };
+        Move {
+            to,
+            round: self.word < 1,
         }
     }
 
-    // So many words on, or back; past the end it goes round.
-    pub fn plus(self, words: u32) -> Pointer
-        ensures { λ next. ⌜ next ≡ plus words self ⌝ }
+    // So many words on, or back; past the end it goes round, and says so.
+    pub fn plus(self, words: u32) -> Move
+        ensures { λ made. ⌜ made ≡ plusMove words self ⌝ }
     {
-        Pointer {
+        let to = Pointer {
             word: (self.word % POINTER_END + words % POINTER_END) % POINTER_END,
-        }
+        };
+        let round = plus_round(self.word, words);
+        Move { to, round }
     }
 
-    pub fn minus(self, words: u32) -> Pointer
-        ensures { λ next. ⌜ next ≡ minus words self ⌝ }
+    pub fn minus(self, words: u32) -> Move
+        ensures { λ made. ⌜ made ≡ minusMove words self ⌝ }
     {
-        Pointer {
+        let to = Pointer {
             word: (self.word % POINTER_END + (POINTER_END - words % POINTER_END)) % POINTER_END,
-        }
+        };
+        let round = minus_round(self.word, words);
+        Move { to, round }
     }
 
-    // The pointer after a word.
-    pub fn moved(self, direction: Direction) -> Pointer
-        ensures { λ next. ⌜ next ≡ moved direction self ⌝ }
+    // The move after a word.
+    pub fn moved(self, direction: Direction) -> Move
+        ensures { λ made. ⌜ made ≡ wordMove direction self ⌝ }
     {
         match direction {
             Direction::Ascending => self.up(),
@@ -92,9 +126,9 @@ impl Pointer {
         }
     }
 
-    // The pointer after a row's modulo, of which words is the half.
-    pub fn passed(self, direction: Direction, words: u32) -> Pointer
-        ensures { λ next. ⌜ next ≡ passed direction words self ⌝ }
+    // The move by a row's modulo, of which words is the half.
+    pub fn passed(self, direction: Direction, words: u32) -> Move
+        ensures { λ made. ⌜ made ≡ moduloMove direction words self ⌝ }
     {
         match direction {
             Direction::Ascending => self.plus(words),
@@ -107,7 +141,9 @@ impl Pointer {
         requires { ⌜ (self .word < pointerEnd) × (width ≤ 64) ⌝ }
         ensures { λ next. ⌜ (next ≡ nextRow direction width modulo self) × (next .word < pointerEnd) ⌝ }
     {
-        let end = self.passed(direction, width);
-        end.passed(direction, modulo)
+        let row = self.passed(direction, width);
+        let end = row.to;
+        let gap = end.passed(direction, modulo);
+        gap.to
     }
 }

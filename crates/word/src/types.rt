@@ -11,6 +11,12 @@ pub struct Pointer {
     pub word: u32,
 }
 
+// A pointer moved, and whether it went round.
+pub struct Move {
+    pub to: Pointer,
+    pub round: bool,
+}
+
 // Which fill the fill bits of BLTCON1 ask for.
 pub enum Fill {
     Off,

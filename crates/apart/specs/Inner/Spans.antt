@@ -4,7 +4,7 @@ use mathlib.Core.Path.{_≡_}
 use mathlib.Core.Bool.{true}
 use mathlib.Core.Logic.{_⊎_}
 pub use Rattle.word.specs.declared.types.Direction.the-variants.{Ascending, Descending}
-pub use Rattle.word.specs.Inner.Even.{downward}
+pub use Rattle.word.specs.Pointer.{downward}
 pub use Rattle.block.specs.declared.types.Size.{Size}
 pub use Rattle.block.specs.declared.types.Course.{Course}
 use Rattle.block.specs.Inner.Place.{placeAt, EvenRows}

@@ -7,10 +7,6 @@ use Rattle.word.specs.declared.types.Pointer.{Pointer}
 use Rattle.word.specs.Repeat.{repeated}
 use Rattle.word.specs.Pointer.{nextRow}
 
--- a stride of so many words or more leads down
-abbrev pub downward : ℕ
-downward = 131072
-
 -- a row lies inside memory of n words, and doesn't go round
 unfoldable pub RowInside : (n : ℕ) → Direction → (width : ℕ) → Pointer → Type 0
 RowInside n Ascending width pointer = pointer .word + width ≤ n

@@ -1,5 +1,6 @@
 -- `area::fetch::fetched` meets its contract, used or not.
 use Rattle.word.proofs.ChoiceLaws.{if-when-true, if-when-false}
+use Rattle.word.proofs.RoundLaws.{to-of-move}
 use Rattle.area.specs.Fetch.{fetched}
 use Rattle.area.specs.Move.{stepped}
 use Rattle.word.proofs.Base.{needs}
@@ -8,7 +9,7 @@ use Rattle.area.proofs.fetch.fetched.Tie as tie
 
 returns : tie.Need-returns
 unfolding fetched stepped
-returns c = (search (needs, if-when-true), search (needs, if-when-true))
+returns c = (search (needs, if-when-true), search (needs, if-when-true, to-of-move))
 
 returns-2 : tie.Need-returns-2
 unfolding fetched stepped

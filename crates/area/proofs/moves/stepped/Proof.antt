@@ -1,5 +1,6 @@
 -- `area::moves::stepped` meets its contract, used or not.
 use Rattle.word.proofs.ChoiceLaws.{if-when-true, if-when-false}
+use Rattle.word.proofs.RoundLaws.{to-of-move}
 use Rattle.area.specs.Move.{stepped}
 use Rattle.word.proofs.Base.{needs}
 use Rattle.area.proofs.moves.stepped.Statement.{statement}
@@ -7,7 +8,7 @@ use Rattle.area.proofs.moves.stepped.Tie as tie
 
 returns : tie.Need-returns
 unfolding stepped
-returns c = search (needs, if-when-true)
+returns c = search (needs, if-when-true, to-of-move)
 
 returns-2 : tie.Need-returns-2
 unfolding stepped

@@ -8,7 +8,7 @@ use Rattle.word.specs.declared.types.Direction.{Direction}
 use Rattle.word.specs.declared.types.Direction.the-variants.{Ascending, Descending}
 use Rattle.word.specs.declared.types.Pointer.{Pointer}
 use Rattle.word.specs.Repeat.{repeated}
-use Rattle.word.specs.Pointer.{pointerEnd, downward, passed, nextRow}
+use Rattle.word.specs.Pointer.{pointerEnd, passed, nextRow}
 use Rattle.word.proofs.PointerLaws.{sum-of-remainder, nextRow-lt, nextRow-of-moves}
 
 -- the start of memory, from which a stride is measured
@@ -78,11 +78,11 @@ module _ (direction : Direction) (width modulo : ℕ) where
       let rest = rows-downward narrow k (nextRow direction width modulo pointer) (nextRow-lt direction width modulo pointer) (omega (arith, next)) in
       omega (arith, rest, next)
 
-pub distance-le : (rows words : ℕ) → rows ≤ 1024 → words ≤ downward → (rows - 1) * words ≤ 134086656
+pub distance-le : (rows words : ℕ) → rows ≤ 1024 → words ≤ pointerEnd → (rows - 1) * words ≤ 268173312
 distance-le rows words few short =
     le-trans (mul-le-mul-right words (omega arith)) (mul-le-mul-left 1023 short)
 
-pub distance-fits : (rows words : ℕ) → rows ≤ 1024 → words ≤ downward → Fits w32 ((rows - 1) * words)
+pub distance-fits : (rows words : ℕ) → rows ≤ 1024 → words ≤ pointerEnd → Fits w32 ((rows - 1) * words)
 distance-fits rows words few short =
-    let far : (rows - 1) * words ≤ 134086656 = distance-le rows words few short in
+    let far : (rows - 1) * words ≤ 268173312 = distance-le rows words few short in
     record { fits = omega arith }

@@ -2,7 +2,7 @@
 ghost use mathlib.Core.Path.{_≡_};
 ghost use mathlib.Core.Bool.{true};
 ghost use Prim.Native.Nat.{_-_, _*_, _<_, _≤_};
-ghost use Rattle.word.specs.Pointer.{pointerEnd, downward, nextRow};
+ghost use Rattle.word.specs.Pointer.{pointerEnd, nextRow};
 ghost use Rattle.word.specs.Inner.Even.{RowsInside, SpanInside};
 use crate::pointer::DOWNWARD;
 use crate::pointer::POINTER_END;
@@ -30,16 +30,16 @@ pub fn stride(direction: Direction, width: u32, modulo: u32) -> u32
 }
 
 // How far from the first row the last one starts, each so many words from the one before it.
-fn distance(rows: u32, words: u32) -> u32
-    requires { ⌜ (1 ≤ rows) × (rows ≤ 1024) × (words ≤ downward) ⌝ }
-    ensures { λ far. ⌜ (far ≡ (rows - 1) * words) × (far ≤ 134086656) ⌝ }
+pub fn distance(rows: u32, words: u32) -> u32
+    requires { ⌜ (1 ≤ rows) × (rows ≤ 1024) × (words ≤ pointerEnd) ⌝ }
+    ensures { λ far. ⌜ (far ≡ (rows - 1) * words) × (far ≤ 268173312) ⌝ }
 {
     (rows - 1) * words
 }
 
 // A row ascending ends above its start, a row descending below it.
 fn span_inside(n: u32, direction: Direction, width: u32, lowest: u32, highest: u32) -> bool
-    requires { ⌜ (width ≤ 64) × (lowest < pointerEnd) × (highest ≤ 134348800) ⌝ }
+    requires { ⌜ (width ≤ 64) × (lowest < pointerEnd) × (highest ≤ 268435456) ⌝ }
     ensures { λ inside. ⌜ (inside ≡ true → SpanInside n direction width lowest highest) ⌝ }
 {
     match direction {

@@ -1,0 +1,8 @@
+-- The laws of the definitions in specs/, a file for each.
+pub mod BetweenLaws
+pub mod FewLaws
+pub mod RowLaws
+pub mod ChannelLaws
+pub mod ClearLaws
+pub mod RangeLaws
+pub mod AreaLaws

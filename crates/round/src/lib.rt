@@ -1,0 +1,48 @@
+// Whether a blit goes round: whether a pointer of its channels does between two of its accesses.
+mod channel;
+
+
+ghost use mathlib.Core.Path.{_≡_};
+ghost use Rattle.round.specs.Channel.{areaRound};
+ghost use Rattle.round.specs.Line.{lineRound};
+ghost use Rattle.round.specs.Inner.Ranges.{AreaRange, LineRange};
+use refusal::types::AreaPlan;
+use refusal::types::LinePlan;
+
+// The channels of an area blit, A to D.
+pub fn area_round(by: AreaPlan) -> bool
+    requires { ⌜ AreaRange by ⌝ }
+    ensures { λ told. ⌜ told ≡ areaRound by ⌝ }
+{
+    let setup = by.setup;
+    let pointers = by.pointers;
+    let uses = setup.uses;
+    let modulos = setup.modulos;
+    let direction = setup.direction;
+    let width = by.width as u32;
+    let height = by.height as u32;
+    let a = pointers.a;
+    let b = pointers.b;
+    let c = pointers.c;
+    let d = pointers.d;
+    if crate::channel::channel_round(direction, uses.a, width, modulos.a, height, a) {
+        return true;
+    }
+    if crate::channel::channel_round(direction, uses.b, width, modulos.b, height, b) {
+        return true;
+    }
+    if crate::channel::channel_round(direction, uses.c, width, modulos.c, height, c) {
+        return true;
+    }
+    crate::channel::channel_round(direction, uses.d, width, modulos.d, height, d)
+}
+
+// A line's C.
+pub fn line_round(by: LinePlan) -> bool
+    requires { ⌜ LineRange (by .dots) (by .first) ⌝ }
+    ensures { λ told. ⌜ told ≡ lineRound by ⌝ }
+{
+    let line = by.line;
+    let first = by.first;
+    false
+}

@@ -55,7 +55,7 @@ by-sud : {this other : Spot} (pixel one two : ℕ) (sud : Bool) → this ≡ spo
 by-sud pixel one two true first second = first
 by-sud pixel one two false first second = second
 
-sometimes-is-pixels : (line : Line) (pixel : ℕ) → sometimes line (spotOf pixel) ≡ spotOf (pixel + sometimesPixels line)
+pub sometimes-is-pixels : (line : Line) (pixel : ℕ) → sometimes line (spotOf pixel) ≡ spotOf (pixel + sometimesPixels line)
 unfolding sometimes sometimesPixels
 sometimes-is-pixels line pixel =
     by-sud pixel _ _ (line .octant .sud) (vertical-is-pixels (line .row) (line .octant .sul) pixel) (horizontal-is-pixels (line .octant .sul) pixel)
@@ -66,7 +66,7 @@ always-is-pixels line pixel =
     by-sud pixel _ _ (line .octant .sud) (horizontal-is-pixels (line .octant .aul) pixel) (vertical-is-pixels (line .row) (line .octant .aul) pixel)
 
 -- past the last pixel the first one comes again
-spotOf-of-remainder : (pixel : ℕ) → spotOf (pixel % pixelEnd) ≡ spotOf pixel
+pub spotOf-of-remainder : (pixel : ℕ) → spotOf (pixel % pixelEnd) ≡ spotOf pixel
 spotOf-of-remainder pixel = spot-of (omega arith) (omega arith)
 
 -- the two moves of a dot, where the sign is 0 and where it is 1

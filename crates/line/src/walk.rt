@@ -17,7 +17,7 @@ use word::pointer::POINTER_END;
 use word::types::Pointer;
 
 // The pixels of all words that a pointer reaches.
-const PIXEL_END: u32 = 16 * POINTER_END;
+pub const PIXEL_END: u32 = 16 * POINTER_END;
 
 // Down adds a row, up takes it away.
 fn vertical_pixels(row: u32, upward: bool) -> u32
@@ -39,7 +39,7 @@ fn horizontal_pixels(leftward: bool) -> u32
     1
 }
 
-fn sometimes_pixels(line: Line) -> u32
+pub fn sometimes_pixels(line: Line) -> u32
     ensures { λ pixels. ⌜ (pixels ≡ sometimesPixels line) × (pixels ≤ pixelEnd) ⌝ }
 {
     let octant = line.octant;
@@ -91,7 +91,7 @@ fn step_by(steps: Steps, sign: bool) -> Step
 }
 
 // Past the last pixel the first one comes again.
-fn pixels_on(pixel: u32, pixels: u32) -> u32
+pub fn pixels_on(pixel: u32, pixels: u32) -> u32
     ensures { λ on. ⌜ on ≡ (pixel + pixels) % pixelEnd ⌝ }
 {
     (pixel % PIXEL_END + pixels % PIXEL_END) % PIXEL_END

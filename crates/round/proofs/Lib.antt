@@ -4,5 +4,8 @@ pub mod FewLaws
 pub mod RowLaws
 pub mod ChannelLaws
 pub mod ClearLaws
+pub mod DotLaws
+pub mod LineLaws
+pub mod ReachLaws
 pub mod RangeLaws
 pub mod AreaLaws

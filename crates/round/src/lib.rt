@@ -1,6 +1,6 @@
 // Whether a blit goes round: whether a pointer of its channels does between two of its accesses.
 mod channel;
-
+mod course;
 
 ghost use mathlib.Core.Path.{_≡_};
 ghost use Rattle.round.specs.Channel.{areaRound};
@@ -44,5 +44,5 @@ pub fn line_round(by: LinePlan) -> bool
 {
     let line = by.line;
     let first = by.first;
-    false
+    crate::course::course_round(line, by.dots as u32, first)
 }

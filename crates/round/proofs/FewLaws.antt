@@ -12,26 +12,26 @@ use Rattle.word.proofs.PointerLaws.{moves-are-one, moved-lt}
 use Rattle.round.specs.Inner.Onward.{onward}
 
 -- a few words on pass the end where there aren't so many
-far : Direction → (words : ℕ) → Pointer → Bool
+abbrev pub far : Direction → (words : ℕ) → Pointer → Bool
 far Ascending words pointer = leb pointerEnd (pointer .word + words)
 far Descending words pointer = ltb (pointer .word) words
 
-passedRound-is-far : (direction : Direction) (words : ℕ) (pointer : Pointer) → words < downward → passedRound direction words pointer ≡ far direction words pointer
-unfolding passedRound plusRound minusRound far
+pub passedRound-is-far : (direction : Direction) (words : ℕ) (pointer : Pointer) → words < downward → passedRound direction words pointer ≡ far direction words pointer
+unfolding passedRound plusRound minusRound
 passedRound-is-far Ascending words pointer few =
     let small : words % pointerEnd ≡ words = mod-eq-of-lt (omega arith) in rw (small, lt-leb downward words few)
 passedRound-is-far Descending words pointer few =
     let small : words % pointerEnd ≡ words = mod-eq-of-lt (omega arith) in rw (small, lt-leb downward words few)
 
 far-by-one : (direction : Direction) (pointer : Pointer) → movedRound direction pointer ≡ far direction 1 pointer
-unfolding movedRound far
+unfolding movedRound
 far-by-one Ascending pointer = refl
 far-by-one Descending pointer = refl
 
 -- a step, and a few more
 far-turn : (direction : Direction) (words : ℕ) (pointer : Pointer) → pointer .word < pointerEnd
     → (movedRound direction pointer || far direction words (moved direction pointer)) ≡ far direction (suc words) pointer
-unfolding movedRound moved far
+unfolding movedRound moved
 far-turn Ascending words pointer small = by-place (decLt (pointer .word + 1) pointerEnd)
   where
     by-place : Dec (pointer .word + 1 < pointerEnd)
@@ -60,7 +60,6 @@ far-turn Descending words pointer small = by-place (decLt (pointer .word) 1)
 
 module _ (direction : Direction) (pointer : Pointer) (small : pointer .word < pointerEnd) where
   pub passedRound-of-none : passedRound direction 0 pointer ≡ false
-  unfolding far
   passedRound-of-none = passedRound-is-far direction 0 pointer (omega arith) ∙ by-way direction
     where
       by-way : (way : Direction) → far way 0 pointer ≡ false

@@ -9,3 +9,4 @@ pub mod LineLaws
 pub mod ReachLaws
 pub mod RangeLaws
 pub mod AreaLaws
+pub mod WhenItIsSafe

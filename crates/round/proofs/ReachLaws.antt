@@ -153,7 +153,7 @@ dotMoves-near line false pixel low high =
     (near-of-both _ _ pixel (sometimesPixels line) (alwaysPixels line) (sometimesReach line) (alwaysReach line) (reach (line .row)) sometimes always sum)
 
 -- so many dots follow, and none comes to an end
-line-stays : (line : Line) (more : ℕ) (mark : Mark) → more * reach (line .row) ≤ mark .pixel → mark .pixel + more * reach (line .row) < pixelEnd
+pub line-stays : (line : Line) (more : ℕ) (mark : Mark) → more * reach (line .row) ≤ mark .pixel → mark .pixel + more * reach (line .row) < pixelEnd
     → wentRound (lineMoves line (suc more) (dotOf mark)) ≡ false
 line-stays line zero mark low high = wentRound-of-dot line mark
 line-stays line (suc more) mark low high =

@@ -3,4 +3,5 @@ pub mod Between
 pub mod Channel
 pub mod Line
 pub mod Round
+pub mod WhenItIsSafe
 pub mod Inner

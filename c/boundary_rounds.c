@@ -50,6 +50,10 @@ static void steps(void)
 
 static void modulos(void)
 {
+    round_blit("the second row's step of three", MOST_RAM, UP("7 FFFC", "0", "1"), 0x00C1, 0, 3,
+               "FFFF 0000*262141 FFFF FFFF", UP("0 2", "0", "0"));
+    round_blit("the second row's modulo of three", MOST_RAM, UP("0 4", "FFFA", "1"), 0x00C1, 0, 3,
+               "FFFF 0 FFFF 0000*262139 FFFF 0", UP("7 FFF8", "FFFA", "0"));
     round_blit("a negative modulo that crosses nought", MOST_RAM, UP("0 0", "FFFC", "1"), 0x0081, 0, 2,
                "FFFF 0000*262142 FFFF", UP("7 FFFC", "FFFC", "0"));
     blit("a negative modulo that comes to nought", MOST_RAM, UP("0 2", "FFFC", "1"), 0x0081, 0, 2, "FFFF FFFF 0000*262142",
@@ -130,6 +134,9 @@ static void runs_round(void)
               DOWN_FROM_0 "0058 0081 0056 0010 0058 0041", 0, 0, 3, "0 0 1111*6 0 1111*7", FILE_AFTER("12"));
     round_run("the second of two blits", "1111*16", ZERO_FILE, DOWN_FROM_0 "0058 0041 0056 0000 0058 0081", 0, 0, 3,
               "0 0 1111*14", FILE_AFTER("4"));
+    round_run("a yes stays behind a store and a flag", "1111*16", ZERO_FILE,
+              DOWN_FROM_0 "0058 0081 8000 0010 2222 C001 C000", 0, 0, 3, "0 0 1111*6 2222 1111*7",
+              "0100 0002 0000*8 0 4 0 0 0 FFFC 0000*37");
     run("refused before it goes round", "1111*16", ZERO_FILE, DOWN_FROM_0 "0041 0058 0081", 4, 10, 0, SAME,
         "0100 0002 0000*8 0 0 0 0 0 FFFC 0000*37");
     run("refused while it would go round", "1111", ZERO_FILE, DOWN_FROM_0 "0058 0081", 17, 10, 0, SAME,

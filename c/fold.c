@@ -125,10 +125,11 @@ static int fold(const struct jobfile *jobfile, struct jobfile *folded, const str
         return ERROR;
     print_answer(number, place);
     printf("length %lu, folded %lu\n", (unsigned long)jobfile->job_words, (unsigned long)length);
+    if (number != 0)
+        return REFUSED;
     agreed = print_kept_rounds(jobfile->job, jobfile->job_words, folded->ram_words, round);
-    if (number == 0)
-        print_beside(jobfile->job, jobfile->job_words, folded->job, length);
-    return !agreed ? ERROR : number == 0 ? DONE : REFUSED;
+    print_beside(jobfile->job, jobfile->job_words, folded->job, length);
+    return agreed ? DONE : ERROR;
 }
 
 int fold_command(char **words)

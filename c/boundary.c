@@ -102,8 +102,8 @@ static void check_fences_of_numbers(const char *name)
           numbers.fence3 == 4 && numbers.fence4 == 5 && numbers.fence5 == 6 && numbers.fence6 == 7);
 }
 
-static void blit_saying(uint32_t round, const char *name, const char *ram_before, const char *file_before, uint16_t size,
-                        uint32_t number, uint32_t stored, const char *ram_after, const char *file_after)
+static void blit_saying(uint32_t round, const char *name, const char *ram_before, const char *file_before,
+                        uint16_t size, uint32_t number, uint32_t stored, const char *ram_after, const char *file_after)
 {
     uint16_t *ram_words = lend(&ram, ram_before, ram_after), *file_words = lend(&file, file_before, file_after);
     lend_numbers();

@@ -7,9 +7,9 @@
 
 #define SAME NULL  /* as it was before the call */
 
-/* A call with what goes in, then what must come out: the numbers, and memory and file or the folded job. No pointer goes
- * round in it, or no blit is kept for that alone: *round must be 0. The output of a folding holds EEEE before it, and
- * must hold EEEE wherever no folded job stands. */
+/* A call with what goes in, then what must come out: the numbers, and memory and file or the folded job. No pointer
+ * goes round in it, or no blit is kept for that alone: *round must be 0. The output of a folding holds EEEE before it,
+ * and must hold EEEE wherever no folded job stands. */
 void blit(const char *name, const char *ram, const char *file, uint16_t size,
           uint32_t number, uint32_t stored, const char *ram_after, const char *file_after);
 void run(const char *name, const char *ram, const char *file, const char *job,

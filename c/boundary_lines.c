@@ -32,8 +32,9 @@ static void write_file(char *text, const struct line *line, const char *at_d, in
 typedef void blit_call(const char *name, const char *ram, const char *file, uint16_t size,
                        uint32_t number, uint32_t stored, const char *ram_after, const char *file_after);
 
-static void drawn_by(blit_call *call, const char *name, const char *ram, struct line line, uint16_t size, uint32_t stored,
-                     const char *ram_after, const char *at_after, const char *accumulator_after, int flag)
+static void drawn_by(blit_call *call, const char *name, const char *ram, struct line line, uint16_t size,
+                     uint32_t stored, const char *ram_after, const char *at_after, const char *accumulator_after,
+                     int flag)
 {
     char before[ROOM], after[ROOM];
     write_file(before, &line, line.at, !flag);
@@ -149,9 +150,10 @@ static void ends_of_memory(void)
             (struct line){"0BFA 0041 FFFF FFFF", "0 A", "8000", "8000 0 0", "FFFF 8000"}, 0x0442, 16);
     round_drawn("the same where nothing is outside", MOST_RAM,
                 (struct line){"0BFA 0041 FFFF FFFF", "0 A", "8000", "8000 0 0", "FFFF 8000"}, 0x0442, 17,
-                "0*5 " FIVE("8000 0*16383 ") FIVE("8000 0*16383 ") FIVE("8000 0*16383 ") "8000 0*16378", "7 800A", "8000", 0);
-    round_drawn("round the top, to the right", MOST_RAM, (struct line){"FBFA 0051 FFFF FFFF", "7 FFFE", LEVEL}, 0x0082, 2,
-                "8000 0*262142 0001", "0 0", "8000", 0);
+                "0*5 " FIVE("8000 0*16383 ") FIVE("8000 0*16383 ") FIVE("8000 0*16383 ") "8000 0*16378", "7 800A",
+                "8000", 0);
+    round_drawn("round the top, to the right", MOST_RAM, (struct line){"FBFA 0051 FFFF FFFF", "7 FFFE", LEVEL}, 0x0082,
+                2, "8000 0*262142 0001", "0 0", "8000", 0);
     round_drawn("round the top, to the left", MOST_RAM, (struct line){"0BFA 0055 FFFF FFFF", "0 0", LEVEL}, 0x0082, 2,
                 "8000 0*262142 0001", "7 FFFE", "8000", 0);
     round_drawn("round the top, down", MOST_RAM, (struct line){"0BFA 0041 FFFF FFFF", "7 FFFC", LEVEL}, 0x0082, 2,
@@ -161,7 +163,7 @@ static void ends_of_memory(void)
     refused("round the top of one word less", "0*262143", (struct line){"0BFA 0055 FFFF FFFF", "0 0", LEVEL}, 0x0082, 16);
 }
 
-/* The step behind the last dot doesn't count. Of two moves of a step each counts by itself, where they lead back too. */
+/* The step behind the last dot doesn't count. Of a step's two moves each counts by itself, even if they lead back. */
 static void round_or_not(void)
 {
     drawn("round the top behind the last dot, to the right", MOST_RAM,
@@ -182,21 +184,22 @@ static void round_or_not(void)
           (struct line){"0BFA 0045 FFFF FFFF", "0 0", "8000", "0 0 0", "FFFF 8000"}, 0x0082, 2, "8000 0*262143", "0 0",
           "8000", 0);
     round_drawn("left, then down: out and back in 16 words", ZEROS,
-                (struct line){"0BFA 0009 FFFF FFFF", "0 0", "0", "2 0 8000", "FFFF 8000"}, 0x0082, 2, "8001 0*15", "0 2",
-                "8000", 0);
+                (struct line){"0BFA 0009 FFFF FFFF", "0 0", "0", "2 0 8000", "FFFF 8000"}, 0x0082, 2, "8001 0*15",
+                "0 2", "8000", 0);
     drawn("down, then left: never out", ZEROS,
           (struct line){"0BFA 0015 FFFF FFFF", "0 0", "0", "2 0 8000", "FFFF 8000"}, 0x0082, 2, "8001 0*15", "0 0",
           "8000", 0);
     round_drawn("up, then right: out and back in 16 words", ZEROS,
-                (struct line){"FBFA 0019 FFFF FFFF", "0 0", "0", "2 0 8000", "FFFF 8000"}, 0x0082, 2, "8001 0*15", "0 0",
-                "8000", 0);
+                (struct line){"FBFA 0019 FFFF FFFF", "0 0", "0", "2 0 8000", "FFFF 8000"}, 0x0082, 2, "8001 0*15",
+                "0 0", "8000", 0);
     drawn("right, then up: never out", ZEROS,
           (struct line){"FBFA 0005 FFFF FFFF", "0 0", "0", "2 0 8000", "FFFF 8000"}, 0x0082, 2, "8001 0*15", "7 FFFE",
           "8000", 0);
     round_drawn("round the top to a dot that isn't stored", MOST_RAM,
                 (struct line){"FBFA 0053 FFFF FFFF", "7 FFFE", LEVEL}, 0x0082, 1, "0*262143 0001", "0 0", "8000", 0);
     round_drawn("round the top in the middle of a line", MOST_RAM,
-                (struct line){"EBFA 0051 FFFF FFFF", "7 FFFE", LEVEL}, 0x0102, 4, "C000 0*262142 0003", "0 0", "8000", 0);
+                (struct line){"EBFA 0051 FFFF FFFF", "7 FFFE", LEVEL}, 0x0102, 4, "C000 0*262142 0003", "0 0", "8000",
+                0);
 }
 
 static void longest(void)

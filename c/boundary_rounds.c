@@ -1,5 +1,5 @@
-/* Pointers that go round, in the boundary test: what blits, runs and foldings must say of them is written out from paper
- * 02, W12. Where *round must be 0 the call is blit, run or fold, where it must be 1 round_blit, round_run or
+/* Pointers that go round, in the boundary test: what blits, runs and foldings must say of them is written out from
+ * paper 02, W12. Where *round must be 0 the call is blit, run or fold, where it must be 1 round_blit, round_run or
  * round_fold. */
 #include "boundary.h"
 
@@ -27,7 +27,8 @@ static void out_and_back(void)
          "0 FFFF FFFF FFFF 0000*12", DOWN("0 6", "FFFA", "0"));
     round_blit("one word of memory, two rows", "0", DOWN("0 0", "FFFE", "1"), 0x0081, 0, 2, "FFFF",
                DOWN("0 0", "FFFE", "0"));
-    blit("one word of memory, two rows upward", "0", UP("0 0", "FFFE", "1"), 0x0081, 0, 2, "FFFF", UP("0 0", "FFFE", "0"));
+    blit("one word of memory, two rows upward", "0", UP("0 0", "FFFE", "1"), 0x0081, 0, 2, "FFFF",
+         UP("0 0", "FFFE", "0"));
 }
 
 static void steps(void)
@@ -56,10 +57,10 @@ static void modulos(void)
                "FFFF 0 FFFF 0000*262139 FFFF 0", UP("7 FFF8", "FFFA", "0"));
     round_blit("a negative modulo that crosses nought", MOST_RAM, UP("0 0", "FFFC", "1"), 0x0081, 0, 2,
                "FFFF 0000*262142 FFFF", UP("7 FFFC", "FFFC", "0"));
-    blit("a negative modulo that comes to nought", MOST_RAM, UP("0 2", "FFFC", "1"), 0x0081, 0, 2, "FFFF FFFF 0000*262142",
-         UP("7 FFFE", "FFFC", "0"));
-    blit("a negative modulo that doesn't cross nought", ZEROS, UP("0 4", "FFFC", "1"), 0x00C1, 0, 3, "FFFF FFFF FFFF 0000*13",
-         UP("7 FFFE", "FFFC", "0"));
+    blit("a negative modulo that comes to nought", MOST_RAM, UP("0 2", "FFFC", "1"), 0x0081, 0, 2,
+         "FFFF FFFF 0000*262142", UP("7 FFFE", "FFFC", "0"));
+    blit("a negative modulo that doesn't cross nought", ZEROS, UP("0 4", "FFFC", "1"), 0x00C1, 0, 3,
+         "FFFF FFFF FFFF 0000*13", UP("7 FFFE", "FFFC", "0"));
     blit("the last row's modulo crosses nought", ZEROS, UP("0 0", "8000", "1"), 0x0041, 0, 1, "FFFF 0000*15",
          UP("7 8002", "8000", "0"));
     round_blit("a modulo over the top", MOST_RAM, UP("7 FFFC", "2", "1"), 0x0081, 0, 2, "FFFF 0000*262141 FFFF 0000",
@@ -70,8 +71,8 @@ static void modulos(void)
          UP("0 2", "2", "0"));
     round_blit("the step over the top, led back by the modulo", MOST_RAM, UP("7 FFFE", "FFFE", "1"), 0x0081, 0, 2,
                "0000*262143 FFFF", UP("7 FFFE", "FFFE", "0"));
-    round_blit("down, a modulo over the bottom", MOST_RAM, DOWN("0 2", "2", "1"), 0x0081, 0, 2, "0 FFFF 0000*262141 FFFF",
-               DOWN("7 FFFA", "2", "0"));
+    round_blit("down, a modulo over the bottom", MOST_RAM, DOWN("0 2", "2", "1"), 0x0081, 0, 2,
+               "0 FFFF 0000*262141 FFFF", DOWN("7 FFFA", "2", "0"));
     blit("down, a modulo to the bottom", MOST_RAM, DOWN("0 4", "2", "1"), 0x0081, 0, 2, "FFFF 0 FFFF 0000*262141",
          DOWN("7 FFFC", "2", "0"));
     round_blit("a modulo of 8000 down", MOST_RAM, UP("0 7FFC", "8000", "1"), 0x0081, 0, 2,
@@ -93,12 +94,12 @@ static void channels(void)
                SAME, "0200 0000 0000 0000  0 2 0 0 0 0 0 0  0000*40 1");
     round_blit("A alone in 16 words, D not used", ZEROS, "0800 0002 0000 0000  0 0 0 0 0 0 0 0  0 0 FFFC 0  0000*36 0",
                0x0081, 0, 0, SAME, "0800 0002 0000 0000  0 0 0 0 0 4 0 0  0 0 FFFC 0  0000*36 1");
-    blit("all at the top, none used", MOST_RAM, "0000 0000 0000 0000  7 FFFE 7 FFFE 7 FFFE 7 FFFE  0000*40 0", 0x0082, 0, 0,
-         SAME, "0000 0000 0000 0000  7 FFFE 7 FFFE 7 FFFE 7 FFFE  0000*40 1");
-    blit("all but D at the top, D alone used", MOST_RAM, "0100 0000 0000 0000  7 FFFE 7 FFFE 7 FFFE 0 0  0000*40 0", 0x0082,
-         0, 4, SAME, "0100 0000 0000 0000  7 FFFE 7 FFFE 7 FFFE 0 8  0000*40 1");
-    blit("D at the top, A alone used", MOST_RAM, "0800 0000 0000 0000  0 0 0 0 0 0 7 FFFE  0000*40 0", 0x0082, 0, 0, SAME,
-         "0800 0000 0000 0000  0 0 0 0 0 8 7 FFFE  0000*40 1");
+    blit("all at the top, none used", MOST_RAM, "0000 0000 0000 0000  7 FFFE 7 FFFE 7 FFFE 7 FFFE  0000*40 0", 0x0082,
+         0, 0, SAME, "0000 0000 0000 0000  7 FFFE 7 FFFE 7 FFFE 7 FFFE  0000*40 1");
+    blit("all but D at the top, D alone used", MOST_RAM, "0100 0000 0000 0000  7 FFFE 7 FFFE 7 FFFE 0 0  0000*40 0",
+         0x0082, 0, 4, SAME, "0100 0000 0000 0000  7 FFFE 7 FFFE 7 FFFE 0 8  0000*40 1");
+    blit("D at the top, A alone used", MOST_RAM, "0800 0000 0000 0000  0 0 0 0 0 0 7 FFFE  0000*40 0", 0x0082, 0, 0,
+         SAME, "0800 0000 0000 0000  0 0 0 0 0 8 7 FFFE  0000*40 1");
 }
 
 /* A blit that is refused says nothing of its pointers. */
@@ -112,7 +113,10 @@ static void refused(void)
     blit("both fills", ZEROS, "01FF 001A 0000*10 0000*3 FFFC 0000*36 1", 0x0081, 8, 0, SAME, SAME);
 }
 
-/* D alone, function 00, down from word 0, modulo -4: with 0081 it goes round, with 0041 it doesn't. */
+/* D alone, function 00, up from words 262,143 and 262,142. */
+#define UP_FROM_7FFFE "0040 0100 0042 0000 0054 0007 0056 FFFE 0066 0000 "
+#define UP_FROM_7FFFC "0040 0100 0042 0000 0054 0007 0056 FFFC 0066 0000 "
+/* The same down from word 0, modulo -4: with 0081 it goes round, with 0041 it doesn't. */
 #define DOWN_FROM_0 "0040 0100 0042 0002 0054 0000 0056 0000 0066 FFFC "
 /* What it leaves in the file. */
 #define FILE_AFTER(low) "0100 0002 0000*8 0 " low " 0 0 0 FFFC 0000*36 1"
@@ -158,24 +162,24 @@ static void foldings_round(void)
     round_fold("down from word 0, two rows: kept", 16, KEPT(DOWN_FROM_0 "0058 0081"), 12, DOWN_FROM_0 "0058 0081");
     fold("one row: settled", 16, KEPT(DOWN_FROM_0 "0058 0041"), 18,
          DOWN_FROM_0 "8000 0000 0000 0054 0000 0056 0002 C001");
-    round_fold("a row over the top: kept", 262144, KEPT("0040 0100 0042 0000 0054 0007 0056 FFFE 0066 0000 0058 0042"), 12,
-               "0040 0100 0042 0000 0054 0007 0056 FFFE 0066 0000 0058 0042");
-    fold("a row up to the top: settled", 262144, KEPT("0040 0100 0042 0000 0054 0007 0056 FFFC 0066 0000 0058 0042"), 21,
-         "0040 0100 0042 0000 0054 0007 0056 FFFC 0066 0000 8007 FFFC 0000 8007 FFFE 0000 0054 0000 0056 0000 C001");
-    fold("over the top of one word less: kept because it is refused", 262143,
-         KEPT("0040 0100 0042 0000 0054 0007 0056 FFFE 0066 0000 0058 0042"), 12,
-         "0040 0100 0042 0000 0054 0007 0056 FFFE 0066 0000 0058 0042");
-    fold("kept for its modulo too, which isn't known", 16,
-         KEPT("0040 0100 0042 0002 0054 0000 0056 0000 0058 0081"), 10, "0040 0100 0042 0002 0054 0000 0056 0000 0058 0081");
-    fold("kept for its function too", 16, KEPT(DOWN_FROM_0 "0040 01CC 0058 0081"), 14, DOWN_FROM_0 "0040 01CC 0058 0081");
-    fold("kept for its source too", 16, KEPT(DOWN_FROM_0 "0040 0900 0058 0081"), 14, DOWN_FROM_0 "0040 0900 0058 0081");
+    round_fold("a row over the top: kept", 262144, KEPT(UP_FROM_7FFFE "0058 0042"), 12, UP_FROM_7FFFE "0058 0042");
+    fold("a row up to the top: settled", 262144, KEPT(UP_FROM_7FFFC "0058 0042"), 21,
+         UP_FROM_7FFFC "8007 FFFC 0000 8007 FFFE 0000 0054 0000 0056 0000 C001");
+    fold("over the top of one word less: kept because it is refused", 262143, KEPT(UP_FROM_7FFFE "0058 0042"), 12,
+         UP_FROM_7FFFE "0058 0042");
+    fold("kept for its unknown modulo too", 16, KEPT("0040 0100 0042 0002 0054 0000 0056 0000 0058 0081"), 10,
+         "0040 0100 0042 0002 0054 0000 0056 0000 0058 0081");
+    fold("kept for its function too", 16, KEPT(DOWN_FROM_0 "0040 01CC 0058 0081"), 14,
+         DOWN_FROM_0 "0040 01CC 0058 0081");
+    fold("kept for its source too", 16, KEPT(DOWN_FROM_0 "0040 0900 0058 0081"), 14,
+         DOWN_FROM_0 "0040 0900 0058 0081");
     fold("kept for a channel that isn't D", 16, KEPT(DOWN_FROM_0 "0040 0800 0058 0081"), 14,
          DOWN_FROM_0 "0040 0800 0058 0081");
-    fold("kept for its 65 rows too", 128, KEPT(DOWN_FROM_0 "0066 FFFE 0058 1041"), 14, DOWN_FROM_0 "0066 FFFE 0058 1041");
+    fold("kept for its 65 rows too", 128, KEPT(DOWN_FROM_0 "0066 FFFE 0058 1041"), 14,
+         DOWN_FROM_0 "0066 FFFE 0058 1041");
     round_fold("64 rows: kept for that alone", 128, KEPT(DOWN_FROM_0 "0066 FFFE 0058 1001"), 14,
                DOWN_FROM_0 "0066 FFFE 0058 1001");
-    fold("a line", 262144, KEPT("0040 0100 0042 0003 0054 0007 0056 FFFE 0066 0000 0058 0042"), 12,
-         "0040 0100 0042 0003 0054 0007 0056 FFFE 0066 0000 0058 0042");
+    fold("a line", 262144, KEPT(UP_FROM_7FFFE "0042 0003 0058 0042"), 14, UP_FROM_7FFFE "0042 0003 0058 0042");
     round_fold("after it the pointer isn't known", 16, KEPT(DOWN_FROM_0 "0058 0081 0058 0041"), 14,
                DOWN_FROM_0 "0058 0081 0058 0041");
     round_fold("after it the pointer is written again", 16,
@@ -184,8 +188,8 @@ static void foldings_round(void)
     round_fold("behind a settled one", 16, KEPT(DOWN_FROM_0 "0058 0041 0056 0000 0058 0081"), 22,
                DOWN_FROM_0 "8000 0000 0000 0054 0000 0056 0002 C001 0056 0000 0058 0081");
     round_fold("where a settled one leaves the pointer", 262144,
-               KEPT("0040 0100 0042 0000 0054 0007 0056 FFFC 0066 0000 0058 0041 0058 0042"), 20,
-               "0040 0100 0042 0000 0054 0007 0056 FFFC 0066 0000 8007 FFFC 0000 0054 0007 0056 FFFE C001 0058 0042");
+               KEPT(UP_FROM_7FFFC "0058 0041 0058 0042"), 20,
+               UP_FROM_7FFFC "8007 FFFC 0000 0054 0007 0056 FFFE C001 0058 0042");
 }
 
 /* A refused folding says nothing of the blits before. */

@@ -101,7 +101,8 @@ static const char *difference_of_runs(const struct test *test)
 static size_t out_words_of(const struct test *test)
 {
     uint32_t number, place, length, round;
-    plain_fold(test->ram_words, test->job, test->job_words, plain.out + FENCE, OUT_ROOM, &number, &place, &length, &round);
+    plain_fold(test->ram_words, test->job, test->job_words, plain.out + FENCE, OUT_ROOM,
+               &number, &place, &length, &round);
     if (number == 11)
         return OUT_ROOM + test->spare - 40;
     return test->spare < 0 && length == 0 ? 0 : length + test->spare;

@@ -171,8 +171,8 @@ void pick_screen(uint16_t *file)
     file[ZERO_FLAG] = below(2);
 }
 
-/* One blit in so many is a line, fewer where it could be settled; of the others one in so many is laid where the pointers
- * end. */
+/* One blit in so many is a line, fewer where it could be settled; of the others one in so many is laid where the
+ * pointers end, unless D lies over a source. */
 enum { LINE_SHARE = 3, LINE_SHARE_AMONG_SETTLED = 8, ROUND_SHARE = 8 };
 
 void make_plan(struct plan *plan, uint32_t n, bool settled, bool risk)

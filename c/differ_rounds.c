@@ -8,8 +8,9 @@
 
 enum { DESCENDING = 0x02, NEAREST = 2, MOST_ROWS = 3, SETTLED_WORDS = 64, FEW = 70, LINE_DOTS = 20 };
 
-/* What was said of pointers: by blits and lines called alone, by runs, by refused runs, by foldings, by a folded job and
- * its original alike; and how many blits and lines called alone said it in memory that has fewer words than pointers. */
+/* What was said of pointers: by blits and lines called alone, by runs, by refused runs, by foldings, by a folded job
+ * and its original alike; and how many blits and lines called alone said it in memory that has fewer words than
+ * pointers. */
 static uint64_t in_areas[2], in_lines[2], in_runs[2], in_refused, in_foldings[2], in_pairs, in_small[2];
 
 void count_round(const struct test *test)
@@ -33,10 +34,12 @@ void count_round_of_pair(const struct side *side) { in_pairs += side->round; }
 void print_rounds(void)
 {
     printf("gone round: %" PRIu64 " area blits of %" PRIu64 ", %" PRIu64 " lines of %" PRIu64
-           ", in fewer words than pointers have %" PRIu64 " and %" PRIu64 "; %" PRIu64 " runs of %" PRIu64
-           ", refused later %" PRIu64 "; %" PRIu64 " foldings of %" PRIu64 " kept a blit for that alone; pairs of runs %" PRIu64
-           "\n", in_areas[1], in_areas[0] + in_areas[1], in_lines[1], in_lines[0] + in_lines[1], in_small[0], in_small[1],
-           in_runs[1], in_runs[0] + in_runs[1], in_refused, in_foldings[1], in_foldings[0] + in_foldings[1], in_pairs);
+           ", in fewer words than pointers have %" PRIu64 " and %" PRIu64 "; ",
+           in_areas[1], in_areas[0] + in_areas[1], in_lines[1], in_lines[0] + in_lines[1], in_small[0], in_small[1]);
+    printf("%" PRIu64 " runs of %" PRIu64 ", refused later %" PRIu64 "; %" PRIu64 " pairs of runs; ",
+           in_runs[1], in_runs[0] + in_runs[1], in_refused, in_pairs);
+    printf("%" PRIu64 " foldings of %" PRIu64 " kept a blit for that alone\n",
+           in_foldings[1], in_foldings[0] + in_foldings[1]);
 }
 
 bool rounds_came(bool in_jobs)
@@ -309,7 +312,8 @@ static bool all_areas(void)
     return true;
 }
 
-/* A line whose pointer, behind so many of its dots, is at a word near an end; in few words, whose first dot is there. */
+/* A line whose pointer, behind so many of its dots, is at a word near an end; in few words, whose first dot is there.
+ */
 static bool alike_line(uint32_t dots, int32_t word)
 {
     set_line_pointer(&plan, word - way_behind(&plan, dots));
@@ -319,8 +323,8 @@ static bool alike_line(uint32_t dots, int32_t word)
     return alike(1 + below(8));
 }
 
-/* Every octant, with SING and without, either sign, at a word's ends and inside it, rows of no word, one or two, down and
- * up, behind the first dot, the last and the last but one. */
+/* Every octant, with SING and without, either sign, at a word's ends and inside it, rows of no word, one or two, down
+ * and up, behind the first dot, the last and the last but one. */
 static bool all_lines(void)
 {
     static const int8_t rows[] = {0, 1, -1, 2, -2};

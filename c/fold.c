@@ -97,7 +97,8 @@ static bool carry_leaves(const struct jobfile *jobfile, struct jobfile *folded, 
     struct run own = run_of(jobfile, &machines[0]), run = run_of(folded, &machines[1]);
 
     folded->leaves.place = run.place;
-    if (own.number == run.number && own.count == run.count && own.round == run.round && same_machine(&machines[0], &machines[1]))
+    if (own.number == run.number && own.count == run.count && own.round == run.round
+        && same_machine(&machines[0], &machines[1]))
         return true;
     fprintf(stderr, "%s: on memory of %lu words it ends otherwise than on its own %lu, for which it says what it "
             "leaves; %s isn't written\n", request->name, (unsigned long)folded->ram_words,

@@ -123,8 +123,8 @@ static bool read_answer(struct reader *reader, const struct answer *answer)
     return stands_in(reader, answer->of) && last_number(reader, answer->name, answer->number);
 }
 
-/* leaves number N, leaves place N, leaves count N, leaves round .., leaves why .., leaves done N, leaves word N, leaves beam ..,
- * leaves at ADDRESS WORD.., leaves REGISTER VALUE */
+/* leaves number N, leaves place N, leaves count N, leaves round .., leaves why .., leaves done N, leaves word N,
+ * leaves beam .., leaves at ADDRESS WORD.., leaves REGISTER VALUE */
 static bool read_leaves(struct reader *reader)
 {
     struct leaves *leaves = &reader->into->leaves;

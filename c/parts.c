@@ -6,8 +6,8 @@
 
 enum { SIZE_STEP = 2 };
 
-/* The place of the next write of BLTSIZE; the job's end if there is none, if a step before it is refused, or if the job is
- * refused for its length. */
+/* The place of the next write of BLTSIZE; the job's end if there is none, if a step before it is refused, or if the job
+ * is refused for its length. */
 static size_t next_size(const struct jobfile *jobfile, size_t place)
 {
     struct step step;
@@ -24,7 +24,8 @@ static size_t next_size(const struct jobfile *jobfile, size_t place)
     return jobfile->job_words;
 }
 
-/* Runs the words from a place up to another, where the machine stands; gives how these ended, and adds it to the run. */
+/* Runs the words from a place up to another, where the machine stands; gives how these ended, and adds it to the run.
+ */
 static struct run run_part(const struct jobfile *jobfile, struct machine *machine, size_t from, size_t to,
                            struct run *run)
 {

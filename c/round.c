@@ -11,8 +11,8 @@
 enum { POINTERS = 262144, WORD_BITS = 16, SIZE_STEP = 2 };
 enum { DESCENDING = 0x02, LINE = 0x01, AUL = 0x04, SUL = 0x08, SUD = 0x10, SIGN = 0x40 };
 
-/* A move that went round: behind a word of which row, or behind which dot, counted from 1; what kind of move it was; from
- * which word to which. */
+/* A move that went round: behind a word of which row, or behind which dot, counted from 1; what kind of move it was;
+ * from which word to which. */
 struct going {
     unsigned row;
     const char *how;
@@ -230,8 +230,9 @@ static bool keeps_one(const uint16_t *job, size_t words, size_t ram_words, uint1
     return round == 1;
 }
 
-/* A job's first words are a job, of which the folder says whether it keeps one. Each blit found so is made too large to be
- * settled: it is then kept for another reason too, and after it as much is known, so that the next one shows itself. */
+/* A job's first words are a job, of which the folder says whether it keeps one. Each blit found so is made too large to
+ * be settled: it is then kept for another reason too, and after it as much is known, so that the next one shows itself.
+ */
 bool print_kept_rounds(const uint16_t *job, size_t words, size_t ram_words, uint32_t round)
 {
     static uint16_t left[JOB_LIMIT];

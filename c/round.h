@@ -10,10 +10,11 @@
 #include "jobfile.h"
 #include "machine.h"
 
-/* Tells where a run went round, of which round says whether it did: 'went round: yes' and a line for each blit, with the
- * place of its write of BLTSIZE, and for each channel the row, in a line the dot, behind whose word it first went round
- * and from which byte to which. Where it didn't, nothing. The job is run once more, in parts, on the machine. Answers
- * whether what is reckoned agrees with what the archive says of each blit; where not, says so on standard error. */
+/* Tells where a run went round, of which round says whether it did: 'went round: yes' and a line for each blit, with
+ * the place of its write of BLTSIZE, and for each channel the row, in a line the dot, behind whose word it first went
+ * round and from which byte to which. Where it didn't, nothing. The job is run once more, in parts, on the machine.
+ * Answers whether what is reckoned agrees with what the archive says of each blit; where not, says so on standard
+ * error. */
 bool print_rounds(const struct jobfile *jobfile, struct machine *machine, uint32_t round);
 
 /* The same of the blits that a folding for so many words of memory, which is done, kept for going round alone, under

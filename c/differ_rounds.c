@@ -8,6 +8,9 @@
 
 enum { DESCENDING = 0x02, NEAREST = 2, MOST_ROWS = 3, SETTLED_WORDS = 64, FEW = 70, LINE_DOTS = 20 };
 
+/* Memory of so many words or more has nearly all that pointers have. */
+enum { NEARLY_ALL = POINTERS - 19 };
+
 /* What was said of pointers: by blits and lines called alone, by runs, by refused runs, by foldings, by a folded job
  * and its original alike; and how many blits and lines called alone said it in memory that has fewer words than
  * pointers. */
@@ -112,7 +115,7 @@ void lay_round(struct plan *plan, uint32_t n)
 {
     int channel = one_in(2) ? D_CHANNEL : below(CHANNELS);
     int32_t width = plan->width;
-    if (n + 20 > POINTERS) {
+    if (n >= NEARLY_ALL) {
         if (one_in(2))
             lay_others(plan, channel);
         lay_channel(plan, channel, pick_half(width), pick_move(plan), pick_end());
@@ -317,7 +320,7 @@ static bool all_areas(void)
 static bool alike_line(uint32_t dots, int32_t word)
 {
     set_line_pointer(&plan, word - way_behind(&plan, dots));
-    if (!alike(POINTERS))
+    if (!alike(POINTERS - (one_in(4) ? below(3) : 0)))
         return false;
     set_line_pointer(&plan, word + NEAREST);
     return alike(1 + below(8));

@@ -16,7 +16,8 @@ MAKEFLAGS += -r
 
 # the desk tool's files
 tool = c/desk.c c/check.c c/copper.c c/drawn.c c/fold.c c/instruction.c c/jobfile.c c/jobwrite.c c/known.c c/line.c \
-       c/listing.c c/machine.c c/outcome.c c/outfile.c c/picture.c c/picturefile.c c/reader.c c/step.c c/text.c
+       c/listing.c c/machine.c c/outcome.c c/outfile.c c/parts.c c/picture.c c/picturefile.c c/reader.c c/round.c \
+       c/step.c c/text.c
 archive = target/staticlib/libdesk.a
 # what is proved; a folder changes when a file in it comes or goes
 proved := crates.txt $(shell find crates -name must-fail -prune -o -print)

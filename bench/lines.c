@@ -18,7 +18,7 @@ enum { USES = 0x0B00, LINE = 0x01, SING = 0x02, SIGN = 0x40 };
 enum { RIGHT_DOWN = 0x10, LEFT_UP = 0x1C, DOWN_RIGHT = 0x00, UP_LEFT = 0x0C };
 
 typedef void blit_call(uint16_t *ram, size_t ram_words, uint16_t *file, size_t file_words, uint16_t size,
-                       uint32_t *number, uint32_t *stored);
+                       uint32_t *number, uint32_t *stored, uint32_t *round);
 
 /* A line's function, octant and texture. Its shorter side is so many quarters of its longer one. */
 struct line_case {
@@ -93,9 +93,9 @@ static void make_file(uint16_t *file, const struct line_case *line, uint32_t dot
 
 static void once(blit_call *engine, uint16_t *words, uint16_t *left, const uint16_t *file, uint16_t size)
 {
-    uint32_t number, stored;
+    uint32_t number, stored, round;
     memcpy(left, file, FILE_WORDS * sizeof *left);
-    engine(words, ram_words, left, FILE_WORDS, size, &number, &stored);
+    engine(words, ram_words, left, FILE_WORDS, size, &number, &stored, &round);
     if (number != 0)
         fail("the line was refused");
 }

@@ -30,7 +30,7 @@ static const struct { const char *name; uint16_t con1; } ways[] = {
 static const unsigned widths[] = {1, 2, 3, 6, 20, 40, 64};
 
 typedef void blit_call(uint16_t *ram, size_t ram_words, uint16_t *file, size_t file_words, uint16_t size,
-                       uint32_t *number, uint32_t *stored);
+                       uint32_t *number, uint32_t *stored, uint32_t *round);
 
 /* One blit: its register file, and its size. */
 struct blit {
@@ -59,9 +59,9 @@ static void do_all(blit_call *with, uint16_t *words)
 {
     for (size_t i = 0; i < blits; i++) {
         uint16_t file[FILE_WORDS];
-        uint32_t number, stored;
+        uint32_t number, stored, round;
         memcpy(file, work[i].file, sizeof file);
-        with(words, RAM_WORDS, file, FILE_WORDS, work[i].size, &number, &stored);
+        with(words, RAM_WORDS, file, FILE_WORDS, work[i].size, &number, &stored, &round);
         if (number != 0)
             fail("a blit was refused");
     }

@@ -15,9 +15,9 @@ enum { RAM_ROOM = 262144, FILE_WORDS = 53, JOB_WORDS = 4096, PITCH = 20 };
 enum { C, B, A, D, CHANNELS, REGION = RAM_ROOM / CHANNELS };
 
 typedef void blit_call(uint16_t *ram, size_t ram_words, uint16_t *file, size_t file_words, uint16_t size,
-                       uint32_t *number, uint32_t *stored);
+                       uint32_t *number, uint32_t *stored, uint32_t *round);
 typedef void fold_call(size_t ram_words, const uint16_t *job, size_t job_words, uint16_t *out, size_t out_words,
-                       uint32_t *number, uint32_t *place, uint32_t *length);
+                       uint32_t *number, uint32_t *place, uint32_t *length, uint32_t *round);
 
 /* A blit's control. Each channel has a quarter of memory to itself, but D may lie over another, so many words on. */
 struct blit_case {
@@ -82,9 +82,9 @@ static void make_file(uint16_t *file, const struct blit_case *blit, uint32_t row
 static uint32_t blit_once(blit_call *engine, uint16_t *words, const uint16_t *file, uint16_t size)
 {
     uint16_t own[FILE_WORDS];
-    uint32_t number, stored;
+    uint32_t number, stored, round;
     memcpy(own, file, sizeof own);
-    engine(words, ram_words, own, FILE_WORDS, size, &number, &stored);
+    engine(words, ram_words, own, FILE_WORDS, size, &number, &stored, &round);
     if (number != 0)
         fail("the blit was refused");
     return stored;
@@ -136,8 +136,8 @@ static void make_job(const char *name, size_t words)
 
 static uint32_t fold_once(fold_call *engine, size_t words, uint16_t *folded)
 {
-    uint32_t number, place, length;
-    engine(ram_words, job, words, folded, JOB_WORDS, &number, &place, &length);
+    uint32_t number, place, length, round;
+    engine(ram_words, job, words, folded, JOB_WORDS, &number, &place, &length, &round);
     if (number != 0)
         fail("the job was refused");
     return length;

@@ -24,9 +24,9 @@ struct planes {
     size_t count;
 };
 
-/* Five numbers between fences. */
+/* Six numbers between fences. */
 struct numbers {
-    uint32_t fence0, number, fence1, place, fence2, count, fence3, why, fence4, word, fence5;
+    uint32_t fence0, number, fence1, place, fence2, count, fence3, why, fence4, word, fence5, round, fence6;
 };
 
 static struct run ram, file, job, out;
@@ -92,44 +92,71 @@ static void check_run(const char *name, const char *what, const char *fence, con
 
 static void lend_numbers(void)
 {
-    static const struct numbers unwritten = {1, 0xDEAD, 2, 0xDEAD, 3, 0xDEAD, 4, 0xDEAD, 5, 0xDEAD, 6};
+    static const struct numbers unwritten = {1, 0xDEAD, 2, 0xDEAD, 3, 0xDEAD, 4, 0xDEAD, 5, 0xDEAD, 6, 0xDEAD, 7};
     numbers = unwritten;
 }
 
 static void check_fences_of_numbers(const char *name)
 {
     check(name, "the fence of a number", numbers.fence0 == 1 && numbers.fence1 == 2 && numbers.fence2 == 3 &&
-          numbers.fence3 == 4 && numbers.fence4 == 5 && numbers.fence5 == 6);
+          numbers.fence3 == 4 && numbers.fence4 == 5 && numbers.fence5 == 6 && numbers.fence6 == 7);
+}
+
+static void blit_saying(uint32_t round, const char *name, const char *ram_before, const char *file_before,
+                        uint16_t size, uint32_t number, uint32_t stored, const char *ram_after, const char *file_after)
+{
+    uint16_t *ram_words = lend(&ram, ram_before, ram_after), *file_words = lend(&file, file_before, file_after);
+    lend_numbers();
+    desk_blit(ram_words, ram.words, file_words, file.words, size, &numbers.number, &numbers.count, &numbers.round);
+    check_number(name, "number", numbers.number, number);
+    check_number(name, "stored", numbers.count, stored);
+    check_number(name, "round", numbers.round, round);
+    check_fences_of_numbers(name);
+    check_run(name, "memory", "the fence of memory", &ram);
+    check_run(name, "file", "the fence of the file", &file);
 }
 
 void blit(const char *name, const char *ram_before, const char *file_before, uint16_t size,
           uint32_t number, uint32_t stored, const char *ram_after, const char *file_after)
 {
-    uint16_t *ram_words = lend(&ram, ram_before, ram_after), *file_words = lend(&file, file_before, file_after);
-    lend_numbers();
-    desk_blit(ram_words, ram.words, file_words, file.words, size, &numbers.number, &numbers.count);
-    check_number(name, "number", numbers.number, number);
-    check_number(name, "stored", numbers.count, stored);
-    check_fences_of_numbers(name);
-    check_run(name, "memory", "the fence of memory", &ram);
-    check_run(name, "file", "the fence of the file", &file);
+    blit_saying(0, name, ram_before, file_before, size, number, stored, ram_after, file_after);
 }
 
-void run(const char *name, const char *ram_before, const char *file_before, const char *job_before,
-         uint32_t number, uint32_t place, uint32_t stored, const char *ram_after, const char *file_after)
+void round_blit(const char *name, const char *ram_before, const char *file_before, uint16_t size,
+                uint32_t number, uint32_t stored, const char *ram_after, const char *file_after)
+{
+    blit_saying(1, name, ram_before, file_before, size, number, stored, ram_after, file_after);
+}
+
+static void run_saying(uint32_t round, const char *name, const char *ram_before, const char *file_before,
+                       const char *job_before, uint32_t number, uint32_t place, uint32_t stored,
+                       const char *ram_after, const char *file_after)
 {
     uint16_t *ram_words = lend(&ram, ram_before, ram_after), *file_words = lend(&file, file_before, file_after);
     uint16_t *job_words = lend(&job, job_before, SAME);
     lend_numbers();
     desk_run(ram_words, ram.words, file_words, file.words, job_words, job.words,
-             &numbers.number, &numbers.place, &numbers.count);
+             &numbers.number, &numbers.place, &numbers.count, &numbers.round);
     check_number(name, "number", numbers.number, number);
     check_number(name, "place", numbers.place, place);
     check_number(name, "stored", numbers.count, stored);
+    check_number(name, "round", numbers.round, round);
     check_fences_of_numbers(name);
     check_run(name, "memory", "the fence of memory", &ram);
     check_run(name, "file", "the fence of the file", &file);
     check_run(name, "job", "the fence of the job", &job);
+}
+
+void run(const char *name, const char *ram_before, const char *file_before, const char *job_before,
+         uint32_t number, uint32_t place, uint32_t stored, const char *ram_after, const char *file_after)
+{
+    run_saying(0, name, ram_before, file_before, job_before, number, place, stored, ram_after, file_after);
+}
+
+void round_run(const char *name, const char *ram_before, const char *file_before, const char *job_before,
+               uint32_t number, uint32_t place, uint32_t stored, const char *ram_after, const char *file_after)
+{
+    run_saying(1, name, ram_before, file_before, job_before, number, place, stored, ram_after, file_after);
 }
 
 /* The output, or a target: EEEE throughout, and afterwards the folded job, the new file or the line, with EEEE beyond
@@ -146,18 +173,32 @@ static uint16_t *lend_out(size_t words, const char *written)
     return lent;
 }
 
-void fold(const char *name, size_t ram_words, const char *job_before, size_t out_words,
-          uint32_t number, uint32_t place, uint32_t length, const char *folded)
+static void fold_saying(uint32_t round, const char *name, size_t ram_words, const char *job_before, size_t out_words,
+                        uint32_t number, uint32_t place, uint32_t length, const char *folded)
 {
     uint16_t *job_words = lend(&job, job_before, SAME), *lent = lend_out(out_words, folded);
     lend_numbers();
-    desk_fold(ram_words, job_words, job.words, lent, out.words, &numbers.number, &numbers.place, &numbers.count);
+    desk_fold(ram_words, job_words, job.words, lent, out.words,
+              &numbers.number, &numbers.place, &numbers.count, &numbers.round);
     check_number(name, "number", numbers.number, number);
     check_number(name, "place", numbers.place, place);
     check_number(name, "length", numbers.count, length);
+    check_number(name, "round", numbers.round, round);
     check_fences_of_numbers(name);
     check_run(name, "job", "the fence of the job", &job);
     check_run(name, "output", "the fence of the output", &out);
+}
+
+void fold(const char *name, size_t ram_words, const char *job_before, size_t out_words,
+          uint32_t number, uint32_t place, uint32_t length, const char *folded)
+{
+    fold_saying(0, name, ram_words, job_before, out_words, number, place, length, folded);
+}
+
+void round_fold(const char *name, size_t ram_words, const char *job_before, size_t out_words,
+                uint32_t number, uint32_t place, uint32_t length, const char *folded)
+{
+    fold_saying(1, name, ram_words, job_before, out_words, number, place, length, folded);
 }
 
 void widen(const char *name, const char *old_before, size_t target_words, uint32_t number, const char *new_file)
@@ -247,6 +288,7 @@ int main(void)
     frames();
     pictures();
     lines();
+    rounds();
     printf("boundary: %lu checks, %lu failed\n", checks, failed);
     return failed != 0;
 }

@@ -7,14 +7,23 @@
 
 #define SAME NULL  /* as it was before the call */
 
-/* A call with what goes in, then what must come out: the numbers, and memory and file or the folded job.
- * The output of a folding holds EEEE before it, and must hold EEEE wherever no folded job stands. */
+/* A call with what goes in, then what must come out: the numbers, and memory and file or the folded job. No pointer
+ * goes round in it, or no blit is kept for that alone: *round must be 0. The output of a folding holds EEEE before it,
+ * and must hold EEEE wherever no folded job stands. */
 void blit(const char *name, const char *ram, const char *file, uint16_t size,
           uint32_t number, uint32_t stored, const char *ram_after, const char *file_after);
 void run(const char *name, const char *ram, const char *file, const char *job,
          uint32_t number, uint32_t place, uint32_t stored, const char *ram_after, const char *file_after);
 void fold(const char *name, size_t ram_words, const char *job, size_t out_words,
           uint32_t number, uint32_t place, uint32_t length, const char *folded);
+
+/* The same where a pointer goes round, or a blit is kept for that alone: *round must be 1. */
+void round_blit(const char *name, const char *ram, const char *file, uint16_t size,
+                uint32_t number, uint32_t stored, const char *ram_after, const char *file_after);
+void round_run(const char *name, const char *ram, const char *file, const char *job,
+               uint32_t number, uint32_t place, uint32_t stored, const char *ram_after, const char *file_after);
+void round_fold(const char *name, size_t ram_words, const char *job, size_t out_words,
+                uint32_t number, uint32_t place, uint32_t length, const char *folded);
 
 /* An old file, and the words of a target that holds EEEE before; afterwards it holds the new file, and EEEE wherever that
  * doesn't stand. */
@@ -38,5 +47,6 @@ void screens(void);
 void frames(void);
 void pictures(void);
 void lines(void);
+void rounds(void);
 
 #endif

@@ -45,9 +45,10 @@ static void blits_done(void)
     blit("P9, size 0000, 65,536 words", "FFFF*65536 1234",
          "0100 0000 0000 0000  0 0 0 0 0 0 0 0  0 0 0 0  0 0 0  " BLACK "0", 0x0000, 0, 65536, "0000*65536 1234",
          "0100 0000 0000 0000  0 0 0 0 0 0 2 0  0 0 0 0  0 0 0  " BLACK "1");
-    blit("P10, the pointer goes round", "1111 2222*262143",
-         "01FF 0000 0000 0000  0 0 0 0 0 0 7 FFFE  0 0 0 0  0 0 0  " BLACK "1", 0x0042, 0, 2, "FFFF 2222*262142 FFFF",
-         "01FF 0000 0000 0000  0 0 0 0 0 0 0 2  0 0 0 0  0 0 0  " BLACK "0");
+    round_blit("P10, the pointer goes round", "1111 2222*262143",
+               "01FF 0000 0000 0000  0 0 0 0 0 0 7 FFFE  0 0 0 0  0 0 0  " BLACK "1", 0x0042, 0, 2,
+               "FFFF 2222*262142 FFFF",
+               "01FF 0000 0000 0000  0 0 0 0 0 0 0 2  0 0 0 0  0 0 0  " BLACK "0");
     blit("the modulo after the last row", ZEROS,
          "01FF 0000 0000 0000  0 0 0 0 0 0 0 0  0 0 0 4  0 0 0  " BLACK "1", 0x0081, 0, 2, "FFFF 0 0 FFFF 0000*12",
          "01FF 0000 0000 0000  0 0 0 0 0 0 0 C  0 0 0 4  0 0 0  " BLACK "0");
@@ -93,9 +94,10 @@ static void blits_overlapping(void)
     blit("at the source's own place", "1 2 3 4",
          "09F0 0000 FFFF FFFF  0 0 0 0 0 0 0 0  0 0 0 0  0 0 0  " BLACK "0", 0x0043, 0, 3, SAME,
          "09F0 0000 FFFF FFFF  0 0 0 0 0 6 0 6  0 0 0 0  0 0 3  " BLACK "0");
-    blit("round the top, one word on", "1 2 0000*262140 3 4",
-         "09F0 0000 FFFF FFFF  0 0 0 0 7 FFFC 7 FFFE  0 0 0 0  0 0 0  " BLACK "0", 0x0043, 0, 3, "4 1 0000*262140 3 3",
-         "09F0 0000 FFFF FFFF  0 0 0 0 0 2 0 4  0 0 0 0  0 0 1  " BLACK "0");
+    round_blit("round the top, one word on", "1 2 0000*262140 3 4",
+               "09F0 0000 FFFF FFFF  0 0 0 0 7 FFFC 7 FFFE  0 0 0 0  0 0 0  " BLACK "0", 0x0043, 0, 3,
+               "4 1 0000*262140 3 3",
+               "09F0 0000 FFFF FFFF  0 0 0 0 0 2 0 4  0 0 0 0  0 0 1  " BLACK "0");
 }
 
 static void blits_refused(void)

@@ -28,16 +28,33 @@ static void write_file(char *text, const struct line *line, const char *at_d, in
             at_d, line->modulos, line->data, flag);
 }
 
-/* A line that is done. The flag is the other one before. */
-static void drawn(const char *name, const char *ram, struct line line, uint16_t size,
-                  uint32_t stored, const char *ram_after, const char *at_after, const char *accumulator_after, int flag)
+/* A line that is done, by blit or round_blit. The flag is the other one before. */
+typedef void blit_call(const char *name, const char *ram, const char *file, uint16_t size,
+                       uint32_t number, uint32_t stored, const char *ram_after, const char *file_after);
+
+static void drawn_by(blit_call *call, const char *name, const char *ram, struct line line, uint16_t size,
+                     uint32_t stored, const char *ram_after, const char *at_after, const char *accumulator_after,
+                     int flag)
 {
     char before[ROOM], after[ROOM];
     write_file(before, &line, line.at, !flag);
     line.at = at_after;
     line.accumulator = accumulator_after;
     write_file(after, &line, line.at, flag);
-    blit(name, ram, before, size, 0, stored, ram_after, after);
+    call(name, ram, before, size, 0, stored, ram_after, after);
+}
+
+static void drawn(const char *name, const char *ram, struct line line, uint16_t size,
+                  uint32_t stored, const char *ram_after, const char *at_after, const char *accumulator_after, int flag)
+{
+    drawn_by(blit, name, ram, line, size, stored, ram_after, at_after, accumulator_after, flag);
+}
+
+/* One whose pointer goes round on its way. */
+static void round_drawn(const char *name, const char *ram, struct line line, uint16_t size, uint32_t stored,
+                        const char *ram_after, const char *at_after, const char *accumulator_after, int flag)
+{
+    drawn_by(round_blit, name, ram, line, size, stored, ram_after, at_after, accumulator_after, flag);
 }
 
 /* A line that is refused, D's pointer apart or not. */
@@ -131,18 +148,58 @@ static void ends_of_memory(void)
           "0 800A", "8000", 0);
     refused("out of memory and back again", ZEROS,
             (struct line){"0BFA 0041 FFFF FFFF", "0 A", "8000", "8000 0 0", "FFFF 8000"}, 0x0442, 16);
-    drawn("the same where nothing is outside", MOST_RAM,
-          (struct line){"0BFA 0041 FFFF FFFF", "0 A", "8000", "8000 0 0", "FFFF 8000"}, 0x0442, 17,
-          "0*5 " FIVE("8000 0*16383 ") FIVE("8000 0*16383 ") FIVE("8000 0*16383 ") "8000 0*16378", "7 800A", "8000", 0);
-    drawn("round the top, to the right", MOST_RAM, (struct line){"FBFA 0051 FFFF FFFF", "7 FFFE", LEVEL}, 0x0082, 2,
-          "8000 0*262142 0001", "0 0", "8000", 0);
-    drawn("round the top, to the left", MOST_RAM, (struct line){"0BFA 0055 FFFF FFFF", "0 0", LEVEL}, 0x0082, 2,
-          "8000 0*262142 0001", "7 FFFE", "8000", 0);
-    drawn("round the top, down", MOST_RAM, (struct line){"0BFA 0041 FFFF FFFF", "7 FFFC", LEVEL}, 0x0082, 2,
-          "8000 0*262141 8000 0", "0 4", "8000", 0);
-    drawn("round the top, up", MOST_RAM, (struct line){"0BFA 0045 FFFF FFFF", "0 2", LEVEL}, 0x0082, 2,
-          "0 8000 0*262141 8000", "7 FFFA", "8000", 0);
+    round_drawn("the same where nothing is outside", MOST_RAM,
+                (struct line){"0BFA 0041 FFFF FFFF", "0 A", "8000", "8000 0 0", "FFFF 8000"}, 0x0442, 17,
+                "0*5 " FIVE("8000 0*16383 ") FIVE("8000 0*16383 ") FIVE("8000 0*16383 ") "8000 0*16378", "7 800A",
+                "8000", 0);
+    round_drawn("round the top, to the right", MOST_RAM, (struct line){"FBFA 0051 FFFF FFFF", "7 FFFE", LEVEL}, 0x0082,
+                2, "8000 0*262142 0001", "0 0", "8000", 0);
+    round_drawn("round the top, to the left", MOST_RAM, (struct line){"0BFA 0055 FFFF FFFF", "0 0", LEVEL}, 0x0082, 2,
+                "8000 0*262142 0001", "7 FFFE", "8000", 0);
+    round_drawn("round the top, down", MOST_RAM, (struct line){"0BFA 0041 FFFF FFFF", "7 FFFC", LEVEL}, 0x0082, 2,
+                "8000 0*262141 8000 0", "0 4", "8000", 0);
+    round_drawn("round the top, up", MOST_RAM, (struct line){"0BFA 0045 FFFF FFFF", "0 2", LEVEL}, 0x0082, 2,
+                "0 8000 0*262141 8000", "7 FFFA", "8000", 0);
     refused("round the top of one word less", "0*262143", (struct line){"0BFA 0055 FFFF FFFF", "0 0", LEVEL}, 0x0082, 16);
+}
+
+/* The step behind the last dot doesn't count. Of a step's two moves each counts by itself, even if they lead back. */
+static void round_or_not(void)
+{
+    drawn("round the top behind the last dot, to the right", MOST_RAM,
+          (struct line){"EBFA 0051 FFFF FFFF", "7 FFFE", LEVEL}, 0x0082, 2, "0*262143 0003", "0 0", "8000", 0);
+    drawn("round the top behind the last dot, up", MOST_RAM, (struct line){"0BFA 0045 FFFF FFFF", "0 4", LEVEL}, 0x0082,
+          2, "8000 0 8000 0*262141", "7 FFFC", "8000", 0);
+    drawn("to word 0 and no further", MOST_RAM, (struct line){"0BFA 0045 FFFF FFFF", "0 8", LEVEL}, 0x00C2, 3,
+          "8000 0 8000 0 8000 0*262139", "7 FFFC", "8000", 0);
+    drawn("to the highest word and no further", MOST_RAM, (struct line){"0BFA 0041 FFFF FFFF", "7 FFFA", LEVEL}, 0x0082,
+          2, "0*262141 8000 0 8000", "0 2", "8000", 0);
+    round_drawn("up by a modulo of FFFC, round the top", MOST_RAM,
+                (struct line){"0BFA 0045 FFFF FFFF", "7 FFFE", "8000", "FFFC 0 0", "FFFF 8000"}, 0x0082, 2,
+                "0 8000 0*262141 8000", "0 6", "8000", 0);
+    round_drawn("down by a modulo of FFFC, round the bottom", MOST_RAM,
+                (struct line){"0BFA 0041 FFFF FFFF", "0 2", "8000", "FFFC 0 0", "FFFF 8000"}, 0x0082, 2,
+                "0 8000 0*262141 8000", "7 FFFA", "8000", 0);
+    drawn("a modulo of 0 at word 0, up", MOST_RAM,
+          (struct line){"0BFA 0045 FFFF FFFF", "0 0", "8000", "0 0 0", "FFFF 8000"}, 0x0082, 2, "8000 0*262143", "0 0",
+          "8000", 0);
+    round_drawn("left, then down: out and back in 16 words", ZEROS,
+                (struct line){"0BFA 0009 FFFF FFFF", "0 0", "0", "2 0 8000", "FFFF 8000"}, 0x0082, 2, "8001 0*15",
+                "0 2", "8000", 0);
+    drawn("down, then left: never out", ZEROS,
+          (struct line){"0BFA 0015 FFFF FFFF", "0 0", "0", "2 0 8000", "FFFF 8000"}, 0x0082, 2, "8001 0*15", "0 0",
+          "8000", 0);
+    round_drawn("up, then right: out and back in 16 words", ZEROS,
+                (struct line){"FBFA 0019 FFFF FFFF", "0 0", "0", "2 0 8000", "FFFF 8000"}, 0x0082, 2, "8001 0*15",
+                "0 0", "8000", 0);
+    drawn("right, then up: never out", ZEROS,
+          (struct line){"FBFA 0005 FFFF FFFF", "0 0", "0", "2 0 8000", "FFFF 8000"}, 0x0082, 2, "8001 0*15", "7 FFFE",
+          "8000", 0);
+    round_drawn("round the top to a dot that isn't stored", MOST_RAM,
+                (struct line){"FBFA 0053 FFFF FFFF", "7 FFFE", LEVEL}, 0x0082, 1, "0*262143 0001", "0 0", "8000", 0);
+    round_drawn("round the top in the middle of a line", MOST_RAM,
+                (struct line){"EBFA 0051 FFFF FFFF", "7 FFFE", LEVEL}, 0x0102, 4, "C000 0*262142 0003", "0 0", "8000",
+                0);
 }
 
 static void longest(void)
@@ -162,9 +219,9 @@ static void longest(void)
             0x0002, 16);
     drawn("1,024 dots on one word", "FFFF", (struct line){"0B5A 0043 FFFF FFFF", "0 0", "8000", "0 0 0", "0 8000"},
           0x0002, 1024, SAME, "0 0", "8000", 0);
-    drawn("1,024 dots round the top", "FFFF*262144",
-          (struct line){"FB0A 0045 FFFF FFFF", "0 3FE", "8000", "2 0 0", "0 8000"}, 0x0002, 1024,
-          "FFFE*512 FFFF*261120 FFFE*512", "7 FBFE", "8000", 0);
+    round_drawn("1,024 dots round the top", "FFFF*262144",
+                (struct line){"FB0A 0045 FFFF FFFF", "0 3FE", "8000", "2 0 0", "0 8000"}, 0x0002, 1024,
+                "FFFE*512 FFFF*261120 FFFE*512", "7 FBFE", "8000", 0);
 }
 
 /* A is its data through the first mask alone, moved by its shift, and nothing of the dot before comes into it. */
@@ -365,6 +422,7 @@ void lines(void)
     manuals();
     octants();
     ends_of_memory();
+    round_or_not();
     longest();
     marks();
     textures();

@@ -31,6 +31,19 @@ static void compare_number(struct check *check, const char *what, uint32_t left,
     printf("  %s is %lu, the file says %lu\n", what, (unsigned long)left, (unsigned long)said);
 }
 
+static const char *yes_or_no(uint32_t answer)
+{
+    return answer == 0 ? "no" : "yes";
+}
+
+static void compare_yes(struct check *check, const char *what, uint32_t left, uint32_t said)
+{
+    if (left == said)
+        return;
+    begin_difference(check);
+    printf("  %s is %s, the file says %s\n", what, yes_or_no(left), yes_or_no(said));
+}
+
 /* A word of which the file says nothing must be as it was. */
 static void compare_ram(struct check *check, const struct jobfile *jobfile, const uint16_t *ram)
 {
@@ -77,11 +90,14 @@ static void compare_folding(struct check *check, const struct jobfile *jobfile, 
 {
     const struct leaves *leaves = &jobfile->leaves;
     uint16_t folded[JOB_LIMIT] = {0};
-    uint32_t number, place, length;
+    uint32_t number, place, length, round;
     size_t same = 0;
 
-    desk_fold(leaves->folds_ram, jobfile->job, jobfile->job_words, folded, JOB_LIMIT, &number, &place, &length);
+    desk_fold(leaves->folds_ram, jobfile->job, jobfile->job_words, folded, JOB_LIMIT,
+              &number, &place, &length, &round);
     compare_number(check, "the folding's number", number, 0);
+    if (leaves->folds_round_said)
+        compare_yes(check, "the folding's round", round, leaves->folds_round);
     compare_number(check, "the folded job's length", length, (uint32_t)other->job_words);
     while (same < length && same < other->job_words && folded[same] == other->job[same])
         same++;
@@ -117,6 +133,8 @@ static void check_run(struct check *check, const struct jobfile *jobfile)
     compare_number(check, "place", run.place, leaves->place);
     if (leaves->count_said)
         compare_number(check, "count", run.count, leaves->count);
+    if (leaves->round_said)
+        compare_yes(check, "round", run.round, leaves->round);
     compare_ram(check, jobfile, machine.ram);
     compare_file(check, leaves, machine.file);
 }

@@ -12,16 +12,19 @@
 #include "machine.h"
 #include "outcome.h"
 #include "picture.h"
+#include "round.h"
 
 static const char usage[] =
     "desk list FILE      the job's steps, one a line: word index, first word, name, value, sense. A word that begins\n"
     "                    no step, a step cut off and a store to an odd address are shown with their number and end\n"
     "                    the listing\n"
-    "desk run FILE       runs the job: number, place, count, zero flag, each line that it draws, and what it changed\n"
+    "desk run FILE       runs the job: number, place, count, zero flag; if a pointer went round, 'went round: yes' and\n"
+    "                    where; each line that it draws, and what it changed\n"
     FOLD_USAGE "\n"
     "                    folds the job for memory of N words (decimal; the file's own if not given): number, place,\n"
-    "                    both lengths, and the job and its folding side by side. OUT becomes a job file of the folded\n"
-    "                    job, unless it is refused\n"
+    "                    both lengths; if a blit was kept for going round alone, 'kept for going round: yes' and which;\n"
+    "                    the job and its folding side by side. OUT becomes a job file of the folded job, unless it is\n"
+    "                    refused\n"
     "desk copper N FILE  runs a Copper list for one frame, with N instructions lent (decimal): the list, one instruction\n"
     "                    a line; the trace, for each instruction done the beam's line and position where it started;\n"
     "                    why it stopped, number, done, the next word, the beam, and what it changed\n"
@@ -33,7 +36,10 @@ static const char usage[] =
     "                    what its file says\n"
     "\n"
     "Exit status: 0 done, the frame over or the number used up; 1 an error, told on standard error with file and line, or\n"
-    "a check that differs; 2 a run, a folding, a frame or a picture that was refused. A listing of a readable job ends with 0.\n"
+    "a check that differs; 2 a run, a folding, a frame or a picture that was refused. A listing of a readable job ends with 0.\n";
+
+/* The forms of the files follow the usage; C99 promises no text as long as both together. */
+static const char forms[] =
     "\n"
     "A job file holds words of four hex digits, separated by blanks; ';' begins a comment. Lines of their own:\n"
     "  ram N                    memory of N words (decimal; 32768 if not said), all zero at the start but for\n"
@@ -45,10 +51,12 @@ static const char usage[] =
     "  leaves count N           words stored\n"
     "  leaves number N          the answer, 0 if not said\n"
     "  leaves place N           the place of a refused step, 0 if not said\n"
+    "  leaves round yes         a pointer goes round between two accesses of its blit; or leaves round no\n"
     "  folds N FILE             folded for N words it is the job of this file, named from this one's folder\n"
+    "  folds N FILE round yes   and a blit is kept for going round alone; or folds N FILE round no\n"
     "\n"
     "A Copper list's file, whose name ends in .list, has the list's words in the stead of a job's, and the same lines but\n"
-    "for 'leaves count', 'leaves place' and 'folds'. Lines of its own:\n"
+    "for 'leaves count', 'leaves place', 'leaves round' and 'folds'. Lines of its own:\n"
     "  start ADDRESS            the list stands in memory from this byte address on (hex; 0 if not said), over 'at' lines\n"
     "  lent N                   the instructions that check lends; the largest number if not said\n"
     "  leaves why WHY           why it stops: end (of the frame), used (up) or refused; end if not said\n"
@@ -83,11 +91,12 @@ static int print_run(const struct jobfile *jobfile)
 {
     static struct machine machines[2];
     struct run whole = run_of(jobfile, &machines[0]), parts;
-    bool drew;
+    bool drew, agreed;
 
     print_answer(whole.number, whole.place);
     printf("count %lu\n", (unsigned long)whole.count);
     printf("zero flag %u\n", (unsigned)machines[0].file[ZERO_FLAG]);
+    agreed = print_rounds(jobfile, &machines[1], whole.round);
     parts = print_drawn(jobfile, &machines[1], &drew);
     print_changed_words(jobfile->ram, machines[0].ram, jobfile->ram_words, drew);
     print_changed_registers(jobfile->file, machines[0].file);
@@ -95,7 +104,7 @@ static int print_run(const struct jobfile *jobfile)
         fputs("desk run: done in parts the run ends otherwise\n", stderr);
         return ERROR;
     }
-    return whole.number == 0 ? DONE : REFUSED;
+    return !agreed ? ERROR : whole.number == 0 ? DONE : REFUSED;
 }
 
 static int run_command(const char *name)
@@ -132,6 +141,7 @@ static int command(int count, char **words)
     if (count >= 3 && strcmp(words[1], "check") == 0)
         return check_command(words + 2);
     fputs(usage, stderr);
+    fputs(forms, stderr);
     return ERROR;
 }
 

@@ -1,9 +1,9 @@
 /* differ [CASES [SEED]]: does random cases with the archive and with the plain engine and compares all that comes out.
  * Case i has the seed SEED + i, so `differ 1 S` does the case of seed S again.
- * differ seams: the same with the cases of differ_seams.c, pictures of all sizes and delays and lines of all kinds,
- * always the same ones.
+ * differ seams: the same with the cases of differ_seams.c, pictures of all sizes and delays, lines of all kinds and
+ * blits around the pointers' ends, always the same ones.
  * On the first difference the case is shrunk and printed, and the program ends with 1; so it does where among the
- * seams, or among many random cases, no line of some kind came. */
+ * seams, or among many random cases, no line of some kind came, or no pointer went round in some kind of call. */
 #include <inttypes.h>
 #include <stdio.h>
 #include <stdlib.h>
@@ -42,7 +42,7 @@ void set_up(struct side *side, const struct test *test)
     memcpy(side->file + FENCE, test->file, sizeof test->file);
     if (test->call == FRAME)
         lay_list(side, test);
-    side->number = side->count = side->why = side->word = 0xDEAD;
+    side->number = side->count = side->why = side->word = side->round = 0xDEAD;
     side->place = test->call == BLIT ? 0 : 0xDEAD;
 }
 
@@ -58,6 +58,8 @@ const char *compare(void)
         return "number";
     if (desk.count != plain.count)
         return "count";
+    if (desk.round != plain.round)
+        return "whether a pointer went round";
     if (memcmp(desk.ram, plain.ram, (FENCE + desk.ram_words + FENCE) * sizeof *desk.ram) != 0)
         return "memory";
     if (memcmp(desk.file, plain.file, sizeof desk.file) != 0)
@@ -70,11 +72,12 @@ static const char *difference_of_blits(const struct test *test)
     set_up(&desk, test);
     set_up(&plain, test);
     desk_blit(desk.ram + FENCE, test->ram_words, desk.file + FENCE, test->file_words, test->size,
-              &desk.number, &desk.count);
+              &desk.number, &desk.count, &desk.round);
     plain_blit(plain.ram + FENCE, test->ram_words, plain.file + FENCE, test->file_words, test->size,
-               &plain.number, &plain.count);
+               &plain.number, &plain.count, &plain.round);
     outcomes[BLIT][plain.number]++;
     count_line(test);
+    count_round(test);
     return compare();
 }
 
@@ -83,11 +86,12 @@ static const char *difference_of_runs(const struct test *test)
     set_up(&desk, test);
     set_up(&plain, test);
     desk_run(desk.ram + FENCE, test->ram_words, desk.file + FENCE, test->file_words, test->job, test->job_words,
-             &desk.number, &desk.place, &desk.count);
+             &desk.number, &desk.place, &desk.count, &desk.round);
     plain_run(plain.ram + FENCE, test->ram_words, plain.file + FENCE, test->file_words, test->job, test->job_words,
-              &plain.number, &plain.place, &plain.count);
+              &plain.number, &plain.place, &plain.count, &plain.round);
     outcomes[RUN][plain.number]++;
     count_lines_of_run(test, &plain, false);
+    count_round(test);
     if (desk.number == plain.number && desk.place != plain.place)
         return "place";
     return compare();
@@ -96,8 +100,9 @@ static const char *difference_of_runs(const struct test *test)
 /* The length of output that leaves the wanted number of words spare. */
 static size_t out_words_of(const struct test *test)
 {
-    uint32_t number, place, length;
-    plain_fold(test->ram_words, test->job, test->job_words, plain.out + FENCE, OUT_ROOM, &number, &place, &length);
+    uint32_t number, place, length, round;
+    plain_fold(test->ram_words, test->job, test->job_words, plain.out + FENCE, OUT_ROOM,
+               &number, &place, &length, &round);
     if (number == 11)
         return OUT_ROOM + test->spare - 40;
     return test->spare < 0 && length == 0 ? 0 : length + test->spare;
@@ -109,10 +114,11 @@ static const char *difference_of_pair(const struct test *test, const uint16_t *f
     set_up(&desk, test);
     set_up(&plain, test);
     desk_run(desk.ram + FENCE, test->ram_words, desk.file + FENCE, test->file_words, test->job, test->job_words,
-             &desk.number, &desk.place, &desk.count);
+             &desk.number, &desk.place, &desk.count, &desk.round);
     desk_run(plain.ram + FENCE, test->ram_words, plain.file + FENCE, test->file_words, folded, folded_words,
-             &plain.number, &plain.place, &plain.count);
+             &plain.number, &plain.place, &plain.count, &plain.round);
     pairs++;
+    count_round_of_pair(&desk);
     pairs_refused += desk.number != 0;
     if (!alike)
         count_lines_of_run(test, &desk, true);
@@ -124,17 +130,21 @@ static const char *difference_of_foldings(const struct test *test)
     size_t out_words = out_words_of(test);
     set_up_out(&desk, out_words);
     set_up_out(&plain, out_words);
+    desk.round = plain.round = 0xDEAD;
     desk_fold(test->ram_words, test->job, test->job_words, desk.out + FENCE, out_words,
-              &desk.number, &desk.place, &desk.count);
+              &desk.number, &desk.place, &desk.count, &desk.round);
     plain_fold(test->ram_words, test->job, test->job_words, plain.out + FENCE, out_words,
-               &plain.number, &plain.place, &plain.count);
+               &plain.number, &plain.place, &plain.count, &plain.round);
     outcomes[FOLD][plain.number]++;
+    count_round(test);
     if (desk.number != plain.number)
         return "number";
     if (desk.place != plain.place)
         return "place";
     if (desk.count != plain.count)
         return "length";
+    if (desk.round != plain.round)
+        return "whether a blit was kept for going round alone";
     if (memcmp(desk.out, plain.out, (FENCE + out_words + FENCE) * sizeof *desk.out) != 0)
         return "output";
     if (plain.number != 0)
@@ -149,9 +159,9 @@ static const char *difference_of_foldings(const struct test *test)
 static const char *difference_of_new_file(void)
 {
     uint16_t ram[1] = {0}, file[FILE_WORDS];
-    uint32_t number, place, stored;
+    uint32_t number, place, stored, round;
     memcpy(file, desk.out + FENCE, sizeof file);
-    desk_run(ram, 1, file, FILE_WORDS, ram, 0, &number, &place, &stored);
+    desk_run(ram, 1, file, FILE_WORDS, ram, 0, &number, &place, &stored, &round);
     return number == 0 ? NULL : "the widened file is refused by the archive";
 }
 
@@ -197,6 +207,7 @@ static void print_outcomes(void)
     print_frames();
     print_pictures();
     print_lines();
+    print_rounds();
     printf("foldings unlike their job: %" PRIu64 "; pairs of runs compared: %" PRIu64 ", refused alike: %" PRIu64 "\n",
            changed, pairs, pairs_refused);
 }
@@ -208,6 +219,8 @@ static void print_answer(const char *name, const struct side *side, const struct
         print_line(side, test);
     else
         printf(", place %" PRIu32 ", count %" PRIu32, side->place, side->count);
+    if (test->call == BLIT || test->call == RUN || test->call == FOLD)
+        printf(", round %" PRIu32, side->round);
     if (test->call == FRAME)
         printf(", why %" PRIu32 ", word %" PRIu32, side->why, side->word);
     printf("\n");
@@ -237,7 +250,7 @@ static uint64_t random_cases(uint64_t cases, uint64_t seed)
     return cases;
 }
 
-/* So many random cases have lines of every kind. */
+/* So many random cases have lines of every kind, and pointers that go round in every kind of call. */
 enum { MANY = 10000 };
 
 int main(int words, char **word)
@@ -252,7 +265,7 @@ int main(int words, char **word)
     if (cases == 0)
         return 1;
     print_outcomes();
-    if (cases >= MANY && !lines_came(!of_seams))
+    if (cases >= MANY && (!lines_came(!of_seams) || !rounds_came(!of_seams)))
         return 1;
     printf("differ: %" PRIu64 " cases, 0 differences\n", cases);
     return 0;

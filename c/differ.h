@@ -59,6 +59,7 @@ struct side {
     uint32_t planes[FENCE + PLANE_ROOM + FENCE];
     size_t ram_words;
     uint32_t number, place, count;  /* count: words stored, the folded length, or instructions done */
+    uint32_t round;                 /* of a blit, a run or a folding: whether a pointer went round */
     uint32_t why, word;             /* of a frame, whose place is the beam's */
 };
 
@@ -93,6 +94,11 @@ uint32_t at_most(uint32_t value, uint32_t most);
 void make_plan(struct plan *plan, uint32_t n, bool settled, bool risk);
 void make_line(struct plan *plan, uint32_t n, bool risk);
 
+/* Lays a blit or a line anew so that with some move a pointer comes to an end of the pointers, word 0 or word 262,143,
+ * or a word or two before it or past it; in fewer words, so that it goes round and comes back, or nearly. */
+void lay_round(struct plan *plan, uint32_t n);
+void lay_line_round(struct plan *plan, uint32_t n);
+
 /* A line with any registers, but for its number of dots and its place; these two; the manual's set-up for a longer and
  * a shorter side; and the reach of its dots' words. */
 void pick_line(struct plan *plan);
@@ -100,6 +106,9 @@ void set_dots(struct plan *plan, uint32_t dots);
 void set_line_pointer(struct plan *plan, uint32_t word);
 void set_slope(struct plan *plan, uint32_t long_side, uint32_t short_side);
 struct reach way_of(const struct plan *plan);
+
+/* How far the word of a line's last dot lies from that of its first. */
+int32_t last_of(const struct plan *plan);
 
 /* The reach of a channel of the plan's blit by half its modulo, and its pointer set to a word, which goes round. */
 struct reach reach_of(const struct plan *plan, int32_t half);
@@ -124,7 +133,8 @@ void make_picture(struct test *test, enum care care);
 /* Memory by its seed: word i is i modulo 1,024 for seed 0, otherwise random words, words of few ones, or zeros. */
 void fill_ram(uint16_t *ram, size_t words, uint64_t seed);
 
-/* Lays a case's memory and file out on a side. Compares number, count, memory and file: NULL if they agree. */
+/* Lays a case's memory and file out on a side. Compares number, count, whether a pointer went round, memory and file:
+ * NULL if they agree. */
 void set_up(struct side *side, const struct test *test);
 const char *compare(void);
 
@@ -142,13 +152,22 @@ void count_line(const struct test *test);
 void count_lines_of_run(const struct test *test, const struct side *side, bool folded);
 void count_line_of_frame(void);
 
-/* How the frames ended, and how many were cut; how much of the pictures was compared; how many lines of each kind. */
+/* Counts what the plain side says of pointers that went round, in a blit, a run or a folding, and whether the archive's
+ * run of a folded job and its original said it too. */
+void count_round(const struct test *test);
+void count_round_of_pair(const struct side *side);
+
+/* How the frames ended, and how many were cut; how much of the pictures was compared; how many lines of each kind; how
+ * often a pointer went round. */
 void print_frames(void);
 void print_pictures(void);
 void print_lines(void);
+void print_rounds(void);
 
-/* Whether lines of every kind were compared; in jobs, folded jobs and lists too, or alone. Says so where not. */
+/* Whether lines of every kind were compared; in jobs, folded jobs and lists too, or alone. Whether pointers went round,
+ * and didn't, in blits and lines; in runs, refused ones too, and in foldings too, or alone. Say so where not. */
 bool lines_came(bool in_jobs);
+bool rounds_came(bool in_jobs);
 
 /* Says which case differs, shrinks and prints it. */
 void report(struct test *test, const char *which, uint64_t number);
@@ -156,10 +175,12 @@ void report(struct test *test, const char *which, uint64_t number);
 /* Does the cases that cross an engine's seams: how many, or 0 after a report of the first on which the sides differ. */
 uint64_t seams(void);
 
-/* The same of the pictures and the lines, with which seams ends: a picture for all delays, numbers of planes and numbers
- * of words; lines of all settings, slopes and lengths. */
+/* The same of the pictures, the lines and the pointers' ends, with which seams ends: a picture for all delays, numbers
+ * of planes and numbers of words; lines of all settings, slopes and lengths; blits, lines and foldings around the words
+ * 0 and 262,143. */
 uint64_t picture_seams(void);
 uint64_t line_seams(void);
+uint64_t round_seams(void);
 
 /* Takes away from a case whatever the difference doesn't need, and prints what is left. */
 void shrink(struct test *test);

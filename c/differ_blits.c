@@ -171,8 +171,9 @@ void pick_screen(uint16_t *file)
     file[ZERO_FLAG] = below(2);
 }
 
-/* One blit in so many is a line, fewer where it could be settled. */
-enum { LINE_SHARE = 3, LINE_SHARE_AMONG_SETTLED = 8 };
+/* One blit in so many is a line, fewer where it could be settled; of the others one in so many is laid where the
+ * pointers end, unless D lies over a source. */
+enum { LINE_SHARE = 3, LINE_SHARE_AMONG_SETTLED = 8, ROUND_SHARE = 8 };
 
 void make_plan(struct plan *plan, uint32_t n, bool settled, bool risk)
 {
@@ -189,6 +190,8 @@ void make_plan(struct plan *plan, uint32_t n, bool settled, bool risk)
         place_channel(plan, channel, n, risk);
     if (!settled && one_in(2))
         lay_over(plan, n);
+    else if (one_in(ROUND_SHARE))
+        lay_round(plan, n);
     for (int i = 16; i < BLITTER; i++)
         plan->file[i] = random_word();
     pick_screen(plan->file);

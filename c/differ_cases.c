@@ -191,7 +191,7 @@ size_t pick_ram_words(void)
         return 1 + below(8);
     if (chance < 360)
         return 40 + below(260);
-    if (chance < 388)
+    if (chance < 382)
         return 300 + below(2000);
     if (chance < 395)
         return POINTERS;

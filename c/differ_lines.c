@@ -8,6 +8,9 @@
 
 enum { MOST_DOTS = 1024, OCTANTS = 8 };
 
+/* One line in so many is laid where the pointers end. */
+enum { ROUND_SHARE = 6 };
+
 /* Lines called alone: by number; the done ones by their bits SUD, SUL and AUL; those with SING, those with a dot that
  * isn't stored, and those with no stored word but zeros. Lines done in jobs, in jobs that a folding changes, and in
  * lists. */
@@ -29,25 +32,41 @@ void set_slope(struct plan *plan, uint32_t long_side, uint32_t short_side)
     plan->file[1] = (plan->file[1] & ~SIGN) | (accumulator & 0x8000 ? SIGN : 0);
 }
 
-/* Dots are followed as pixels of one long row, so that a word's end needs no thought. */
-struct reach way_of(const struct plan *plan)
+static int32_t word_of(int32_t pixel) { return (pixel - (pixel < 0 ? 15 : 0)) / 16; }
+
+/* Dots are followed as pixels of one long row, so that a word's end needs no thought. Gives the last one. */
+static int32_t follow(const struct plan *plan, int32_t *lowest, int32_t *highest)
 {
     const uint16_t *file = plan->file;
     int32_t row = (int16_t)file[FIRST_MODULO + C_CHANNEL] / 2 * 16, pixel = file[0] >> 12;
-    int32_t sometimes = file[1] & SUD ? row : 1, always = file[1] & SUD ? 1 : row, lowest = pixel, highest = pixel;
+    int32_t sometimes = file[1] & SUD ? row : 1, always = file[1] & SUD ? 1 : row;
     uint16_t accumulator = file[A_LOW];
     bool sign = file[1] & SIGN;
+    *lowest = *highest = pixel;
     for (uint32_t dot = 1; dot < plan->height; dot++) {
         if (!sign)
             pixel += file[1] & SUL ? -sometimes : sometimes;
         pixel += file[1] & AUL ? -always : always;
         accumulator += file[FIRST_MODULO + (sign ? B_CHANNEL : A_CHANNEL)];
         sign = accumulator >> 15;
-        lowest = pixel < lowest ? pixel : lowest;
-        highest = pixel > highest ? pixel : highest;
+        *lowest = pixel < *lowest ? pixel : *lowest;
+        *highest = pixel > *highest ? pixel : *highest;
     }
-    struct reach way = {(lowest - (lowest < 0 ? 15 : 0)) / 16, (highest - (highest < 0 ? 15 : 0)) / 16};
+    return pixel;
+}
+
+struct reach way_of(const struct plan *plan)
+{
+    int32_t lowest, highest;
+    follow(plan, &lowest, &highest);
+    struct reach way = {word_of(lowest), word_of(highest)};
     return way;
+}
+
+int32_t last_of(const struct plan *plan)
+{
+    int32_t lowest, highest;
+    return word_of(follow(plan, &lowest, &highest));
 }
 
 void set_line_pointer(struct plan *plan, uint32_t word)
@@ -146,6 +165,8 @@ void make_line(struct plan *plan, uint32_t n, bool risk)
         else
             plan->file[FIRST_MODULO + C_CHANNEL] = one_in(2) ? 0 : 0xFFFE;
     set_line_pointer(plan, pick_start(way, n, risk));
+    if (one_in(ROUND_SHARE))
+        lay_line_round(plan, n);
     if (risk && one_in(3))
         spoil_line(plan);
 }

@@ -420,5 +420,6 @@ uint64_t seams(void)
                 return 0;
     uint64_t pictures = picture_seams();
     uint64_t lines = pictures == 0 ? 0 : line_seams();
-    return lines == 0 ? 0 : cases + pictures + lines;
+    uint64_t rounds = lines == 0 ? 0 : round_seams();
+    return rounds == 0 ? 0 : cases + pictures + lines + rounds;
 }

@@ -12,6 +12,7 @@
 #include "listing.h"
 #include "machine.h"
 #include "outcome.h"
+#include "round.h"
 
 /* The command's words; null where an option isn't there. */
 struct request {
@@ -96,7 +97,8 @@ static bool carry_leaves(const struct jobfile *jobfile, struct jobfile *folded, 
     struct run own = run_of(jobfile, &machines[0]), run = run_of(folded, &machines[1]);
 
     folded->leaves.place = run.place;
-    if (own.number == run.number && own.count == run.count && same_machine(&machines[0], &machines[1]))
+    if (own.number == run.number && own.count == run.count && own.round == run.round
+        && same_machine(&machines[0], &machines[1]))
         return true;
     fprintf(stderr, "%s: on memory of %lu words it ends otherwise than on its own %lu, for which it says what it "
             "leaves; %s isn't written\n", request->name, (unsigned long)folded->ram_words,
@@ -114,17 +116,21 @@ static bool write_folded(const struct jobfile *jobfile, struct jobfile *folded, 
 /* Folds the file's job; folded, which begins as a copy of the file, becomes the file of the folded job. */
 static int fold(const struct jobfile *jobfile, struct jobfile *folded, const struct request *request)
 {
-    uint32_t number, place, length;
+    uint32_t number, place, length, round;
+    bool agreed;
 
-    desk_fold(folded->ram_words, jobfile->job, jobfile->job_words, folded->job, JOB_LIMIT, &number, &place, &length);
+    desk_fold(folded->ram_words, jobfile->job, jobfile->job_words, folded->job, JOB_LIMIT,
+              &number, &place, &length, &round);
     folded->job_words = length;
     if (number == 0 && request->out != NULL && !write_folded(jobfile, folded, request))
         return ERROR;
     print_answer(number, place);
     printf("length %lu, folded %lu\n", (unsigned long)jobfile->job_words, (unsigned long)length);
-    if (number == 0)
-        print_beside(jobfile->job, jobfile->job_words, folded->job, length);
-    return number == 0 ? DONE : REFUSED;
+    if (number != 0)
+        return REFUSED;
+    agreed = print_kept_rounds(jobfile->job, jobfile->job_words, folded->ram_words, round);
+    print_beside(jobfile->job, jobfile->job_words, folded->job, length);
+    return agreed ? DONE : ERROR;
 }
 
 int fold_command(char **words)

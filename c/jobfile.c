@@ -97,6 +97,18 @@ static bool read_beam(struct reader *reader)
     return line_ends(reader);
 }
 
+/* The rest of a line 'round yes' or 'round no', whose first token has been read. */
+static bool read_round(struct reader *reader, uint32_t *round, bool *said)
+{
+    bool yes = next_token(reader) && strcmp(reader->token, "yes") == 0;
+
+    if (!yes && strcmp(reader->token, "no") != 0)
+        return complain(reader, "round: '%.40s' is neither yes nor no", reader->token);
+    *round = yes;
+    *said = true;
+    return line_ends(reader);
+}
+
 /* An answer that is a number, of a job or of a list. */
 struct answer {
     const char *name;
@@ -111,8 +123,8 @@ static bool read_answer(struct reader *reader, const struct answer *answer)
     return stands_in(reader, answer->of) && last_number(reader, answer->name, answer->number);
 }
 
-/* leaves number N, leaves place N, leaves count N, leaves why .., leaves done N, leaves word N, leaves beam ..,
- * leaves at ADDRESS WORD.., leaves REGISTER VALUE */
+/* leaves number N, leaves place N, leaves count N, leaves round .., leaves why .., leaves done N, leaves word N,
+ * leaves beam .., leaves at ADDRESS WORD.., leaves REGISTER VALUE */
 static bool read_leaves(struct reader *reader)
 {
     struct leaves *leaves = &reader->into->leaves;
@@ -129,6 +141,8 @@ static bool read_leaves(struct reader *reader)
     for (size_t i = 0; i < sizeof answers / sizeof answers[0]; i++)
         if (strcmp(reader->token, answers[i].name) == 0)
             return read_answer(reader, &answers[i]);
+    if (strcmp(reader->token, "round") == 0)
+        return stands_in(reader, JOB) && read_round(reader, &leaves->round, &leaves->round_said);
     if (strcmp(reader->token, "why") == 0)
         return stands_in(reader, LIST) && read_why(reader);
     if (strcmp(reader->token, "beam") == 0)
@@ -138,7 +152,7 @@ static bool read_leaves(struct reader *reader)
     return read_register(reader, leaves->file, leaves->file_said);
 }
 
-/* folds N NAME */
+/* folds N NAME, folds N NAME round .. */
 static bool read_folds(struct reader *reader)
 {
     struct leaves *leaves = &reader->into->leaves;
@@ -149,7 +163,11 @@ static bool read_folds(struct reader *reader)
     if (!next_token(reader) || strlen(reader->token) == NAME_ROOM - 1)
         return complain(reader, "folds: a file's name is missing or too long");
     strcpy(leaves->folds_name, reader->token);
-    return line_ends(reader);
+    if (!next_token(reader))
+        return true;
+    if (strcmp(reader->token, "round") != 0)
+        return complain(reader, "'%.40s' is too much on this line", reader->token);
+    return read_round(reader, &leaves->folds_round, &leaves->folds_round_said);
 }
 
 /* start ADDRESS */

@@ -24,8 +24,8 @@ enum why { END_OF_FRAME, USED_UP, REFUSED_NEXT };
 /* What a file says that its job or list leaves. */
 struct leaves {
     bool said;                       /* it says anything at all */
-    uint32_t number, place, count;
-    bool count_said;
+    uint32_t number, place, count, round;
+    bool count_said, round_said;
     uint32_t why, done, word, beam;  /* of a list; beam is a place, and the frame's end stands for any behind it */
     bool done_said, word_said, beam_said;
     bool ram_said[RAM_ROOM];
@@ -34,7 +34,9 @@ struct leaves {
     uint16_t file[FILE_WORDS];
     bool folds_said;
     size_t folds_ram;                /* folded for so many words of memory .. */
-    char folds_name[NAME_ROOM];      /* .. it becomes the job of this file */
+    char folds_name[NAME_ROOM];      /* .. it becomes the job of this file, .. */
+    uint32_t folds_round;            /* .. and a blit is kept for going round alone, 1, or none is, 0 */
+    bool folds_round_said;
 };
 
 struct jobfile {

@@ -72,6 +72,8 @@ static void write_leaves(FILE *stream, const struct leaves *leaves)
     write_registers(stream, "leaves ", leaves->file, leaves->file_said);
     if (leaves->count_said)
         fprintf(stream, "leaves count %lu\n", (unsigned long)leaves->count);
+    if (leaves->round_said)
+        fprintf(stream, "leaves round %s\n", leaves->round ? "yes" : "no");
     fprintf(stream, "leaves number %lu\n", (unsigned long)leaves->number);
     if (leaves->place > 0)
         fprintf(stream, "leaves place %lu\n", (unsigned long)leaves->place);

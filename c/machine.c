@@ -17,7 +17,8 @@ bool same_machine(const struct machine *one, const struct machine *other)
 
 bool same_run(struct run one, struct run other)
 {
-    return one.number == other.number && one.place == other.place && one.count == other.count;
+    return one.number == other.number && one.place == other.place && one.count == other.count
+        && one.round == other.round;
 }
 
 struct run run_of(const struct jobfile *jobfile, struct machine *machine)
@@ -26,6 +27,6 @@ struct run run_of(const struct jobfile *jobfile, struct machine *machine)
 
     begin(jobfile, machine);
     desk_run(machine->ram, jobfile->ram_words, machine->file, FILE_WORDS, jobfile->job, jobfile->job_words,
-             &run.number, &run.place, &run.count);
+             &run.number, &run.place, &run.count, &run.round);
     return run;
 }

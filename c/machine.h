@@ -15,6 +15,7 @@ struct machine {
 /* How a run ended. */
 struct run {
     uint32_t number, place, count;
+    uint32_t round;  /* 1 if a blit that was done went round, else 0 */
 };
 
 /* A machine that begins as the file says. */

@@ -9,14 +9,14 @@
 #include <stdint.h>
 
 void plain_blit(uint16_t *ram, size_t ram_words, uint16_t *file, size_t file_words, uint16_t size,
-                uint32_t *number, uint32_t *stored);
+                uint32_t *number, uint32_t *stored, uint32_t *round);
 
 void plain_run(uint16_t *ram, size_t ram_words, uint16_t *file, size_t file_words,
                const uint16_t *job, size_t job_words,
-               uint32_t *number, uint32_t *place, uint32_t *stored);
+               uint32_t *number, uint32_t *place, uint32_t *stored, uint32_t *round);
 
 void plain_fold(size_t ram_words, const uint16_t *job, size_t job_words, uint16_t *out, size_t out_words,
-                uint32_t *number, uint32_t *place, uint32_t *length);
+                uint32_t *number, uint32_t *place, uint32_t *length, uint32_t *round);
 
 void plain_widen(const uint16_t *old, size_t old_words, uint16_t *target, size_t target_words, uint32_t *number);
 

@@ -1,13 +1,13 @@
-/* The area blit of paper 01, word by word, with the order of fetches and stores of paper 02's W2. A blit with the line
- * bit is a line, which plain_line.c does. */
+/* The area blit of paper 01, word by word, with the order of fetches and stores of paper 02's W2 and W12's yes for a
+ * pointer that goes round. A blit with the line bit is a line, which plain_line.c does. */
 #include "plain.h"
 #include "plain_parts.h"
 
 struct channel {
     bool used;
     uint32_t at;      /* the pointer, a word number below POINTERS */
-    uint32_t step;    /* one up or down, modulo 2^32 */
-    uint32_t modulo;  /* half the modulo, added or taken away, modulo 2^32 */
+    int32_t step;     /* one up, or one down if descending */
+    int32_t modulo;   /* half the modulo, or if descending what is added where that is taken away */
 };
 
 struct source {
@@ -71,11 +71,11 @@ uint32_t plain_width(uint16_t size)
 static struct channel channel_of(const uint16_t *file, uint16_t use, int pointer_high, int modulo)
 {
     bool descending = file[BLTCON1] >> 1 & 1;
-    uint32_t half = (uint32_t)((int16_t)file[modulo] / 2);
+    int32_t half = (int16_t)file[modulo] / 2;
     struct channel channel;
     channel.used = file[BLTCON0] & use;
     channel.at = ((uint32_t)file[pointer_high] << 16 | file[pointer_high + 1]) / 2;
-    channel.step = descending ? -(uint32_t)1 : 1;
+    channel.step = descending ? -1 : 1;
     channel.modulo = descending ? -half : half;
     return channel;
 }
@@ -117,14 +117,15 @@ static struct blit blit_of(const uint16_t *file, uint16_t size)
     return blit;
 }
 
-/* After a word; after a row's last word the modulo comes on top. */
-static void move(struct channel *channel, bool row_ends)
+/* After a word; after a row's last word the modulo comes on top, as a move of its own. Whether either went round. */
+static bool move(struct channel *channel, bool row_ends)
 {
     if (!channel->used)
-        return;
-    channel->at = (channel->at + channel->step) % POINTERS;
+        return false;
+    bool round = plain_moved(&channel->at, channel->step);
     if (row_ends)
-        channel->at = (channel->at + channel->modulo) % POINTERS;
+        round |= plain_moved(&channel->at, channel->modulo);
+    return round;
 }
 
 /* Whether the channel touches a word at N or above. Where a pointer only passes or ends, nothing is touched. */
@@ -232,23 +233,34 @@ static uint16_t next_word(struct blit *blit, bool first, bool last)
     return word;
 }
 
+/* All four channels after a word: whether some used one went round. */
+static bool move_all(struct blit *blit, bool row_ends)
+{
+    bool round = move(&blit->a.channel, row_ends);
+    round |= move(&blit->b.channel, row_ends);
+    round |= move(&blit->c.channel, row_ends);
+    round |= move(&blit->d, row_ends);
+    return round;
+}
+
 /* Does the words in their order: the next word's sources, in the next row too, are fetched before a word is stored.
- * Words are stored in memory, or listed instead where there is a list. Gives whether all were zero. */
-static bool do_words(struct blit *blit, uint16_t *ram, struct store *list)
+ * Words are stored in memory, or listed instead where there is a list. Gives whether all were zero, and whether a
+ * channel went round: each used one has an access at every word, so that the moves behind the last word don't count. */
+static bool do_words(struct blit *blit, uint16_t *ram, struct store *list, bool *round)
 {
     uint16_t ones = 0;
+    *round = false;
     fetch_sources(blit, ram);
     for (uint32_t row = 0; row < blit->height; row++)
         for (uint32_t column = 0; column < blit->width; column++) {
             bool last = column + 1 == blit->width;
             struct store store = {blit->d.at, next_word(blit, column == 0, last)};
             ones |= store.word;
-            move(&blit->a.channel, last);
-            move(&blit->b.channel, last);
-            move(&blit->c.channel, last);
-            move(&blit->d, last);
-            if (!last || row + 1 < blit->height)
+            bool moved_round = move_all(blit, last);
+            if (!last || row + 1 < blit->height) {
+                *round |= moved_round;
                 fetch_sources(blit, ram);
+            }
             if (list)
                 *list++ = store;
             else if (blit->d.used)
@@ -276,25 +288,26 @@ static void keep(uint16_t *file, const struct blit *blit, bool all_zero)
     file[ZERO_FLAG] = all_zero;
 }
 
-uint32_t plain_blit_done(uint16_t *ram, uint16_t *file, uint16_t size)
+uint32_t plain_blit_done(uint16_t *ram, uint16_t *file, uint16_t size, bool *round)
 {
     if (file[BLTCON1] & LINE)
-        return plain_line_done(ram, file, size);
+        return plain_line_done(ram, file, size, round);
     struct blit blit = blit_of(file, size);
-    keep(file, &blit, do_words(&blit, ram, NULL));
+    keep(file, &blit, do_words(&blit, ram, NULL, round));
     return blit.d.used ? blit.height * blit.width : 0;
 }
 
-uint32_t plain_blit_stores(uint16_t *file, uint16_t size, struct store *stores)
+uint32_t plain_blit_stores(uint16_t *file, uint16_t size, struct store *stores, bool *round)
 {
     struct blit blit = blit_of(file, size);
-    keep(file, &blit, do_words(&blit, NULL, stores));
+    keep(file, &blit, do_words(&blit, NULL, stores, round));
     return blit.height * blit.width;
 }
 
 void plain_blit(uint16_t *ram, size_t ram_words, uint16_t *file, size_t file_words, uint16_t size,
-                uint32_t *number, uint32_t *stored)
+                uint32_t *number, uint32_t *stored, uint32_t *round)
 {
+    bool went_round = false;
     *stored = 0;
     if (!plain_memory_lawful(ram_words))
         *number = 1;
@@ -303,5 +316,6 @@ void plain_blit(uint16_t *ram, size_t ram_words, uint16_t *file, size_t file_wor
     else
         *number = plain_blit_refusal(file, ram_words, size);
     if (*number == 0)
-        *stored = plain_blit_done(ram, file, size);
+        *stored = plain_blit_done(ram, file, size, &went_round);
+    *round = went_round;
 }

@@ -34,8 +34,9 @@ static bool permitted(uint16_t offset, const uint16_t *file)
 static uint32_t blit(struct frame *frame, uint16_t size)
 {
     uint32_t refusal = plain_blit_refusal(frame->file, frame->ram_words, size);
+    bool round;  /* a frame's answer has no place for it */
     if (refusal == 0)
-        plain_blit_done(frame->ram, frame->file, size);
+        plain_blit_done(frame->ram, frame->file, size, &round);
     return refusal;
 }
 

@@ -1,4 +1,4 @@
-/* The folder of paper 01, with paper 02's W3: a line is kept. */
+/* The folder of paper 01, with paper 02's W3, by which a line is kept, and W12, by which a blit that goes round is. */
 #include <string.h>
 
 #include "plain.h"
@@ -70,8 +70,8 @@ static bool sources_known(const struct knowledge *knowledge)
     return !depends(function, 1) || known[BLTCDAT];
 }
 
-/* A line is never settled. */
-static bool settled(const struct knowledge *knowledge, size_t ram_words, uint16_t size)
+/* Everything that settled asks for, but that the blit doesn't go round. A line is never settled. */
+static bool otherwise_settled(const struct knowledge *knowledge, size_t ram_words, uint16_t size)
 {
     const bool *known = knowledge->known;
     return known[BLTCON0] && known[BLTCON1] && known[BLTDPTH] && known[BLTDPTL] && known[BLTDMOD]
@@ -82,11 +82,22 @@ static bool settled(const struct knowledge *knowledge, size_t ram_words, uint16_
         && sources_known(knowledge);
 }
 
+/* Whether the blit, settled otherwise, would go round: done on registers that nobody sees afterwards. */
+static bool goes_round(const struct knowledge *knowledge, uint16_t size)
+{
+    struct store stores[SETTLED_WORDS];
+    struct knowledge unseen = *knowledge;
+    bool round;
+    plain_blit_stores(unseen.file, size, stores, &round);
+    return round;
+}
+
 /* A settled blit as its stores, D's final pointer and the flag step. The pointer stays known, with its final number. */
 static void fold_blit(struct knowledge *knowledge, uint16_t size, struct folded *folded)
 {
     struct store stores[SETTLED_WORDS];
-    uint32_t count = plain_blit_stores(knowledge->file, size, stores);
+    bool round;
+    uint32_t count = plain_blit_stores(knowledge->file, size, stores, &round);
     for (uint32_t i = 0; i < count; i++) {
         uint32_t address = stores[i].at * 2;
         put(folded, 0x8000 | address >> 16);
@@ -100,12 +111,16 @@ static void fold_blit(struct knowledge *knowledge, uint16_t size, struct folded 
     put(folded, 0xC000 | knowledge->file[ZERO_FLAG]);
 }
 
+/* *round becomes 1 where a blit is kept for going round alone. */
 static void fold_step(struct knowledge *knowledge, size_t ram_words, const uint16_t *words, const struct step *step,
-                      struct folded *folded)
+                      struct folded *folded, uint32_t *round)
 {
-    if (step->kind == BLIT_START && settled(knowledge, ram_words, step->value)) {
-        fold_blit(knowledge, step->value, folded);
-        return;
+    if (step->kind == BLIT_START && otherwise_settled(knowledge, ram_words, step->value)) {
+        if (!goes_round(knowledge, step->value)) {
+            fold_blit(knowledge, step->value, folded);
+            return;
+        }
+        *round = 1;
     }
     if (step->kind == REGISTER_WRITE && step->target < BLITTER_WORDS)
         learn(knowledge, step->target, step->value);
@@ -116,14 +131,16 @@ static void fold_step(struct knowledge *knowledge, size_t ram_words, const uint1
 }
 
 void plain_fold(size_t ram_words, const uint16_t *job, size_t job_words, uint16_t *out, size_t out_words,
-                uint32_t *number, uint32_t *place, uint32_t *length)
+                uint32_t *number, uint32_t *place, uint32_t *length, uint32_t *round)
 {
+    uint32_t kept_for_round = 0;
     struct knowledge knowledge = {{false}, {0}};
     struct folded folded;
     folded.length = 0;
     *number = !plain_memory_lawful(ram_words) ? 1 : job_words > JOB_WORDS ? 3 : 0;
     *place = 0;
     *length = 0;
+    *round = 0;
     if (*number != 0)
         return;
     for (size_t at = 0; at < job_words;) {
@@ -133,7 +150,7 @@ void plain_fold(size_t ram_words, const uint16_t *job, size_t job_words, uint16_
             *place = at;
             return;
         }
-        fold_step(&knowledge, ram_words, job + at, &step, &folded);
+        fold_step(&knowledge, ram_words, job + at, &step, &folded, &kept_for_round);
         at += step.words;
     }
     if (folded.length > out_words || folded.length > JOB_WORDS) {
@@ -142,4 +159,5 @@ void plain_fold(size_t ram_words, const uint16_t *job, size_t job_words, uint16_
     }
     memcpy(out, folded.words, folded.length * sizeof *out);
     *length = folded.length;
+    *round = kept_for_round;
 }

@@ -1,5 +1,5 @@
-/* The line of paper 01, "Kept for lines and Copper lists", dot by dot, with the refusals of paper 02's W3 and what that
- * leaves in the register file. */
+/* The line of paper 01, "Kept for lines and Copper lists", dot by dot, with the refusals of paper 02's W3, what that
+ * leaves in the register file, and W12's yes for C's pointer. */
 #include "plain_parts.h"
 
 enum { SIGN = 0x40, SUD = 0x10, SUL = 0x08, AUL = 0x04, SING = 0x02 };
@@ -9,7 +9,7 @@ enum { WORD_BITS = 16, LINE_WIDTH = 2, LINE_USES = USE_A | USE_C | USE_D };
 struct line {
     uint32_t dots;
     uint32_t at;            /* C's pointer, which D's follows: a word number below POINTERS */
-    uint32_t half_modulo;   /* half of C's modulo, modulo 2^32 */
+    int32_t half_modulo;    /* half of C's modulo */
     uint16_t mark;          /* A's data, masked */
     uint32_t shift;         /* of A */
     uint16_t texture;       /* B's data */
@@ -34,7 +34,7 @@ static struct line line_of(const uint16_t *file, uint16_t size)
     struct line line;
     line.dots = plain_height(size);
     line.at = pointer(file, BLTCPTH);
-    line.half_modulo = (uint32_t)((int16_t)file[BLTCMOD] / 2);
+    line.half_modulo = (int16_t)file[BLTCMOD] / 2;
     line.mark = file[BLTADAT] & file[BLTAFWM];
     line.shift = file[BLTCON0] >> 12;
     line.texture = file[BLTBDAT];
@@ -52,43 +52,46 @@ static struct line line_of(const uint16_t *file, uint16_t size)
     return line;
 }
 
-static void move_vertically(struct line *line, bool up)
+/* The two moves of C's pointer give whether it went round. */
+static bool move_vertically(struct line *line, bool up)
 {
-    line->at = (up ? line->at - line->half_modulo : line->at + line->half_modulo) % POINTERS;
     line->moved_vertically = true;
+    return plain_moved(&line->at, up ? -line->half_modulo : line->half_modulo);
 }
 
-static void move_horizontally(struct line *line, bool left)
+static bool move_horizontally(struct line *line, bool left)
 {
+    bool round = false;
     if (left) {
         if (line->shift == 0)
-            line->at = (line->at - 1) % POINTERS;
+            round = plain_moved(&line->at, -1);
         line->shift = (line->shift + WORD_BITS - 1) % WORD_BITS;
     } else {
         if (line->shift == WORD_BITS - 1)
-            line->at = (line->at + 1) % POINTERS;
+            round = plain_moved(&line->at, 1);
         line->shift = (line->shift + 1) % WORD_BITS;
     }
+    return round;
 }
 
-static void move(struct line *line, bool vertical, bool up_or_left)
+static bool move(struct line *line, bool vertical, bool up_or_left)
 {
-    if (vertical)
-        move_vertically(line, up_or_left);
-    else
-        move_horizontally(line, up_or_left);
+    return vertical ? move_vertically(line, up_or_left) : move_horizontally(line, up_or_left);
 }
 
-/* After every dot, the last too. Moves and accumulator go by the sign that the dot before had. */
-static void step(struct line *line)
+/* After every dot, the last too. Moves and accumulator go by the sign that the dot before had. Gives whether either
+ * move went round; what the accumulator does is no move. */
+static bool step(struct line *line)
 {
+    bool round = false;
     line->moved_vertically = false;
     if (!line->sign)
-        move(line, line->sometimes_is_vertical, line->sometimes_is_up_or_left);
-    move(line, !line->sometimes_is_vertical, line->always_is_up_or_left);
+        round |= move(line, line->sometimes_is_vertical, line->sometimes_is_up_or_left);
+    round |= move(line, !line->sometimes_is_vertical, line->always_is_up_or_left);
     line->accumulator += line->sign ? line->b_modulo : line->a_modulo;
     line->sign = line->accumulator >> 15 & 1;
     line->texture_bit = (line->texture_bit + WORD_BITS - 1) % WORD_BITS;
+    return round;
 }
 
 /* Whether a dot's word, stored or not, lies at N or above. Where the last step ends, nothing is touched. */
@@ -125,12 +128,14 @@ static void keep_pointer(uint16_t *file, int high, uint32_t at)
     file[high + 1] = at * 2 & 0xFFFF;
 }
 
-/* A dot is stored before the next is fetched. The flag goes by the words stored; no other register changes. */
-uint32_t plain_line_done(uint16_t *ram, uint16_t *file, uint16_t size)
+/* A dot is stored before the next is fetched. The flag goes by the words stored; no other register changes. C comes
+ * from its pointer at every dot, stored or not, so that every step but the one behind the last dot counts. */
+uint32_t plain_line_done(uint16_t *ram, uint16_t *file, uint16_t size, bool *round)
 {
     struct line line = line_of(file, size);
     uint32_t stored = 0;
     uint16_t ones = 0;
+    *round = false;
     for (uint32_t dot = 0; dot < line.dots; dot++) {
         if (!line.single || dot == 0 || line.moved_vertically) {
             uint16_t word = word_of(&line, ram[line.at]);
@@ -138,7 +143,8 @@ uint32_t plain_line_done(uint16_t *ram, uint16_t *file, uint16_t size)
             ones |= word;
             stored++;
         }
-        step(&line);
+        if (step(&line) && dot + 1 < line.dots)
+            *round = true;
     }
     file[BLTAPTL] = line.accumulator;
     keep_pointer(file, BLTCPTH, line.at);

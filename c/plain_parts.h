@@ -56,16 +56,26 @@ uint16_t plain_logic(const uint16_t *minterm, uint16_t a, uint16_t b, uint16_t c
 /* The first that refuses the blit, or 0: of 18, 19 and 16 for a line, of 8, 9, 14, 15, 16 and 17 for an area. */
 uint32_t plain_blit_refusal(const uint16_t *file, size_t ram_words, uint16_t size);
 
-/* Does a blit that nothing refuses; gives the count of words stored. */
-uint32_t plain_blit_done(uint16_t *ram, uint16_t *file, uint16_t size);
+/* Moves a pointer by some words, up or down, modulo 262,144. Gives whether it went round: whether the plain sum is
+ * below 0 or above 262,143. */
+static inline bool plain_moved(uint32_t *pointer, int32_t by)
+{
+    int32_t sum = (int32_t)*pointer + by;
+    *pointer = (uint32_t)sum % POINTERS;
+    return sum < 0 || sum >= POINTERS;
+}
+
+/* Does a blit that nothing refuses; gives the count of words stored, and whether a used channel, in a line C, went
+ * round between two of its accesses. */
+uint32_t plain_blit_done(uint16_t *ram, uint16_t *file, uint16_t size, bool *round);
 
 /* The same two of a blit that has the line bit. */
 uint32_t plain_line_refusal(const uint16_t *file, size_t ram_words, uint16_t size);
-uint32_t plain_line_done(uint16_t *ram, uint16_t *file, uint16_t size);
+uint32_t plain_line_done(uint16_t *ram, uint16_t *file, uint16_t size, bool *round);
 
-/* What an area blit of at most 64 words that uses D alone would store, in its order; file is left as after the blit.
- * Gives the count of stores. */
-uint32_t plain_blit_stores(uint16_t *file, uint16_t size, struct store *stores);
+/* What an area blit of at most 64 words that uses D alone would store, in its order, and whether D would go round
+ * between two of its stores; file is left as after the blit. Gives the count of stores. */
+uint32_t plain_blit_stores(uint16_t *file, uint16_t size, struct store *stores, bool *round);
 
 enum step_kind { REGISTER_WRITE, BLIT_START, STORE, FLAG };
 

@@ -1,4 +1,4 @@
-/* The reader and the runner of jobs of paper 01, with the colours of paper 02's W7. */
+/* The reader and the runner of jobs of paper 01, with the colours of paper 02's W7 and W12's yes. */
 #include "plain.h"
 #include "plain_parts.h"
 
@@ -64,9 +64,11 @@ uint32_t plain_step(const uint16_t *job, size_t job_words, size_t place, struct 
 }
 
 /* Does a step: 0, or its refusal, which changes nothing. */
-static uint32_t do_step(uint16_t *ram, size_t ram_words, uint16_t *file, const struct step *step, uint32_t *stored)
+static uint32_t do_step(uint16_t *ram, size_t ram_words, uint16_t *file, const struct step *step,
+                        uint32_t *stored, uint32_t *round)
 {
     uint32_t refusal;
+    bool went_round = false;
     switch (step->kind) {
     case REGISTER_WRITE:
         file[step->target] = step->value;
@@ -83,26 +85,28 @@ static uint32_t do_step(uint16_t *ram, size_t ram_words, uint16_t *file, const s
     default:
         refusal = plain_blit_refusal(file, ram_words, step->value);
         if (refusal == 0)
-            *stored += plain_blit_done(ram, file, step->value);
+            *stored += plain_blit_done(ram, file, step->value, &went_round);
+        *round |= went_round;
         return refusal;
     }
 }
 
 void plain_run(uint16_t *ram, size_t ram_words, uint16_t *file, size_t file_words,
                const uint16_t *job, size_t job_words,
-               uint32_t *number, uint32_t *place, uint32_t *stored)
+               uint32_t *number, uint32_t *place, uint32_t *stored, uint32_t *round)
 {
     *number = !plain_memory_lawful(ram_words) ? 1 : !plain_file_lawful(file, file_words) ? 2
               : job_words > JOB_WORDS ? 3 : 0;
     *place = 0;
     *stored = 0;
+    *round = 0;
     if (*number != 0)
         return;
     for (size_t at = 0; at < job_words;) {
         struct step step;
         *number = plain_step(job, job_words, at, &step);
         if (*number == 0)
-            *number = do_step(ram, ram_words, file, &step, stored);
+            *number = do_step(ram, ram_words, file, &step, stored, round);
         if (*number != 0) {
             *place = at;
             return;

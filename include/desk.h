@@ -42,6 +42,14 @@
  *   the first dot and the first after each vertical move. The step behind the last dot is made too; where it goes isn't
  *   judged. A line leaves the accumulator in BLTAPTL, in C's and D's pointers the word to which that step went, and in
  *   the zero flag 1 exactly when every word that it stored was zero. Every other register is as before, BLTCDAT too.
+ * - A pointer goes round when a move of it, reckoned plainly, would leave the words 0 to 262,143: pointer plus or minus
+ *   one, or pointer plus or minus half the modulo, a two's complement number, is below 0 or above 262,143. Each move is
+ *   judged by itself, and a row's last step and its modulo are two, so that a step from word 0 down to 262,143 goes
+ *   round even where the modulo then leads back. In a line the moves are C's, vertical and horizontal, each by itself;
+ *   D follows C, and the accumulator is no pointer. A move counts if the channel is used and has an access behind it:
+ *   the last row's last step and its modulo don't, nor does the step behind a line's last dot. A dot that isn't stored
+ *   is an access too. A blit goes round when it is done and such a move of any channel did. That is lawful, happens in
+ *   small memories too, and is only told.
  * - All numbers are written at every call, refused or not.
  * - There is no state: calls on different buffers may run at the same time. No call allocates, prints or fails otherwise.
  */
@@ -55,28 +63,30 @@
 extern "C" {
 #endif
 
-/* Does one blit of the given BLTSIZE. *number is 0 when it is done, and *stored the count of words stored; otherwise it
- * is 1, 2, 8, 9, 14, 15, 16 or 17 for an area blit, 1, 2, 18, 19 or 16 for a line (the first that holds, in this
- * order), *stored is 0, and ram and file are unchanged. */
+/* Does one blit of the given BLTSIZE. *number is 0 when it is done, *stored the count of words stored, and *round 1 if
+ * it went round, else 0. Otherwise *number is 1, 2, 8, 9, 14, 15, 16 or 17 for an area blit, 1, 2, 18, 19 or 16 for a
+ * line (the first that holds, in this order), *stored and *round are 0, and ram and file are unchanged. */
 void desk_blit(uint16_t *ram, size_t ram_words, uint16_t *file, size_t file_words, uint16_t size,
-               uint32_t *number, uint32_t *stored);
+               uint32_t *number, uint32_t *stored, uint32_t *round);
 
 /* Runs a job. *number is 0 when it is done, and *place is 0; otherwise it is 1 to 6, 10 for a store, 8, 9 or 14 to 17
  * for an area blit, 18, 19 or 16 for a line, *place is the word index of the refused step (0 for 1 to 3), and ram, file
  * and *stored are as after the last step that was done. *stored counts the words stored by blits and store steps
- * together. */
+ * together. *round is 1 if a blit that was done went round, also where a later step is refused, else 0. */
 void desk_run(uint16_t *ram, size_t ram_words, uint16_t *file, size_t file_words,
               const uint16_t *job, size_t job_words,
-              uint32_t *number, uint32_t *place, uint32_t *stored);
+              uint32_t *number, uint32_t *place, uint32_t *stored, uint32_t *round);
 
 /* Folds a job for memory of ram_words words. *number is 0 when it is done, *place is 0, *length is the length of the
  * folded job, which stands at the start of out; out beyond it is unchanged. Otherwise *number is 1, 3, 4, 5, 6 or 11,
- * *place the word index of the refused step (0 for 1, 3 and 11), *length 0, and the whole of out is unchanged.
- * No folded job is longer than 4,096 words. A step that a run would refuse is copied, not refused. A line is copied
- * always. On every memory of ram_words words the folded job and its original end alike, but for the place told with a
- * refusal. */
+ * *place the word index of the refused step (0 for 1, 3 and 11), *length and *round 0, and the whole of out is
+ * unchanged. No folded job is longer than 4,096 words. A step that a run would refuse is copied, not refused. A line is
+ * copied always. So is a blit that would go round, for stores move no pointer; one whose pointer goes round only behind
+ * its last access is replaced like any other. *round is 1 if the folding is done and some blit was copied for going
+ * round alone, all else that lets a blit be replaced being so; otherwise it is 0. On every memory of ram_words words
+ * the folded job and its original end alike, *round of the two runs too, but for the place told with a refusal. */
 void desk_fold(size_t ram_words, const uint16_t *job, size_t job_words, uint16_t *out, size_t out_words,
-               uint32_t *number, uint32_t *place, uint32_t *length);
+               uint32_t *number, uint32_t *place, uint32_t *length, uint32_t *round);
 
 /* Turns an old register file, of 20 words, into a new one: the first 19 words as they are, COPCON 0, black colours, and
  * the zero flag, the old file's last word, last. *number is 0 when it is done. Otherwise it is 2 if the old file hasn't 20

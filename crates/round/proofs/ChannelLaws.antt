@@ -1,5 +1,5 @@
 -- Laws of a channel's moves: a row tells, or the rest does.
-use Rattle.word.proofs.Base.{_≡_, refl, sym, ap, _∙_, ℕ, zero, suc, _-_, _<_, _≤_, sub-one, arith, Bool, true, false, _&&_, _||_, not}
+use Rattle.word.proofs.Base.{_≡_, refl, sym, ap, ap₂, _∙_, ℕ, zero, suc, _-_, _<_, _≤_, sub-one, arith, Bool, true, false, _&&_, _||_, not}
 use Rattle.word.proofs.Base.{List, [], _++_, not-true, not-false}
 use mathlib.Core.List.{append-nil}
 use Rattle.word.specs.declared.types.Direction.{Direction}
@@ -9,6 +9,7 @@ use Rattle.word.specs.Pointer.{pointerEnd, downward, passed, nextRow}
 use Rattle.word.specs.Round.{passedRound, moduloMove}
 use Rattle.word.proofs.ChoiceLaws.{and-none}
 use Rattle.word.proofs.PointerLaws.{passed-lt, nextRow-of-moves}
+use Rattle.line.proofs.WalkLaws.{or-true}
 use Rattle.round.specs.Between.{anyRound, wentRound}
 use Rattle.round.specs.Channel.{rowMoves, channelMoves, channelRound}
 use Rattle.round.proofs.BetweenLaws.{flat, Some, some-of-append, wentRound-of-append}
@@ -58,10 +59,6 @@ module _ (direction : Direction) (width modulo : ℕ) (some : 1 ≤ width) (narr
   module _ (remaining : ℕ) (here : Pointer) (small : here .word < pointerEnd) (more : 1 < remaining) (row gap : Move) (whole : Bool)
       (steps : row ≡ moduloMove direction width here) (passes : gap ≡ moduloMove direction modulo (row .to))
       (same : wentRound (channelMoves direction width modulo remaining here) ≡ whole) where
-    told-by-end : (row .round || gap .round) ≡ endRound here
-    unfolding endRound
-    told-by-end = rw (passes, steps)
-
     rest-follows : (endRound here || wentRound (channelMoves direction width modulo (remaining - 1) (nextRow direction width modulo here))) ≡ whole
     rest-follows = by-count remaining more same
       where
@@ -71,22 +68,31 @@ module _ (direction : Direction) (width modulo : ℕ) (some : 1 ≤ width) (narr
         by-count (suc zero) few same = absurd (omega arith)
         by-count (suc (suc many)) few same = rw (sub-one (suc (suc many))) (sym (wentRound-of-rows many here small) ∙ same)
 
-    pub rows-when-round : (row .round || gap .round) ≡ true → true ≡ whole
-    rows-when-round told =
-        ap (λ (first : Bool). first || wentRound (channelMoves direction width modulo (remaining - 1) (nextRow direction width modulo here))) (sym told ∙ told-by-end)
-        ∙ rest-follows
+    abbrev later : Bool
+    later = wentRound (channelMoves direction width modulo (remaining - 1) (nextRow direction width modulo here))
+
+    ends : (row .round || gap .round) ≡ endRound here
+    unfolding endRound
+    ends = rw (passes, steps)
+
+    by-tests : (row-told gap-told : Bool) → row .round ≡ row-told → gap .round ≡ gap-told → ((row-told || gap-told) || later) ≡ whole
+    by-tests row-told gap-told of-row of-gap =
+        ap (λ (first : Bool). first || later) (sym (ap₂ _||_ of-row of-gap) ∙ ends) ∙ rest-follows
+
+    pub rows-when-steps : row .round ≡ true → true ≡ whole
+    rows-when-steps told = by-tests true (gap .round) told refl
+
+    pub rows-when-gap : gap .round ≡ true → true ≡ whole
+    rows-when-gap told = ap (λ (first : Bool). first || later) (sym (or-true (row .round))) ∙ by-tests (row .round) true refl told
 
     leads : (gap .to ≡ nextRow direction width modulo here) × (gap .to .word < pointerEnd)
     leads =
         nextRow-of-moves direction width modulo here (row .to) (gap .to) small narrow (ap (λ (move : Move). move .to) steps)
         (ap (λ (move : Move). move .to) passes)
 
-    pub rows-turn : (row .round || gap .round) ≡ false → wentRound (channelMoves direction width modulo (remaining - 1) (gap .to)) ≡ whole
-    rows-turn told =
-        rw (leads .0)
-        (ap (λ (first : Bool). first || wentRound (channelMoves direction width modulo (remaining - 1) (nextRow direction width modulo here)))
-        (sym told ∙ told-by-end)
-        ∙ rest-follows)
+    pub rows-turn : row .round ≡ false → gap .round ≡ false
+        → wentRound (channelMoves direction width modulo (remaining - 1) (gap .to)) ≡ whole
+    rows-turn of-row of-gap = rw (leads .0) (by-tests false false of-row of-gap)
 
   pub gap-lt : (from : Pointer) (gap : Move) → gap ≡ moduloMove direction modulo from → gap .to .word < pointerEnd
   gap-lt from gap passes = rw passes (passed-lt direction modulo from)

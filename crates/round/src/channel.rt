@@ -24,7 +24,10 @@ fn rows_round(direction: Direction, width: u32, modulo: u32, rows: u32, pointer:
         let row = here.passed(direction, width);
         let end = row.to;
         let gap = end.passed(direction, modulo);
-        if row.round | gap.round {
+        if row.round {
+            return true;
+        }
+        if gap.round {
             return true;
         }
         here = gap.to;

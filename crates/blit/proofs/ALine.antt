@@ -11,6 +11,7 @@ use Rattle.line.specs.Line as lines
 use Rattle.line.specs.Line.{begun, lineBlit}
 use Rattle.line.proofs.DotsLaws.{lineBlit-counts, lineBlit-counts-all, lineBlit-counts-some}
 use Rattle.refusal.specs.Refusal.{refusal}
+use Rattle.round.specs.Round.{goesRound}
 use Rattle.blit.specs.Blit.{Outcome, drawn, lineDone, done, refused, answered, blit}
 use Rattle.blit.specs.ALine.{namedPlaces, OnlyDotsChange, AWordARow, OthersAsBefore}
 use Rattle.blit.proofs.BlitLaws.{not-both, answered-cases}
@@ -22,7 +23,7 @@ only-dots-change memory file size word lined apart = only-d-changes memory file 
 
 -- a line that is done
 blit-of-line : (memory file : List ℕ) (size : ℕ) → line (con1 file) ≡ true → refusal (length memory) file size ≡ 0
-    → blit memory file size ≡ lineDone file (drawn memory file size)
+    → blit memory file size ≡ lineDone file (goesRound file size) (drawn memory file size)
 unfolding blit answered done
 blit-of-line memory file size lined lawful = rw (lawful, lined)
 

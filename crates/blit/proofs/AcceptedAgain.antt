@@ -21,6 +21,7 @@ use Rattle.line.specs.Line.{begun}
 use Rattle.line.specs.Leave.{leave}
 use Rattle.line.proofs.DotsLaws.{Even, lineBlit-bounded, lineBlit-even}
 use Rattle.refusal.specs.Refusal.{stepRefusal, refusal}
+use Rattle.round.specs.Round.{goesRound}
 use Rattle.file.specs.Pointers.{withPointer, putFlag}
 use Rattle.blit.specs.WriteBack.{putPointer, putPointers, putSource, putSources}
 use Rattle.blit.specs.Blit.{Outcome, finished, drawn, areaDone, lineDone, refused, answered, blitStep, blit}
@@ -60,19 +61,20 @@ putPointers-accepted uses at file fine =
     (putPointer-accepted (uses .b) pointerB (at .b) _ refl refl
     (putPointer-accepted (uses .a) pointerA (at .a) file refl refl fine)))
 
-areaDone-accepted : (file : List ℕ) (end : State) → Bounded end → accepted file ≡ true → accepted (areaDone file end .file) ≡ true
+areaDone-accepted : (file : List ℕ) (round : Bool) (end : State) → Bounded end → accepted file ≡ true
+    → accepted (areaDone file round end .file) ≡ true
 unfolding areaDone putSources keptBits registers
-areaDone-accepted file end bounded fine =
+areaDone-accepted file round end bounded fine =
     putFlag-accepted (end .flow .allzero) _
     (putSource-accepted (setup file .uses .c) sourceC (end .flow .sources .c) _ refl (bounded .c)
     (putSource-accepted (setup file .uses .b) sourceB (end .flow .sources .b) _ refl (bounded .b)
     (putSource-accepted (setup file .uses .a) sourceA (end .flow .sources .a) _ refl (bounded .a)
     (putPointers-accepted (setup file .uses) (end .flow .pointers) file fine))))
 
-lineDone-accepted : (file : List ℕ) (end : lines.State) → Even (end .drawn .dot .accumulator) → accepted file ≡ true
-    → accepted (lineDone file end .file) ≡ true
+lineDone-accepted : (file : List ℕ) (round : Bool) (end : lines.State) → Even (end .drawn .dot .accumulator) → accepted file ≡ true
+    → accepted (lineDone file round end .file) ≡ true
 unfolding lineDone leave keptBits registers
-lineDone-accepted file end (even, small) fine =
+lineDone-accepted file round end (even, small) fine =
     putFlag-accepted (end .drawn .allzero) _
     (withPointer-accepted pointerD (end .drawn .dot .spot .at) _ refl refl
     (withPointer-accepted pointerC (end .drawn .dot .spot .at) _ refl refl
@@ -119,8 +121,8 @@ module _ (n number : ℕ) (memory file : List ℕ) (size : ℕ) (ready : Ready n
             (end-bounded .memory) (ready .words);
         fine =
             answered-either (λ (end : Outcome). accepted (end .file) ≡ true) number memory file size
-            (lineDone-accepted file (drawn memory file size) (drawn-even memory file size (ready .fine)) (ready .fine))
-            (areaDone-accepted file (finished memory file size) end-bounded (ready .fine)) (ready .fine);
+            (lineDone-accepted file (goesRound file size) (drawn memory file size) (drawn-even memory file size (ready .fine)) (ready .fine))
+            (areaDone-accepted file (goesRound file size) (finished memory file size) end-bounded (ready .fine)) (ready .fine);
       }
 
 pub accepted-again : AcceptedAgain

@@ -1,5 +1,5 @@
 -- Laws of the blit: what it writes back, and how it is put together from its parts.
-use Rattle.word.proofs.Base.{_≡_, refl, ap, ℕ, _+_, _*_, _<_, _≤_, arith, Bool, true, false, eqb, eqb-true, List, length}
+use Rattle.word.proofs.Base.{_≡_, refl, ap, ℕ, _+_, _*_, _<_, _≤_, arith, Bool, true, false, eqb, eqb-true, ne-eqb, List, length}
 use Rattle.word.proofs.Base.{length-set}
 use native.Mathlib.Nat.{mul-one, mul-zero}
 use Rattle.word.specs.declared.types.Pointer.{Pointer}
@@ -37,6 +37,9 @@ use Rattle.refusal.specs.Plan.{areaPlan, linePlan, plan}
 use Rattle.refusal.proofs.PlanLaws.{lineOrArea-cases, area-bit, area-of-plan, line-bit, line-of-plan}
 use Rattle.refusal.specs.Refusal.{stepRefusal, refusal, verdictNumber, handed}
 use Rattle.refusal.proofs.RefusalLaws.{plan-lt-a, plan-lt-b, plan-lt-c, plan-lt-d, refusal-is-some}
+use Rattle.round.specs.Channel.{areaRound}
+use Rattle.round.specs.Line.{lineRound}
+use Rattle.round.specs.Round.{goesRound}
 use Rattle.file.specs.Pointers.{putFlag}
 use Rattle.blit.specs.WriteBack.{putPointer, putPointers, putSource, putSources, writeBack}
 use Rattle.blit.specs.Blit.{Outcome, finished, drawn, areaDone, lineDone, done, refused, answered, blitStep, blit, left}
@@ -86,25 +89,27 @@ pub finished-of-parts : (file : List ℕ) (size : ℕ) (by : AreaPlan) (memory a
 unfolding finished start
 finished-of-parts file size by memory after flow end same starts does = rw (starts, same) at does
 
-pub areaDone-of-parts : (file : List ℕ) (size : ℕ) (by : AreaPlan) (memory after changed : List ℕ) (end : Flow)
+pub areaDone-of-parts : (file : List ℕ) (size : ℕ) (by : AreaPlan) (round : Bool) (memory after changed : List ℕ) (end : Flow)
     → by ≡ areaPlan file size
+    → round ≡ areaRound by
     → state after end ≡ finished memory file size
     → changed ≡ writeBack (by .setup .uses) end file
-    → left (Done (end .stored)) after changed ≡ areaDone file (finished memory file size)
+    → left (Done (end .stored) round) after changed ≡ areaDone file (areaRound (areaPlan file size)) (finished memory file size)
 unfolding areaDone
-areaDone-of-parts file size by memory after changed end same does writes = rw (← does, writes, same)
+areaDone-of-parts file size by round memory after changed end same tells does writes = rw (← does, writes, tells, same)
 
 -- a line by its plan
 module _ (file : List ℕ) (size : ℕ) (by : LinePlan) (same : by ≡ linePlan file size) where
   pub course-room : by .dots < 4294967295
   course-room = rw same (omega (arith, height-le size))
 
-  pub lineDone-of-parts : (memory after changed : List ℕ) (end : Drawn)
+  pub lineDone-of-parts : (round : Bool) (memory after changed : List ℕ) (end : Drawn)
+      → round ≡ lineRound by
       → lines.state after end ≡ lineBlit (by .line) (by .dots) (lines.state memory (begun (by .first)))
       → changed ≡ leave end file
-      → left (Done (end .stored)) after changed ≡ lineDone file (drawn memory file size)
+      → left (Done (end .stored) round) after changed ≡ lineDone file (lineRound (linePlan file size)) (drawn memory file size)
   unfolding lineDone drawn
-  lineDone-of-parts memory after changed end does leaves = rw (leaves, ← (rw same at does))
+  lineDone-of-parts round memory after changed end tells does leaves = rw (leaves, tells, ← (rw same at does), same)
 
 -- no test both holds and fails
 pub not-both : {test : Bool} → test ≡ true → test ≡ false → ⊥
@@ -114,8 +119,16 @@ not-both holds fails = let n : _≡_ {A = ℕ} 0 1 = cc in absurd (omega arith)
 pub done-number : (memory file : List ℕ) (size : ℕ) → done memory file size .number ≡ 0
 unfolding done areaDone lineDone
 done-number memory file size =
-    lineOrArea-cases (λ (outcome : Outcome). outcome .number ≡ 0) file (lineDone file (drawn memory file size))
-    (areaDone file (finished memory file size)) (λ _. refl) (λ _. refl)
+    lineOrArea-cases (λ (outcome : Outcome). outcome .number ≡ 0) file (lineDone file (goesRound file size) (drawn memory file size))
+    (areaDone file (goesRound file size) (finished memory file size)) (λ _. refl) (λ _. refl)
+
+-- and gives the yes of its moves
+pub done-round : (memory file : List ℕ) (size : ℕ) → done memory file size .round ≡ goesRound file size
+unfolding done areaDone lineDone
+done-round memory file size =
+    lineOrArea-cases (λ (outcome : Outcome). outcome .round ≡ goesRound file size) file
+    (lineDone file (goesRound file size) (drawn memory file size))
+    (areaDone file (goesRound file size) (finished memory file size)) (λ _. refl) (λ _. refl)
 
 -- a lawful blit is a line or an area blit, as the plan says that its verdict hands on
 module _ (file : List ℕ) (size : ℕ) (verdict : Verdict) (by : Plan) (lawful : verdict ≡ verdicts.Lawful by)
@@ -130,14 +143,14 @@ module _ (file : List ℕ) (size : ℕ) (verdict : Verdict) (by : Plan) (lawful 
   line-of-verdict course is = line-of-plan file size by plan-of-verdict course is
 
   module _ (memory : List ℕ) (outcome : Outcome) where
-    pub answered-of-area : (area : AreaPlan) → by ≡ plans.Area area → outcome ≡ areaDone file (finished memory file size)
+    pub answered-of-area : (area : AreaPlan) → by ≡ plans.Area area → outcome ≡ areaDone file (areaRound (areaPlan file size)) (finished memory file size)
         → outcome ≡ answered (verdictNumber verdict) memory file size
-    unfolding answered done
+    unfolding answered done goesRound
     answered-of-area area is does = rw (lawful, area-bit file size by plan-of-verdict area is) does
 
-    pub answered-of-line : (course : LinePlan) → by ≡ plans.Line course → outcome ≡ lineDone file (drawn memory file size)
+    pub answered-of-line : (course : LinePlan) → by ≡ plans.Line course → outcome ≡ lineDone file (lineRound (linePlan file size)) (drawn memory file size)
         → outcome ≡ answered (verdictNumber verdict) memory file size
-    unfolding answered done
+    unfolding answered done goesRound
     answered-of-line course is does = rw (lawful, line-bit file size by plan-of-verdict course is) does
 
 pub answered-when-refused : (memory file : List ℕ) (size : ℕ) (why : Refusal) (verdict : Verdict)
@@ -168,30 +181,31 @@ unfolding putSource
 putSource-keeps-length true place word file = simp length-set
 putSource-keeps-length false place word file = refl
 
-areaDone-keeps-length : (file : List ℕ) (end : State) → length (areaDone file end .file) ≡ length file
+areaDone-keeps-length : (file : List ℕ) (round : Bool) (end : State) → length (areaDone file round end .file) ≡ length file
 unfolding areaDone putFlag putSources putPointers
-areaDone-keeps-length file end = simp (length-set, putSource-keeps-length, putPointer-keeps-length)
+areaDone-keeps-length file round end = simp (length-set, putSource-keeps-length, putPointer-keeps-length)
 
-lineDone-keeps-length : (file : List ℕ) (end : lines.State) → length (lineDone file end .file) ≡ length file
+lineDone-keeps-length : (file : List ℕ) (round : Bool) (end : lines.State) → length (lineDone file round end .file) ≡ length file
 unfolding lineDone leave putFlag
-lineDone-keeps-length file end = simp length-set
+lineDone-keeps-length file round end = simp length-set
 
 -- what holds of a line that is done, of an area blit that is done, and of a blit that is refused
 pub answered-cases : (Holds : Outcome → Type 0) (number : ℕ) (memory file : List ℕ) (size : ℕ)
-    → (number ≡ 0 → line (con1 file) ≡ true → Holds (lineDone file (drawn memory file size)))
-    → (number ≡ 0 → line (con1 file) ≡ false → Holds (areaDone file (finished memory file size)))
+    → (number ≡ 0 → line (con1 file) ≡ true → Holds (lineDone file (goesRound file size) (drawn memory file size)))
+    → (number ≡ 0 → line (con1 file) ≡ false → Holds (areaDone file (goesRound file size) (finished memory file size)))
     → Holds (refused number memory file) → Holds (answered number memory file size)
 unfolding answered done
 answered-cases Holds number memory file size first second third = by-number (eqb number 0) refl
   where
     by-number : (none : Bool) → eqb number 0 ≡ none → Holds (if none then done memory file size else refused number memory file)
     by-number true lawful =
-        lineOrArea-cases Holds file (lineDone file (drawn memory file size)) (areaDone file (finished memory file size))
+        lineOrArea-cases Holds file (lineDone file (goesRound file size) (drawn memory file size))
+        (areaDone file (goesRound file size) (finished memory file size))
         (first (eqb-true number 0 lawful)) (second (eqb-true number 0 lawful))
     by-number false against = third
 
 pub answered-either : (Holds : Outcome → Type 0) (number : ℕ) (memory file : List ℕ) (size : ℕ)
-    → Holds (lineDone file (drawn memory file size)) → Holds (areaDone file (finished memory file size))
+    → Holds (lineDone file (goesRound file size) (drawn memory file size)) → Holds (areaDone file (goesRound file size) (finished memory file size))
     → Holds (refused number memory file) → Holds (answered number memory file size)
 answered-either Holds number memory file size first second third =
     answered-cases Holds number memory file size (λ _ _. first) (λ _ _. second) third
@@ -209,7 +223,8 @@ pub answered-keeps-file-length : (number : ℕ) (memory file : List ℕ) (size :
 unfolding refused
 answered-keeps-file-length number memory file size =
     answered-either (λ (end : Outcome). length (end .file) ≡ length file) number memory file size
-    (lineDone-keeps-length file (drawn memory file size)) (areaDone-keeps-length file (finished memory file size)) refl
+    (lineDone-keeps-length file (goesRound file size) (drawn memory file size))
+    (areaDone-keeps-length file (goesRound file size) (finished memory file size)) refl
 
 -- an area blit stores at most 1,024 rows of 64 words, a line at most a word a row
 words-each-le : (size : ℕ) (used : Bool) → height size * (width size * each used) ≤ 65536
@@ -248,3 +263,14 @@ unfolding Stays blitStep areaDone lineDone refused
 blitStep-stays memory file size =
     answered-either (Stays memory file) (stepRefusal (length memory) file size) memory file size
     (λ refusal. absurd (refusal refl)) (λ refusal. absurd (refusal refl)) (λ refusal. (refl, refl))
+
+-- a blit that is done gives the yes of its moves, a refused one none
+pub blitStep-round-when-done : (memory file : List ℕ) (size : ℕ) → stepRefusal (length memory) file size ≡ 0
+    → blitStep memory file size .round ≡ goesRound file size
+unfolding blitStep answered
+blitStep-round-when-done memory file size lawful = rw lawful (done-round memory file size)
+
+pub blitStep-round-when-refused : (memory file : List ℕ) (size : ℕ) → (stepRefusal (length memory) file size ≡ 0 → ⊥)
+    → blitStep memory file size .round ≡ false
+unfolding blitStep answered refused
+blitStep-round-when-refused memory file size against = rw (ne-eqb (stepRefusal (length memory) file size) 0 against)

@@ -1,5 +1,8 @@
--- Paper 01, "Jobs": "The blit called alone, with memory, register file and size, gives [its number] .. and the count".
+-- Paper 01, "Jobs": "The blit called alone, with memory, register file and size, gives [its number] .. and the count"; and
+-- paper 02, W12: a yes "exactly when some used channel (in a line, C) went round between two of its accesses in a blit
+-- that was done".
 use Prim.Native.Nat.{ℕ}
+use mathlib.Core.Bool.{Bool, false}
 use mathlib.Core.List.{List}
 use lib.Dec.{eqb}
 use lib.ListN.{length}
@@ -18,11 +21,13 @@ use Rattle.line.specs.Leave.{leave}
 use Rattle.blit.specs.WriteBack.{writeBack}
 use Rattle.refusal.specs.Plan.{lineOrArea}
 use Rattle.refusal.specs.Refusal.{stepRefusal, refusal, refusalNumber}
+use Rattle.round.specs.Round.{goesRound}
 
--- what a blit gives and leaves
+-- what a blit gives and leaves; round: whether a channel went round
 pub record Outcome : Type 0 where
   pub number : ℕ
   pub stored : ℕ
+  pub round : Bool
   pub memory : List ℕ
   pub file : List ℕ
 
@@ -35,20 +40,22 @@ unfoldable pub drawn : (memory file : List ℕ) → (size : ℕ) → lines.State
 drawn memory file size = lineBlit (lineSetup file) (height size) (lines.state memory (begun (firstDot file)))
 
 -- an area blit that is done, and a line that is
-unfoldable pub areaDone : (file : List ℕ) → State → Outcome
-areaDone file end =
+unfoldable pub areaDone : (file : List ℕ) → (round : Bool) → State → Outcome
+areaDone file round end =
     record {
       number = 0;
       stored = end .flow .stored;
+      round = round;
       memory = end .memory;
       file = writeBack (setup file .uses) (end .flow) file;
     }
 
-unfoldable pub lineDone : (file : List ℕ) → lines.State → Outcome
-lineDone file end =
+unfoldable pub lineDone : (file : List ℕ) → (round : Bool) → lines.State → Outcome
+lineDone file round end =
     record {
       number = 0;
       stored = end .drawn .stored;
+      round = round;
       memory = end .memory;
       file = leave (end .drawn) file;
     }
@@ -56,11 +63,12 @@ lineDone file end =
 -- a blit that is done: a line's or an area's
 unfoldable pub done : (memory file : List ℕ) → (size : ℕ) → Outcome
 done memory file size =
-    lineOrArea file (lineDone file (drawn memory file size)) (areaDone file (finished memory file size))
+    lineOrArea file (lineDone file (goesRound file size) (drawn memory file size))
+    (areaDone file (goesRound file size) (finished memory file size))
 
--- a blit that is refused: nothing is stored, and nothing changes
+-- a blit that is refused: nothing is stored, nothing went round, and nothing changes
 unfoldable pub refused : (number : ℕ) → (memory file : List ℕ) → Outcome
-refused number memory file = record { number = number; stored = 0; memory = memory; file = file }
+refused number memory file = record { number = number; stored = 0; round = false; memory = memory; file = file }
 
 -- a blit with the number of its refusal; 0 where it is done
 unfoldable pub answered : (number : ℕ) → (memory file : List ℕ) → (size : ℕ) → Outcome
@@ -75,16 +83,26 @@ blitStep memory file size = answered (stepRefusal (length memory) file size) mem
 unfoldable pub blit : (memory file : List ℕ) → (size : ℕ) → Outcome
 blit memory file size = answered (refusal (length memory) file size) memory file size
 
--- the paper's number and count for each case of the answer
+-- the paper's number and count for each case of the answer, and its yes
 abbrev pub answerNumber : Answer → ℕ
-answerNumber (Done stored) = 0
+answerNumber (Done stored round) = 0
 answerNumber (Refused why) = refusalNumber why
 
 abbrev pub answerStored : Answer → ℕ
-answerStored (Done stored) = stored
+answerStored (Done stored round) = stored
 answerStored (Refused why) = 0
+
+abbrev pub answerRound : Answer → Bool
+answerRound (Done stored round) = round
+answerRound (Refused why) = false
 
 -- an answer, and what memory and file hold as it is given
 abbrev pub left : Answer → (memory file : List ℕ) → Outcome
 left answer memory file =
-    record { number = answerNumber answer; stored = answerStored answer; memory = memory; file = file }
+    record {
+      number = answerNumber answer;
+      stored = answerStored answer;
+      round = answerRound answer;
+      memory = memory;
+      file = file;
+    }

@@ -4,6 +4,8 @@ ghost use mathlib.Core.Path.{_≡_};
 ghost use Rattle.area.specs.Flow.{state};
 ghost use Rattle.blit.specs.Blit.{finished, drawn, areaDone, lineDone, left};
 ghost use Rattle.refusal.specs.Plan.{areaPlan, linePlan};
+ghost use Rattle.round.specs.Channel.{areaRound};
+ghost use Rattle.round.specs.Line.{lineRound};
 use crate::types::Answer;
 use area::types::Flow;
 use refusal::types::AreaPlan;
@@ -20,16 +22,18 @@ fn finished(ram: &mut [u16], file: &[u16], size: u16, by: AreaPlan) -> Flow
     engine::area_blit(ram, setup, by.width as u32, by.height as u32, flow)
 }
 
-// Does it, writes back what it leaves, and answers the count of words stored.
+// Does it, writes back what it leaves, and answers the count of words stored and whether a channel went round.
 pub fn area_done(ram: &mut [u16], file: &mut [u16], size: u16, by: AreaPlan) -> Answer
     requires { ⌜ by ≡ areaPlan (now file) size ⌝ }
     ensures { λ answer. ⌜
         left answer (now (ram .exit)) (now (file .exit))
-        ≡ areaDone (now (file .entry)) (finished (now (ram .entry)) (now (file .entry)) size) ⌝ }
+        ≡ areaDone (now (file .entry)) (areaRound (areaPlan (now (file .entry)) size))
+        (finished (now (ram .entry)) (now (file .entry)) size) ⌝ }
 {
+    let round = round::area_round(by);
     let end = finished(ram, file, size, by);
     crate::registers::write_back(file, by.setup.uses, end);
-    Answer::Done(end.stored)
+    Answer::Done(end.stored, round)
 }
 
 // The same of a line.
@@ -37,11 +41,13 @@ pub fn line_done(ram: &mut [u16], file: &mut [u16], size: u16, by: LinePlan) -> 
     requires { ⌜ by ≡ linePlan (now file) size ⌝ }
     ensures { λ answer. ⌜
         left answer (now (ram .exit)) (now (file .exit))
-        ≡ lineDone (now (file .entry)) (drawn (now (ram .entry)) (now (file .entry)) size) ⌝ }
+        ≡ lineDone (now (file .entry)) (lineRound (linePlan (now (file .entry)) size))
+        (drawn (now (ram .entry)) (now (file .entry)) size) ⌝ }
 {
+    let round = round::line_round(by);
     let line = by.line;
     let first = by.first;
     let drawn = drawing::draw::line_blit(ram, line, by.dots as u32, first);
     drawing::leave::leave(file, drawn);
-    Answer::Done(drawn.stored)
+    Answer::Done(drawn.stored, round)
 }

@@ -143,6 +143,6 @@ accepted-again =
           effect-ready n memory file ready (front place (drop place job)) (front-of-words place (drop place job) (SixteenBits-of-drop job place all));
       run = λ n memory file job all ready.
           if-either (λ end. Ready n (end .machine .memory) (end .machine .file)) (eqb (startRefusal memory file job) 0)
-          (runFrom 0 job (machine memory file 0)) (ended (startRefusal memory file job) 0 (machine memory file 0))
-          (runSteps-ready n 0 0 job (machine memory file 0) all ready) ready;
+          (runFrom 0 job (machine memory file 0 false)) (ended (startRefusal memory file job) 0 (machine memory file 0 false))
+          (runSteps-ready n 0 0 job (machine memory file 0 false) all ready) ready;
     }

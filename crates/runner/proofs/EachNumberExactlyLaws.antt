@@ -1,6 +1,6 @@
 -- 1 to 3 are the rules of the list before the first step. A refused run stops where the steps before are done and a row applies;
 -- and where that is so the run can stop nowhere else, for the run of the steps before is the run's beginning.
-use Rattle.word.proofs.Base.{_≡_, refl, sym, ap, _∙_, ℕ, _+_, _<_, _≤_, zero-add, decLt, arith, List, length, take}
+use Rattle.word.proofs.Base.{_≡_, refl, sym, ap, _∙_, ℕ, _+_, _<_, _≤_, zero-add, decLt, arith, List, length, take, false}
 use Rattle.word.proofs.Base.{drop, length-take-le}
 use lib.ListN.{take-append-drop}
 use Rattle.word.specs.Choice.{given}
@@ -30,16 +30,16 @@ stepAt-inside job place before refusal = by-order (decLt (length job) place)
 
 module _ (memory file job : List ℕ) where
   -- a run of which so many words are done goes on there
-  runs-on : (place : ℕ) → place ≤ length job → runFrom 0 (take place job) (machine memory file 0) .number ≡ 0
-      → runFrom 0 job (machine memory file 0) ≡ runFrom place (drop place job) (runFrom 0 (take place job) (machine memory file 0) .machine)
+  runs-on : (place : ℕ) → place ≤ length job → runFrom 0 (take place job) (machine memory file 0 false) .number ≡ 0
+      → runFrom 0 job (machine memory file 0 false) ≡ runFrom place (drop place job) (runFrom 0 (take place job) (machine memory file 0 false) .machine)
   unfolding wellCut
   runs-on place inside done =
       let same : 0 + length (take place job) ≡ place = zero-add (length (take place job)) ∙ length-take-le place job inside in
-      ap (λ (words : List ℕ). runFrom 0 words (machine memory file 0)) (sym (take-append-drop place job))
-      ∙ runFrom-of-append 0 (take place job) (drop place job) (machine memory file 0)
-      (done-is-faultless 0 0 (take place job) (machine memory file 0) done)
-      ∙ followedBy-when-done (runFrom 0 (take place job) (machine memory file 0)) (runFrom (0 + length (take place job)) (drop place job)) done
-      ∙ ap (λ (at : ℕ). runFrom at (drop place job) (runFrom 0 (take place job) (machine memory file 0) .machine)) same
+      ap (λ (words : List ℕ). runFrom 0 words (machine memory file 0 false)) (sym (take-append-drop place job))
+      ∙ runFrom-of-append 0 (take place job) (drop place job) (machine memory file 0 false)
+      (done-is-faultless 0 0 (take place job) (machine memory file 0 false) done)
+      ∙ followedBy-when-done (runFrom 0 (take place job) (machine memory file 0 false)) (runFrom (0 + length (take place job)) (drop place job)) done
+      ∙ ap (λ (at : ℕ). runFrom at (drop place job) (runFrom 0 (take place job) (machine memory file 0 false) .machine)) same
 
   refused-where : (place number : ℕ) → 3 < number → RefusedAt memory file job place number
       → (run memory file job .number ≡ number) × (run memory file job .place ≡ place)
@@ -80,8 +80,8 @@ module _ (memory file job : List ℕ) where
   run-lt : startRefusal memory file job ≡ 0 → (run memory file job .number ≡ 0 → ⊥) → 3 < run memory file job .number
   run-lt starts refusal =
       let same = run-when-started memory file job starts in
-      let cut = cut-before 0 0 job (machine memory file 0) (λ none. refusal (ap (λ (end : End). end .number) same ∙ none)) in
-      let end : End = runFrom 0 job (machine memory file 0) in
+      let cut = cut-before 0 0 job (machine memory file 0 false) (λ none. refusal (ap (λ (end : End). end .number) same ∙ none)) in
+      let end : End = runFrom 0 job (machine memory file 0 false) in
       let read : Read = front (0 + cut .many) (drop (cut .many) job) in
       let number : given (rulesOn (end .machine) read) ≡ run memory file job .number
       = rulesOn-is-effect (end .machine) read ∙ cut .here ∙ sym (ap (λ (end : End). end .number) same) in

@@ -1,6 +1,6 @@
 -- Laws of a step: what each kind of step leaves, how many words a step stores at most, and that a refused one changes nothing.
-use Rattle.word.proofs.Base.{_≡_, refl, ℕ, _<_, _≤_, arith, eqb, le-leb, lt-leb, List, length, set}
-use Rattle.word.specs.Choice.{given}
+use Rattle.word.proofs.Base.{_≡_, refl, ℕ, _<_, _≤_, arith, Bool, true, false, eqb, eqb-false, le-leb, lt-leb, List, length, set}
+use Rattle.word.specs.Choice.{if_then_else_, given}
 use Rattle.word.proofs.ChoiceLaws.{if-either}
 use Rattle.file.specs.File.{kept}
 use Rattle.file.specs.Places.{flag}
@@ -17,12 +17,12 @@ use Rattle.runner.specs.Effect.{storeOutside, ownRules, stepRules, taken
 use Rattle.runner.specs.Answer.{leftByStep}
 
 pub stepEffect-of-register : (place value word : ℕ) (memory file next : List ℕ) → word ≡ kept place value → next ≡ set file place word
-    → leftByStep (Taken.Done 0) memory next ≡ stepEffect (Step.Register place value) memory file
+    → leftByStep (Taken.Done 0 false) memory next ≡ stepEffect (Step.Register place value) memory file
 unfolding stepEffect answered taken storeOutside ownRules given
 stepEffect-of-register place value word memory file next keeps writes = rw (writes, keeps)
 
 pub stepEffect-of-flag : (value : ℕ) (memory file next : List ℕ) → next ≡ set file flag value
-    → leftByStep (Taken.Done 0) memory next ≡ stepEffect (Step.Flag value) memory file
+    → leftByStep (Taken.Done 0 false) memory next ≡ stepEffect (Step.Flag value) memory file
 unfolding stepEffect answered taken storeOutside ownRules given
 stepEffect-of-flag value memory file next writes = rw writes
 
@@ -32,7 +32,7 @@ unfolding stepEffect answered storeOutside ownRules given refused
 stepEffect-when-outside to value memory file outside = rw (le-leb (length memory) to outside)
 
 pub stepEffect-when-inside : (to value : ℕ) (memory file next : List ℕ) → to < length memory → next ≡ set memory to value
-    → leftByStep (Taken.Done 1) next file ≡ stepEffect (Step.Store to value) memory file
+    → leftByStep (Taken.Done 1 false) next file ≡ stepEffect (Step.Store to value) memory file
 unfolding stepEffect answered taken storeOutside ownRules given
 stepEffect-when-inside to value memory file next inside writes = rw (lt-leb (length memory) to inside, writes)
 
@@ -42,10 +42,10 @@ unfolding stepEffect answered taken storeOutside ownRules given blitStep blit.an
 stepEffect-of-blit size memory file = refl
 
 -- a blit's answer, as a step's
-pub blitStep-when-done : (size stored : ℕ) (answer : Answer) (memory file next end : List ℕ)
-    → blit.left answer next end ≡ blitStep memory file size → answer ≡ Answer.Done stored
-    → leftByStep (Taken.Done stored) next end ≡ blitStep memory file size
-blitStep-when-done size stored answer memory file next end blits same = rw same at blits
+pub blitStep-when-done : (size stored : ℕ) (round : Bool) (answer : Answer) (memory file next end : List ℕ)
+    → blit.left answer next end ≡ blitStep memory file size → answer ≡ Answer.Done stored round
+    → leftByStep (Taken.Done stored round) next end ≡ blitStep memory file size
+blitStep-when-done size stored round answer memory file next end blits same = rw same at blits
 
 pub blitStep-when-refused : (size : ℕ) (why : Refusal) (answer : Answer) (memory file next end : List ℕ)
     → blit.left answer next end ≡ blitStep memory file size → answer ≡ Answer.Refused why
@@ -75,6 +75,21 @@ taken-number (Step.Register place value) memory file = refl
 taken-number (Step.Size size) memory file = done-number memory file size
 taken-number (Step.Store to value) memory file = refl
 taken-number (Step.Flag value) memory file = refl
+
+-- a step that is done is taken
+pub stepEffect-when-done : (step : Step) (memory file : List ℕ) → stepEffect step memory file .number ≡ 0
+    → stepEffect step memory file ≡ taken step memory file
+unfolding stepEffect answered refused
+stepEffect-when-done step memory file = by-test (eqb number 0) refl
+  where
+    number : ℕ
+    number = given (stepRules (length memory) file step)
+
+    by-test : (none : Bool) → eqb number 0 ≡ none
+        → (if none then taken step memory file else refused number memory file) .number ≡ 0
+        → (if none then taken step memory file else refused number memory file) ≡ taken step memory file
+    by-test true same done = refl
+    by-test false same done = absurd (eqb-false number 0 same done)
 
 -- a step stores at most 65,536 words
 Few : Outcome → Type 0

@@ -10,4 +10,5 @@ pub mod CutLaws
 pub mod RefusedRunStandsLaws
 pub mod EachNumberExactlyLaws
 pub mod OneAnswerLaws
+pub mod OrOfItsBlitsLaws
 pub mod AcceptedAgainLaws

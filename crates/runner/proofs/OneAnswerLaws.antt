@@ -1,5 +1,5 @@
 -- The number of a refusal tells it from all others, and is never 0: what an answer leaves tells the answer.
-use Rattle.word.proofs.Base.{_≡_, refl, sym, ap, _∙_, ℕ, eqb, List}
+use Rattle.word.proofs.Base.{_≡_, refl, sym, ap, ap₂, _∙_, ℕ, eqb, List}
 use Rattle.word.specs.Choice.{if_then_else_}
 use Rattle.refusal.proofs.OneAnswerLaws.{refusalOf, refusalNumber-tells, isOwn, refusalNumber-is-own}
 use Rattle.job.specs.declared.types.Refusal as jobs
@@ -34,17 +34,18 @@ refusalNumber-is-unique one other same = sym (numbered-of-number one) ∙ ap num
 
 pub answer-is-unique : (one other : Answer) (memory file others otherFile : List ℕ)
     → left one memory file ≡ left other others otherFile → one ≡ other
-answer-is-unique (Answer.Done stored) (Answer.Done count) memory file others otherFile same =
-    ap Answer.Done (ap (λ (end : End). end .machine .stored) same)
-answer-is-unique (Answer.Done stored) (Answer.Refused why place count) memory file others otherFile same =
+answer-is-unique (Answer.Done stored round) (Answer.Done count told) memory file others otherFile same =
+    ap₂ Answer.Done (ap (λ (end : End). end .machine .stored) same) (ap (λ (end : End). end .machine .round) same)
+answer-is-unique (Answer.Done stored round) (Answer.Refused why place count told) memory file others otherFile same =
     absurd (refusalNumber-positive why (sym (ap (λ (end : End). end .number) same)))
-answer-is-unique (Answer.Refused why place stored) (Answer.Done count) memory file others otherFile same =
+answer-is-unique (Answer.Refused why place stored round) (Answer.Done count told) memory file others otherFile same =
     absurd (refusalNumber-positive why (ap (λ (end : End). end .number) same))
-answer-is-unique (Answer.Refused why place stored) (Answer.Refused reason at count) memory file others otherFile same =
+answer-is-unique (Answer.Refused why place stored round) (Answer.Refused reason at count told) memory file others otherFile same =
     let reasons : why ≡ reason = refusalNumber-is-unique why reason (ap (λ (end : End). end .number) same) in
     let places : place ≡ at = ap (λ (end : End). end .place) same in
     let counts : stored ≡ count = ap (λ (end : End). end .machine .stored) same in
-    rw (reasons, places, counts)
+    let rounds : round ≡ told = ap (λ (end : End). end .machine .round) same in
+    rw (reasons, places, counts, rounds)
 
 pub one-answer : OneAnswer
 one-answer memory file job first second promise again =

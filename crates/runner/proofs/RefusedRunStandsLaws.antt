@@ -1,5 +1,5 @@
 -- A run that is refused at a step has started, and so has the job cut before that step; the cut job's run is done.
-use Rattle.word.proofs.Base.{_≡_, sym, ap, _∙_, ℕ, _<_, _≤_, zero-add, decLt, arith, List, length, take, drop}
+use Rattle.word.proofs.Base.{_≡_, sym, ap, _∙_, ℕ, _<_, _≤_, zero-add, decLt, arith, false, List, length, take, drop}
 use Rattle.word.proofs.Base.{length-append}
 use lib.ListN.{take-append-drop}
 use Rattle.job.specs.Step.{front, stepAt}
@@ -18,7 +18,7 @@ pub record RefusedRun (memory file job : List ℕ) (end : End) : Type 0 where
   pub here : effectOn (end .machine) (stepAt job (end .place)) .number ≡ end .number
 
 module _ (memory file job : List ℕ) where
-  refused-of-cut : (end : End) → startRefusal memory file job ≡ 0 → CutBefore 0 0 job (machine memory file 0) end
+  refused-of-cut : (end : End) → startRefusal memory file job ≡ 0 → CutBefore 0 0 job (machine memory file 0 false) end
       → RefusedRun memory file job end
   unfolding stepAt
   refused-of-cut end starts cut =
@@ -49,8 +49,8 @@ module _ (memory file job : List ℕ) where
   refused-run far =
       let starts = starts-when-at-step far in
       let same = run-when-started memory file job starts in
-      let far-steps : 3 < runFrom 0 job (machine memory file 0) .number = rw same at far in
-      rw same (refused-of-cut (runFrom 0 job (machine memory file 0)) starts (cut-before 0 0 job (machine memory file 0) (λ none. omega arith)))
+      let far-steps : 3 < runFrom 0 job (machine memory file 0 false) .number = rw same at far in
+      rw same (refused-of-cut (runFrom 0 job (machine memory file 0 false)) starts (cut-before 0 0 job (machine memory file 0 false) (λ none. omega arith)))
 
 pub refused-run-stands : RefusedRunStands
 refused-run-stands memory file job far =
@@ -60,4 +60,5 @@ refused-run-stands memory file job far =
       memory = sym (ap (λ (end : End). end .machine .memory) cut);
       file = sym (ap (λ (end : End). end .machine .file) cut);
       stored = sym (ap (λ (end : End). end .machine .stored) cut);
+      round = sym (ap (λ (end : End). end .machine .round) cut);
     }

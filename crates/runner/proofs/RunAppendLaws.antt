@@ -84,4 +84,4 @@ run-append memory file first rest cut short =
     ∙ runSteps-of-append (steps first) (stepsFrom 0 (length first) rest) start)
   where
     start : Machine
-    start = machine memory file 0
+    start = machine memory file 0 false

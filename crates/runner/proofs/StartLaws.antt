@@ -83,12 +83,12 @@ module _ (memory file job : List ℕ) where
   startRefusal-when-length taken fine long = rw (taken, fine, long)
 
   -- a run that starts takes its steps; any other is refused at once
-  pub run-when-started : startRefusal memory file job ≡ 0 → run memory file job ≡ runFrom 0 job (machine memory file 0)
+  pub run-when-started : startRefusal memory file job ≡ 0 → run memory file job ≡ runFrom 0 job (machine memory file 0 false)
   unfolding run
   run-when-started none = rw (eq-eqb (startRefusal memory file job) 0 none)
 
   pub run-when-unstarted : (startRefusal memory file job ≡ 0 → ⊥)
-      → run memory file job ≡ ended (startRefusal memory file job) 0 (machine memory file 0)
+      → run memory file job ≡ ended (startRefusal memory file job) 0 (machine memory file 0 false)
   unfolding run
   run-when-unstarted some = rw (ne-eqb (startRefusal memory file job) 0 some)
 

@@ -38,9 +38,9 @@ rulesAt n file (Read.Step step next) = stepRules n file step
 rulesAt n file Read.End = []
 rulesAt n file (Read.Refused why) = readRules (Read.Refused why)
 
--- a step that is done, with the words that it stored
+-- a step that is done, with the words that it stored; only a blit moves pointers
 abbrev pub did : (stored : ℕ) → (memory file : List ℕ) → Outcome
-did stored memory file = record { number = 0; stored = stored; memory = memory; file = file }
+did stored memory file = record { number = 0; stored = stored; round = false; memory = memory; file = file }
 
 -- what a step does that no rule refuses: "Writing a register drops the bits not kept"; "058 (BLTSIZE) isn't kept; writing
 -- it starts a blit"; the store "puts the value into memory at that byte address"; the flag step "sets the zero flag to 0

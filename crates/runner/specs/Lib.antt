@@ -5,5 +5,6 @@ pub mod Answer
 pub mod RunAppend
 pub mod RefusedRunStands
 pub mod EachNumberExactly
+pub mod OrOfItsBlits
 pub mod AcceptedAgain
 pub mod OneAnswer

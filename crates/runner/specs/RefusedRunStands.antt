@@ -11,6 +11,7 @@ pub record StandsAs (refused cut : End) : Type 0 where
   pub memory : refused .machine .memory ≡ cut .machine .memory
   pub file : refused .machine .file ≡ cut .machine .file
   pub stored : refused .machine .stored ≡ cut .machine .stored
+  pub round : refused .machine .round ≡ cut .machine .round
 
 -- 1 to 3 are given before the first step, all other numbers at a step
 abbrev pub RefusedRunStands : Type 0

@@ -1,7 +1,7 @@
 -- Paper 01, "Jobs" and "Numbers given back": a run takes a job's steps in order,
--- to the end or to the first refused one.
+-- to the end or to the first refused one. Paper 02, W12: "Blit and runner pass up a yes".
 use Prim.Native.Nat.{ℕ, _+_}
-use mathlib.Core.Bool.{Bool, not}
+use mathlib.Core.Bool.{Bool, false, not, _||_}
 use mathlib.Core.List.{List, [], _∷_}
 use lib.Dec.{eqb, leb}
 use lib.ListN.{length}
@@ -14,22 +14,24 @@ use Rattle.job.specs.Length.{jobLength}
 use Rattle.job.specs.Steps.{Placed, stepsFrom}
 use Rattle.runner.specs.Effect.{effect}
 
--- what a run carries from step to step: memory, register file,
--- and "the count of words stored by blits and store steps together"
+-- what a run carries from step to step: memory, register file, "the count of words stored by blits and store steps
+-- together", and whether a pointer went round "in a blit that was done"
 pub record Machine : Type 0 where
   pub memory : List ℕ
   pub file : List ℕ
   pub stored : ℕ
+  pub round : Bool
 
-abbrev pub machine : (memory file : List ℕ) → (stored : ℕ) → Machine
-machine memory file stored = record { memory = memory; file = file; stored = stored }
+abbrev pub machine : (memory file : List ℕ) → (stored : ℕ) → (round : Bool) → Machine
+machine memory file stored round = record { memory = memory; file = file; stored = stored; round = round }
 
 -- what stands at a place, on the machine that it finds; and the machine after a step that is done
 abbrev pub effectOn : Machine → Read → Outcome
 effectOn before read = effect read (before .memory) (before .file)
 
 abbrev pub after : Machine → Outcome → Machine
-after before outcome = machine (outcome .memory) (outcome .file) (before .stored + outcome .stored)
+after before outcome =
+    machine (outcome .memory) (outcome .file) (before .stored + outcome .stored) (before .round || outcome .round)
 
 -- what a run gives and leaves: "a number, the word index of the refused step (0 if done), and the count"
 pub record End : Type 0 where
@@ -65,5 +67,5 @@ startRefusal memory file job = given (startRules memory file job)
 -- "1 to 3 have place 0, count 0 and change nothing."
 unfoldable pub run : (memory file job : List ℕ) → End
 run memory file job =
-    if eqb (startRefusal memory file job) 0 then runFrom 0 job (machine memory file 0) else
-    ended (startRefusal memory file job) 0 (machine memory file 0)
+    if eqb (startRefusal memory file job) 0 then runFrom 0 job (machine memory file 0 false) else
+    ended (startRefusal memory file job) 0 (machine memory file 0 false)

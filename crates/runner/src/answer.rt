@@ -1,6 +1,6 @@
-// The paper's number, place and count of an answer.
+// The paper's number, place and count of an answer, and its yes.
 ghost use mathlib.Core.Path.{_≡_};
-ghost use Rattle.runner.specs.Answer.{refusalNumber, answerNumber, answerPlace, answerStored};
+ghost use Rattle.runner.specs.Answer.{refusalNumber, answerNumber, answerPlace, answerStored, answerRound};
 use crate::types::Answer;
 use crate::types::Refusal;
 
@@ -19,8 +19,8 @@ pub fn number(answer: Answer) -> u32
     ensures { λ number. ⌜ number ≡ answerNumber answer ⌝ }
 {
     match answer {
-        Answer::Done(_) => 0,
-        Answer::Refused(why, _, _) => refusal_number(why),
+        Answer::Done(_, _) => 0,
+        Answer::Refused(why, _, _, _) => refusal_number(why),
     }
 }
 
@@ -28,8 +28,8 @@ pub fn place(answer: Answer) -> usize
     ensures { λ place. ⌜ place ≡ answerPlace answer ⌝ }
 {
     match answer {
-        Answer::Done(_) => 0,
-        Answer::Refused(_, place, _) => place,
+        Answer::Done(_, _) => 0,
+        Answer::Refused(_, place, _, _) => place,
     }
 }
 
@@ -37,7 +37,17 @@ pub fn stored(answer: Answer) -> u32
     ensures { λ stored. ⌜ stored ≡ answerStored answer ⌝ }
 {
     match answer {
-        Answer::Done(stored) => stored,
-        Answer::Refused(_, _, stored) => stored,
+        Answer::Done(stored, _) => stored,
+        Answer::Refused(_, _, stored, _) => stored,
+    }
+}
+
+// Whether a pointer went round.
+pub fn round(answer: Answer) -> bool
+    ensures { λ round. ⌜ round ≡ answerRound answer ⌝ }
+{
+    match answer {
+        Answer::Done(_, round) => round,
+        Answer::Refused(_, _, _, round) => round,
     }
 }

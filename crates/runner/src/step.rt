@@ -14,7 +14,7 @@ fn register_step(ram: &[u16], file: &mut [u16], place: u32, value: u16) -> Taken
         ≡ stepEffect (steps.Step.Register place value) (now (ram .entry)) (now (file .entry)) ⌝ }
 {
     word::memory::write(file, place, file::kept(place, value));
-    Taken::Done(0)
+    Taken::Done(0, false)
 }
 
 fn size_step(ram: &mut [u16], file: &mut [u16], size: u16) -> Taken
@@ -23,7 +23,7 @@ fn size_step(ram: &mut [u16], file: &mut [u16], size: u16) -> Taken
         ≡ blitStep (now (ram .entry)) (now (file .entry)) size ⌝ }
 {
     match blit::blit_step(ram, file, size) {
-        blit::types::Answer::Done(stored) => Taken::Done(stored),
+        blit::types::Answer::Done(stored, round) => Taken::Done(stored, round),
         blit::types::Answer::Refused(why) => Taken::Refused(Refusal::Blit(why)),
     }
 }
@@ -37,7 +37,7 @@ fn store_step(ram: &mut [u16], file: &[u16], to: u32, value: u16) -> Taken
         return Taken::Refused(Refusal::StoreOutside);
     }
     word::memory::write(ram, to, value);
-    Taken::Done(1)
+    Taken::Done(1, false)
 }
 
 fn flag_step(ram: &[u16], file: &mut [u16], value: u16) -> Taken
@@ -46,7 +46,7 @@ fn flag_step(ram: &[u16], file: &mut [u16], value: u16) -> Taken
         ≡ stepEffect (steps.Step.Flag value) (now (ram .entry)) (now (file .entry)) ⌝ }
 {
     word::memory::write(file, file::FLAG, value);
-    Taken::Done(0)
+    Taken::Done(0, false)
 }
 
 // Takes a step. A refused one changes nothing.

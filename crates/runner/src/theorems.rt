@@ -2,6 +2,7 @@
 ghost use Rattle.runner.specs.RunAppend.{RunAppend};
 ghost use Rattle.runner.specs.RefusedRunStands.{RefusedRunStands};
 ghost use Rattle.runner.specs.EachNumberExactly.{EachNumberExactly};
+ghost use Rattle.runner.specs.OrOfItsBlits.{OrOfItsBlits};
 ghost use Rattle.runner.specs.AcceptedAgain.{AcceptedAgain};
 ghost use Rattle.runner.specs.OneAnswer.{OneAnswer};
 
@@ -15,6 +16,10 @@ pub fn refused_run_stands()
 
 pub fn each_number_exactly()
     ensures { λ _. ⌜ EachNumberExactly ⌝ }
+{}
+
+pub fn or_of_its_blits()
+    ensures { λ _. ⌜ OrOfItsBlits ⌝ }
 {}
 
 pub fn accepted_again()

@@ -9,15 +9,15 @@ pub enum Refusal {
     StoreOutside,
 }
 
-// What one step answers: done with the count of words that it stored, or refused.
+// What one step answers: done with the count of words that it stored and whether a channel went round, or refused.
 pub enum Taken {
-    Done(u32),
+    Done(u32, bool),
     Refused(Refusal),
 }
 
-// What a run answers: done with the count of words stored, or refused, with the place of the refused step
-// and the count of the steps before it.
+// What a run answers: done with the count of words stored and whether a pointer went round, or refused, with the place
+// of the refused step and these two of the steps before it.
 pub enum Answer {
-    Done(u32),
-    Refused(Refusal, usize, u32),
+    Done(u32, bool),
+    Refused(Refusal, usize, u32, bool),
 }

@@ -1,5 +1,5 @@
 -- `runner::steps::run_steps` meets its contract: what is left of the job from here gives what the whole gives.
-use Rattle.word.proofs.Base.{_≡_, _-_, _*_, _≤_, needs, length}
+use Rattle.word.proofs.Base.{_≡_, _-_, _*_, _≤_, false, needs, length}
 use Rattle.runner.specs.Run.{machine, runFrom}
 use Rattle.runner.proofs.RunLaws.{runAt, runAt-at-end, runAt-of-end, runAt-of-fault, runAt-turn, runAt-of-refused, stored-le, stored-fits}
 use Rattle.job.proofs.StepLaws.{read-falls, read-inside}
@@ -7,15 +7,15 @@ use Rattle.runner.proofs.steps.run_steps.Statement.{statement}
 use Rattle.runner.proofs.steps.run_steps.Tie as tie
 
 abbrev Inv-loop : tie.InvT-loop
-Inv-loop ram₀ file₀ job at₀ stored₀ ram file at stored =
-    (runAt job at (machine ram file stored) ≡ runFrom 0 job (machine ram₀ file₀ 0))
+Inv-loop ram₀ file₀ job at₀ stored₀ round₀ ram file at stored round =
+    (runAt job at (machine ram file stored round) ≡ runFrom 0 job (machine ram₀ file₀ 0 false))
     × (stored ≤ at * 65536)
     × (at ≤ length job)
     × (length ram ≡ length ram₀)
     × (length file ≡ length file₀)
 
 abbrev μ-loop : tie.MeasureT-loop
-μ-loop ram₀ file₀ job at₀ stored₀ ram file at stored = length job - at
+μ-loop ram₀ file₀ job at₀ stored₀ round₀ ram file at stored round = length job - at
 
 add-stored : tie.Need-add-stored Inv-loop μ-loop
 add-stored c = search stored-fits

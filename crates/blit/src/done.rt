@@ -22,7 +22,8 @@ fn finished(ram: &mut [u16], file: &[u16], size: u16, by: AreaPlan) -> Flow
     engine::area_blit(ram, setup, by.width as u32, by.height as u32, flow)
 }
 
-// Does it, writes back what it leaves, and answers the count of words stored and whether a channel went round.
+// Does it, writes back what it leaves, and answers the count of words stored and whether a channel went round. That is
+// told last: what were known before the loops would have to be kept through them.
 pub fn area_done(ram: &mut [u16], file: &mut [u16], size: u16, by: AreaPlan) -> Answer
     requires { ⌜ by ≡ areaPlan (now file) size ⌝ }
     ensures { λ answer. ⌜
@@ -30,9 +31,9 @@ pub fn area_done(ram: &mut [u16], file: &mut [u16], size: u16, by: AreaPlan) -> 
         ≡ areaDone (now (file .entry)) (areaRound (areaPlan (now (file .entry)) size))
         (finished (now (ram .entry)) (now (file .entry)) size) ⌝ }
 {
-    let round = round::area_round(by);
     let end = finished(ram, file, size, by);
     crate::registers::write_back(file, by.setup.uses, end);
+    let round = round::area_round(by);
     Answer::Done(end.stored, round)
 }
 
@@ -44,10 +45,10 @@ pub fn line_done(ram: &mut [u16], file: &mut [u16], size: u16, by: LinePlan) -> 
         ≡ lineDone (now (file .entry)) (lineRound (linePlan (now (file .entry)) size))
         (drawn (now (ram .entry)) (now (file .entry)) size) ⌝ }
 {
-    let round = round::line_round(by);
     let line = by.line;
     let first = by.first;
     let drawn = drawing::draw::line_blit(ram, line, by.dots as u32, first);
     drawing::leave::leave(file, drawn);
+    let round = round::line_round(by);
     Answer::Done(drawn.stored, round)
 }

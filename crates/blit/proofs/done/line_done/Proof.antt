@@ -17,5 +17,5 @@ returns c = search lineDone-of-parts
 
 pub line-done-spec : {M : Type 1} → statement M
 line-done-spec =
-    tie.close (tie.spec line-round-requires (λ c. search needs) line-blit-requires (λ c κs. search needs) (λ c. search needs)
-    (λ c. search needs) returns)
+    tie.close (tie.spec (λ c. search needs) line-blit-requires (λ c κs. search needs) line-round-requires
+    (λ c. search needs) (λ c. search needs) returns)

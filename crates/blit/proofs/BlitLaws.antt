@@ -133,7 +133,7 @@ done-round memory file size =
 -- a lawful blit is a line or an area blit, as the plan says that its verdict hands on
 module _ (file : List ℕ) (size : ℕ) (verdict : Verdict) (by : Plan) (lawful : verdict ≡ verdicts.Lawful by)
     (hands : handed verdict (plan file size) ≡ plan file size) where
-  plan-of-verdict : by ≡ plan file size
+  pub plan-of-verdict : by ≡ plan file size
   plan-of-verdict = rw lawful at hands
 
   pub area-of-verdict : (area : AreaPlan) → by ≡ plans.Area area → area ≡ areaPlan file size

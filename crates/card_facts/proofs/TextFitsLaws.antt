@@ -112,7 +112,7 @@ run-keeps-memory-length memory file job = by-start (decLt 0 (startRefusal memory
         ap (λ (end : End). length (end .machine .memory)) (run-when-unstarted memory file job (λ none. omega (arith, none, some)))
     by-start (no none) =
         ap (λ (end : End). length (end .machine .memory)) (run-when-started memory file job (omega (arith, none)))
-        ∙ runSteps-keeps-memory-length (stepsFrom 0 0 job) (machine memory file 0)
+        ∙ runSteps-keeps-memory-length (stepsFrom 0 0 job) (machine memory file 0 false)
 
 -- a good card has a good first line
 badLine-of-none : (text : List ℕ) → badLine text ≡ 0 → ramLine text ≡ true

@@ -1,9 +1,9 @@
 -- Laws of the card as a whole: the run that it prints, and the cases of its text.
-use Rattle.word.proofs.Base.{_≡_, refl, sym, ap, _∙_, ℕ, _≤_, arith, ne-eqb, List, length, take, length-take-le}
+use Rattle.word.proofs.Base.{_≡_, refl, sym, ap, _∙_, ℕ, _≤_, arith, Bool, false, ne-eqb, List, length, take, length-take-le}
 use Rattle.file.specs.Places.{fileLength}
 use Rattle.runner.specs.declared.types.Answer.{Answer}
 use Rattle.runner.specs.Run.{ended, machine, run}
-use Rattle.runner.specs.Answer.{answerNumber, answerPlace, answerStored, left}
+use Rattle.runner.specs.Answer.{answerNumber, answerPlace, answerStored, answerRound, left}
 use Rattle.card_reading.specs.declared.types.Ram.{Ram}
 use Rattle.card_reading.specs.Reading.{badFrom, badLine}
 use Rattle.card_reading.specs.Inner.Ram.{ramRead}
@@ -15,23 +15,23 @@ use Rattle.word.specs.Laid.{laid}
 use Rattle.card_reading.proofs.JobLaws.{writes-fill}
 use Rattle.card_reading.proofs.RamLaws.{ramRead-of-words, ramRead-of-bad}
 
--- what is printed of a run doesn't tell its place
-printedRun-anywhere : (number place stored : ℕ) (memory file : List ℕ)
-    → printedRun (ended number 0 (machine memory file stored)) ≡ printedRun (ended number place (machine memory file stored))
+-- what is printed of a run tells neither its place nor its yes
+printedRun-anywhere : (number place stored : ℕ) (round : Bool) (memory file : List ℕ)
+    → printedRun (ended number 0 (machine memory file stored false)) ≡ printedRun (ended number place (machine memory file stored round))
 unfolding printedRun
-printedRun-anywhere number place stored memory file = refl
+printedRun-anywhere number place stored round memory file = refl
 
 pub printedRun-of-answer : (many number stored : ℕ) (answer : Answer) (start memory file job ram end : List ℕ) (before after : Written)
     → ram ≡ counted 0 many → start ≡ zeros fileLength → left answer memory file ≡ run ram start job
     → number ≡ answerNumber answer → stored ≡ answerStored answer
-    → after ≡ writing (printedRun (ended number 0 (machine memory file stored))) before
+    → after ≡ writing (printedRun (ended number 0 (machine memory file stored false))) before
     → after ≡ writing (printedRun (run (counted 0 many) (zeros fileLength) job)) before
 printedRun-of-answer many number stored answer start memory file job ram end before after counts none gives is-number is-stored prints =
-    let same : ended number (answerPlace answer) (machine memory file stored) ≡ run ram start job = rw (is-number, is-stored) gives in
+    let same : ended number (answerPlace answer) (machine memory file stored (answerRound answer)) ≡ run ram start job = rw (is-number, is-stored) gives in
     let asked : run ram start job ≡ run (counted 0 many) (zeros fileLength) job = rw (counts, none) in
     prints
     ∙ ap (λ (text : List ℕ). writing text before)
-    (printedRun-anywhere number (answerPlace answer) stored memory file ∙ ap printedRun (same ∙ asked))
+    (printedRun-anywhere number (answerPlace answer) stored (answerRound answer) memory file ∙ ap printedRun (same ∙ asked))
 
 -- what a good first line leaves to the others
 module _ (text : List ℕ) (ram : Ram) (reads : ram ≡ ramRead text) (words start : ℕ) (is : ram ≡ Ram.Words words start) where

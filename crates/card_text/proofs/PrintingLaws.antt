@@ -1,5 +1,5 @@
 -- Laws of what is printed: digits, numbers and lines, out of their pieces.
-use Rattle.word.proofs.Base.{_≡_, sym, ap, ap₂, _∙_, ℕ, suc, _+_, _-_, _*_, _/_, _%_, _<_, _≤_, arith, eq-eqb, ne-eqb}
+use Rattle.word.proofs.Base.{_≡_, sym, ap, ap₂, _∙_, ℕ, suc, _+_, _-_, _*_, _/_, _%_, _<_, _≤_, arith, false, eq-eqb, ne-eqb}
 use Rattle.word.proofs.Base.{le-leb, lt-leb, List, [], _∷_, length, getD, drop, drop-of-length-le, drop-cons}
 use Prim.Native.Char.{code}
 use Rattle.file.specs.Places.{pointerD, flag}
@@ -121,7 +121,7 @@ pub printedRun-of-pieces : (number stored flagged : ℕ) (memory file : List ℕ
     → flagged ≡ getD file flag 0
     → one ≡ writing (numberLine answerIs number) before → two ≡ writing (numberLine storedIs stored) one
     → three ≡ writing (numberLine zeroIs flagged) two → four ≡ writing (dptLine file) three → five ≡ writing (changed 0 memory) four
-    → five ≡ writing (printedRun (ended number 0 (machine memory file stored))) before
+    → five ≡ writing (printedRun (ended number 0 (machine memory file stored false))) before
 unfolding printedRun
 printedRun-of-pieces number stored flagged memory file before one two three four five is first second third fourth fifth =
     rw (← is)

@@ -1,6 +1,7 @@
 // Text written to a lent output, one piece after the other; each function answers the place after its piece.
 // What lies past the output's end isn't written.
 ghost use mathlib.Core.Path.{_≡_};
+ghost use mathlib.Core.Bool.{false};
 ghost use mathlib.Core.List.{[], _∷_};
 ghost use Prim.Native.Nat.{_+_, _<_, _≤_};
 ghost use lib.ListN.{length, set};
@@ -168,7 +169,7 @@ pub fn print_run(out: &mut [u8], number: u32, stored: u32, ram: &[u16], file: &[
     requires { ⌜ length (now ram) ≤ 32768 ⌝ }
     ensures { λ to. ⌜
         written to (now (out .exit))
-        ≡ writing (printedRun (ended number 0 (machine (now (ram .entry)) (now (file .entry)) stored))) (written 0 (now (out .entry))) ⌝ }
+        ≡ writing (printedRun (ended number 0 (machine (now (ram .entry)) (now (file .entry)) stored false))) (written 0 (now (out .entry))) ⌝ }
 {
     let second = number_line(out, 0, b"answer=", number);
     let third = number_line(out, second, b"stored=", stored);

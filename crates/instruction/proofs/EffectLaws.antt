@@ -27,10 +27,10 @@ use Rattle.instruction.specs.Inner.Taken.{left}
 -- a blit that a MOVE starts, done or refused
 module _ (answer : answers.Answer) (size beam word : ℕ) (memory file next end : List ℕ)
     (gives : blit.left answer next end ≡ blitStep memory file size) where
-  pub blitted-when-done : (stored : ℕ) (taken : Taken) → answer ≡ answers.Answer.Done stored → taken ≡ Taken.Done (beam + 4) (word + 2)
+  pub blitted-when-done : (stored : ℕ) (round : Bool) (taken : Taken) → answer ≡ answers.Answer.Done stored round → taken ≡ Taken.Done (beam + 4) (word + 2)
       → left taken beam word next end ≡ blitted size (moment memory file beam word)
   unfolding blitted decided
-  blitted-when-done stored taken same moves = let did = rw same at gives in rw (moves, ← did)
+  blitted-when-done stored round taken same moves = let did = rw same at gives in rw (moves, ← did)
 
   pub blitted-when-refused : (why : blits.Refusal) → answer ≡ answers.Answer.Refused why
       → left (Taken.Refused (Refusal.Blit why)) beam word next end ≡ blitted size (moment memory file beam word)

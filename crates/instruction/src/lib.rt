@@ -35,7 +35,7 @@ fn blitted(ram: &mut [u16], file: &mut [u16], size: u16, beam: u32, word: u32) -
 {
     let answer = blit::blit_step(ram, file, size);
     match answer {
-        blit::types::Answer::Done(_) => after_move(beam, word),
+        blit::types::Answer::Done(_, _) => after_move(beam, word),
         blit::types::Answer::Refused(why) => Taken::Refused(Refusal::Blit(why)),
     }
 }

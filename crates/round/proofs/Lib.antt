@@ -9,4 +9,5 @@ pub mod LineLaws
 pub mod ReachLaws
 pub mod RangeLaws
 pub mod AreaLaws
+pub mod RoundLaws
 pub mod WhenItIsSafe

@@ -1,5 +1,6 @@
 -- The yes of a run is some of its blits': each step adds its own, and only a blit has one.
 use Rattle.word.proofs.Base.{_≡_, refl, sym, ap, _∙_, ℕ, Bool, true, false, _||_, eqb, eqb-true, List, [], _∷_, _++_}
+use mathlib.Core.Bool.{or-false, or-assoc}
 use Rattle.word.specs.Choice.{if_then_else_}
 use Rattle.blit.specs.Blit.{Outcome, refused}
 use Rattle.blit.proofs.BlitLaws.{done-round}
@@ -11,14 +12,6 @@ use Rattle.runner.specs.Run.{Machine, machine, effectOn, after, ended, r
 use Rattle.runner.specs.OrOfItsBlits.{ofBlit, ofBlitsDone, doneBlits, some, OrOfItsBlits}
 use Rattle.runner.proofs.EffectLaws.{stepEffect-when-done}
 
-or-assoc : (a b c : Bool) → ((a || b) || c) ≡ (a || (b || c))
-or-assoc true b c = refl
-or-assoc false b c = refl
-
-or-none : (a : Bool) → (a || false) ≡ a
-or-none true = refl
-or-none false = refl
-
 some-of-append : (these others : List Bool) → some (these ++ others) ≡ (some these || some others)
 unfolding some
 some-of-append [] others = refl
@@ -29,7 +22,7 @@ some-of-append (first ∷ rest) others =
 taken-round : (step : Step) (next : ℕ) (memory file : List ℕ) → taken step memory file .round ≡ some (ofBlit file (Read.Step step next))
 unfolding taken ofBlit some
 taken-round (Step.Register place value) next memory file = refl
-taken-round (Step.Size size) next memory file = done-round memory file size ∙ sym (or-none _)
+taken-round (Step.Size size) next memory file = done-round memory file size ∙ sym (or-false _)
 taken-round (Step.Store to value) next memory file = refl
 taken-round (Step.Flag value) next memory file = refl
 
@@ -42,7 +35,7 @@ effect-round (Read.Refused why) memory file done = refl
 
 runSteps-round : (list : List Placed) (before : Machine) → runSteps list before .machine .round ≡ (before .round || some (ofBlitsDone list before))
 unfolding runSteps ofBlitsDone some
-runSteps-round [] before = sym (or-none (before .round))
+runSteps-round [] before = sym (or-false (before .round))
 runSteps-round (one ∷ rest) before =
     by-test (eqb (effectOn before (one .read) .number) 0) refl (runSteps-round rest (after before (effectOn before (one .read))))
   where
@@ -60,7 +53,7 @@ runSteps-round (one ∷ rest) before =
         ∙ ap (λ (yes : Bool). before .round || (yes || some later))
         (effect-round (one .read) (before .memory) (before .file) (eqb-true (effectOn before (one .read) .number) 0 same))
         ∙ ap (λ (yes : Bool). before .round || yes) (sym (some-of-append (ofBlit (before .file) (one .read)) later))
-    by-test false same on = sym (or-none (before .round))
+    by-test false same on = sym (or-false (before .round))
 
 pub or-of-its-blits : OrOfItsBlits
 unfolding run doneBlits some

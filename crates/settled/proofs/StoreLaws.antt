@@ -1,6 +1,7 @@
 -- Laws of store steps: what the words of a store, a pointer and a flag do when they are run.
 use Rattle.word.proofs.Base.{_≡_, refl, _∙_, ℕ, zero, suc, _+_, _%_, _<_, add-zero, arith, Bool, true, false, ne-eqb}
 use Rattle.word.proofs.Base.{lt-leb, List, _∷_, _++_, length, set}
+use mathlib.Core.Bool.{or-false}
 use Rattle.word.specs.declared.types.Pointer.{Pointer}
 use Rattle.word.specs.Choice.{if_then_else_, given}
 use Rattle.word.specs.Pointer.{pointerEnd, pointer, high, low}
@@ -41,13 +42,13 @@ front-of-store at value to more small =
     rw (kind-of-store (high to) (omega arith), ne-eqb (low to % 2) 1 (λ odd. omega arith), pointer-of-halves to small)
 
 -- a store in memory, and the run after it
-pub run-of-store : (at value : ℕ) (to : Pointer) (more memory file : List ℕ) (stored : ℕ)
+pub run-of-store : (at value : ℕ) (to : Pointer) (more memory file : List ℕ) (stored : ℕ) (round : Bool)
     → to .word < pointerEnd → to .word < length memory
-    → runFrom at (storeWords to value ++ more) (machine memory file stored)
-    ≡ runFrom (at + 1 + 1 + 1) more (machine (set memory (to .word) value) file (stored + 1))
+    → runFrom at (storeWords to value ++ more) (machine memory file stored round)
+    ≡ runFrom (at + 1 + 1 + 1) more (machine (set memory (to .word) value) file (stored + 1) round)
 unfolding stepsFrom runSteps found behind operands effect stepEffect answered taken storeOutside ownRules given
-run-of-store at value to more memory file stored small inside =
-    rw (front-of-store at value to more small, lt-leb (length memory) (to .word) inside)
+run-of-store at value to more memory file stored round small inside =
+    rw (front-of-store at value to more small, lt-leb (length memory) (to .word) inside, or-false round)
 
 -- D's pointer keeps its halves
 high-kept : (to : Pointer) → kept pointerD (high to) ≡ high to
@@ -73,16 +74,16 @@ front-of-flag at true more = refl
 front-of-flag at false more = refl
 
 -- the end of a settled blit's words: D's pointer and the flag, and the run after them
-pub run-of-end : (at : ℕ) (to : Pointer) (allzero : Bool) (more memory file : List ℕ) (stored : ℕ)
-    → runFrom at ((pointerWords to ++ flagWords allzero) ++ more) (machine memory file stored)
+pub run-of-end : (at : ℕ) (to : Pointer) (allzero : Bool) (more memory file : List ℕ) (stored : ℕ) (round : Bool)
+    → runFrom at ((pointerWords to ++ flagWords allzero) ++ more) (machine memory file stored round)
     ≡ runFrom (at + 1 + 1 + 1 + 1 + 1) more
-    (machine memory (set (set (set file pointerD (high to)) (pointerD + 1) (low to)) flag (if allzero then 1 else 0)) stored)
+    (machine memory (set (set (set file pointerD (high to)) (pointerD + 1) (low to)) flag (if allzero then 1 else 0)) stored round)
 unfolding stepsFrom runSteps found behind operands effect stepEffect answered taken storeOutside ownRules given
-run-of-end at to allzero more memory file stored =
+run-of-end at to allzero more memory file stored round =
     rw (front-of-high at (high to) (0x0056 ∷ low to ∷ (if allzero then 0xC001 else 0xC000) ∷ more))
     (rw (front-of-low (at + 1 + 1) (low to) ((if allzero then 0xC001 else 0xC000) ∷ more))
     (rw (front-of-flag (at + 1 + 1 + 1 + 1) allzero more)
-    (rw (high-kept to, low-kept to, add-zero, add-zero, add-zero))))
+    (rw (high-kept to, low-kept to, add-zero, add-zero, add-zero, or-false round, or-false round, or-false round))))
 
 -- the steps of a store's words, and of the words that end a settled blit
 pub steps-of-store : (at value : ℕ) (to : Pointer) (more : List ℕ) → to .word < pointerEnd

@@ -1,5 +1,6 @@
 -- A settled blit's words, run, leave what the blit leaves.
-use Rattle.word.proofs.Base.{_≡_, refl, sym, ap, _∙_, ℕ, _+_, _*_, zero-add, arith, Bool, true, false, List, [], _++_, length, set}
+use Rattle.word.proofs.Base.{_≡_, refl, sym, ap, _∙_, ℕ, _+_, _*_, zero-add, arith, Bool, true, false, _||_, List, [], _++_, length, set}
+use mathlib.Core.Bool.{or-false}
 use mathlib.Core.List.{append-assoc}
 use native.Mathlib.Nat.{mul-one}
 use Rattle.word.specs.declared.types.Pointer.{Pointer}
@@ -19,6 +20,7 @@ use Rattle.word.specs.Control.{line}
 use Rattle.file.specs.File.{con1}
 use Rattle.refusal.specs.Plan.{areaPlan}
 use Rattle.refusal.specs.Refusal.{stepRefusal}
+use Rattle.round.specs.Round.{goesRound}
 use Rattle.file.specs.Pointers.{putFlag}
 use Rattle.blit.specs.WriteBack.{putPointer, putPointers, putSource, putSources}
 use Rattle.blit.specs.Blit.{Outcome, finished, areaDone, done, answered, blitStep}
@@ -71,7 +73,7 @@ area-of-only-d n file size only lawful = by-bit (line (con1 file)) refl
     by-bit false area = refl
 
 blitStep-of-lawful : (memory file : List ℕ) (size : ℕ) → line (con1 file) ≡ false → stepRefusal (length memory) file size ≡ 0
-    → blitStep memory file size ≡ areaDone file (finished memory file size)
+    → blitStep memory file size ≡ areaDone file (goesRound file size) (finished memory file size)
 unfolding blitStep answered done
 blitStep-of-lawful memory file size area lawful = rw (lawful, area)
 
@@ -125,34 +127,36 @@ module _ (memory file : List ℕ) (size : ℕ) (only : OnlyD (setup file .uses))
         ∙ ap (λ (to : Pointer). set (set (set file pointerD (high to)) (pointerD + 1) (low to)) flag (if finished memory file size .flow .allzero then 1 else 0)) d-of-stores
         ∙ ap (λ (zero : Bool). set (set (set file pointerD (high (finalD file size))) (pointerD + 1) (low (finalD file size))) flag (if zero then 1 else 0)) flag-of-stores
 
-    after-blit : (stored : ℕ) → after (machine memory file stored) (blitStep memory file size)
+    -- and in the machine, where it doesn't go round
+    after-blit : (stored : ℕ) (round : Bool) → goesRound file size ≡ false → after (machine memory file stored round) (blitStep memory file size)
         ≡ machine (storedInto (stores file size) memory)
         (set (set (set file pointerD (high (finalD file size))) (pointerD + 1) (low (finalD file size))) flag (if allZero (stores file size) then 1 else 0))
-        (stored + length (stores file size))
+        (stored + length (stores file size)) round
     unfolding areaDone
-    after-blit stored =
+    after-blit stored round stays =
         let does = blitStep-of-lawful memory file size area lawful in
         same
         (ap (λ (outcome : Outcome). outcome .memory) does ∙ memory-of-stores)
         blitStep-file
         (ap (λ (count : ℕ). stored + count) (ap (λ (outcome : Outcome). outcome .stored) does ∙ count-of-stores))
+        (ap (λ (yes : Bool). round || yes) (ap (λ (outcome : Outcome). outcome .round) does ∙ stays) ∙ or-false round)
       where
-        same : {m m′ f f′ : List ℕ} {c c′ : ℕ} → m ≡ m′ → f ≡ f′ → c ≡ c′ → machine m f c ≡ machine m′ f′ c′
-        same one two three = rw (one, two, three)
+        same : {m m′ f f′ : List ℕ} {c c′ : ℕ} {r r′ : Bool} → m ≡ m′ → f ≡ f′ → c ≡ c′ → r ≡ r′ → machine m f c r ≡ machine m′ f′ c′ r′
+        same one two three four = rw (one, two, three, four)
 
     -- a settled blit's words, made of the very file they are run on, and the run after them
-    pub settledWords-run : (at : ℕ) (more : List ℕ) (stored : ℕ)
-        → runFrom at (settledWords file size ++ more) (machine memory file stored)
-        ≡ runFrom (afterSettled at size) more (after (machine memory file stored) (blitStep memory file size))
+    pub settledWords-run : (at : ℕ) (more : List ℕ) (stored : ℕ) (round : Bool) → goesRound file size ≡ false
+        → runFrom at (settledWords file size ++ more) (machine memory file stored round)
+        ≡ runFrom (afterSettled at size) more (after (machine memory file stored round) (blitStep memory file size))
     unfolding settledWords afterSettled
-    settledWords-run at more stored =
+    settledWords-run at more stored round stays =
         let list : List Store = stores file size in
         let tail : List ℕ = pointerWords (finalD file size) ++ flagWords (allZero list) in
-        ap (λ (words : List ℕ). runFrom at words (machine memory file stored)) (append-assoc (storesWords list) tail more)
-        ∙ run-of-stores list at (tail ++ more) memory file stored stores-inside
-        ∙ run-of-end (afterStores (length list) at) (finalD file size) (allZero list) more (storedInto list memory) file (stored + length list)
-        ∙ ap (runFrom (afterStores (length list) at + 1 + 1 + 1 + 1 + 1) more) (sym (after-blit stored))
-        ∙ ap (λ (many : ℕ). runFrom (afterStores many at + 1 + 1 + 1 + 1 + 1) more (after (machine memory file stored) (blitStep memory file size))) (stores-length file size)
+        ap (λ (words : List ℕ). runFrom at words (machine memory file stored round)) (append-assoc (storesWords list) tail more)
+        ∙ run-of-stores list at (tail ++ more) memory file stored round stores-inside
+        ∙ run-of-end (afterStores (length list) at) (finalD file size) (allZero list) more (storedInto list memory) file (stored + length list) round
+        ∙ ap (runFrom (afterStores (length list) at + 1 + 1 + 1 + 1 + 1) more) (sym (after-blit stored round stays))
+        ∙ ap (λ (many : ℕ). runFrom (afterStores many at + 1 + 1 + 1 + 1 + 1) more (after (machine memory file stored round) (blitStep memory file size))) (stores-length file size)
 
 -- its number is that of a blit that is done
 pub blitStep-number : (memory file : List ℕ) (size : ℕ) → stepRefusal (length memory) file size ≡ 0 → blitStep memory file size .number ≡ 0

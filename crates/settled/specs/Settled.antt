@@ -1,4 +1,5 @@
--- Paper 01, "Folding": "A blit is settled when all hold".
+-- Paper 01, "Folding": "A blit is settled when all hold", and paper 02, W12: "a blit that would give this yes is no longer
+-- settled (one whose pointer goes round only after its last access stays settled)".
 use Prim.Native.Nat.{ℕ, _+_, _*_}
 use mathlib.Core.Bool.{Bool, not, _&&_, _||_}
 use mathlib.Core.List.{List}
@@ -8,6 +9,7 @@ use Rattle.file.specs.Places.{control0, control1, firstMask, lastMask, pointerD
 use Rattle.file.specs.File.{con0}
 use Rattle.word.specs.Control.{uses, function}
 use Rattle.refusal.specs.Refusal.{stepRefusal}
+use Rattle.round.specs.Round.{goesRound}
 use Rattle.depends.specs.Depends.{counts}
 use Rattle.knowledge.specs.declared.types.Known.{Known}
 use Rattle.knowledge.specs.Known.{isKnown}
@@ -37,11 +39,19 @@ sourcesKnown function known =
     && (not (counts function 2) || has known sourceB)
     && (not (counts function 1) || has known sourceC)
 
--- one line each, in the paper's order; numbers is the file of the known numbers
-unfoldable pub settled : (n : ℕ) → (known : List Known) → (size : ℕ) → Bool
-settled n known size =
+-- every condition of paper 01, one line each, in its order; numbers is the file of the known numbers
+unfoldable pub otherwiseSettled : (n : ℕ) → (known : List Known) → (size : ℕ) → Bool
+otherwiseSettled n known size =
     controlsKnown known
     && onlyDUsed (con0 (numbers known))
     && eqb (stepRefusal n (numbers known) size) 0
     && leb (height size * width size) 64
     && sourcesKnown (function (con0 (numbers known))) known
+
+-- and W12's: "a blit that would give this yes is no longer settled"
+unfoldable pub settled : (n : ℕ) → (known : List Known) → (size : ℕ) → Bool
+settled n known size = otherwiseSettled n known size && not (goesRound (numbers known) size)
+
+-- "kept .. for that alone"
+unfoldable pub keptForRound : (n : ℕ) → (known : List Known) → (size : ℕ) → Bool
+keptForRound n known size = otherwiseSettled n known size && goesRound (numbers known) size

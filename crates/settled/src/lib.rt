@@ -1,2 +1,3 @@
 // Whether a blit is settled.
 pub mod settle;
+pub mod types;

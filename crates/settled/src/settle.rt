@@ -2,12 +2,19 @@
 ghost use mathlib.Core.Path.{_≡_};
 ghost use Prim.Native.Nat.{_*_};
 ghost use lib.Dec.{eqb, leb};
+ghost use Rattle.word.specs.Choice.{if_then_else_};
 ghost use Rattle.word.specs.Size.{height, width};
 ghost use Rattle.word.specs.Control.{function};
+ghost use Rattle.refusal.specs.Plan.{plan};
 ghost use Rattle.refusal.specs.Refusal.{stepRefusal};
+ghost use Rattle.round.specs.Round.{goesRound};
 ghost use Rattle.knowledge.specs.Knowledge.{listed, numbers};
-ghost use Rattle.settled.specs.Settled.{controlsKnown, onlyDUsed, sourcesKnown, settled};
+ghost use Rattle.settled.specs.Settled.{controlsKnown, onlyDUsed, sourcesKnown};
+ghost use Rattle.settled.specs.Inner.Fate.{byRound, fate};
+ghost use Rattle.settled.specs.declared.types.Fate.the-variants.{Kept};
+use crate::types::Fate;
 use knowledge::types::Knowledge;
+use refusal::types::Plan;
 use refusal::types::Verdict;
 
 fn controls_known(known: Knowledge) -> bool
@@ -49,12 +56,36 @@ fn sources_known(con0: u16, known: Knowledge) -> bool
     a & b & c
 }
 
-fn lawful(n: usize, file: &[u16], size: u16) -> bool
-    ensures { λ done. ⌜ done ≡ eqb (stepRefusal n (now (file .entry)) size) 0 ⌝ }
+// A blit that every other condition settles: kept if it goes round.
+fn by_round(round: bool) -> Fate
+    ensures { λ fate. ⌜ fate ≡ byRound round ⌝ }
+{
+    if round {
+        return Fate::KeptForRound;
+    }
+    Fate::Settled
+}
+
+// Whether a lawful blit goes round, by its plan.
+fn goes_round(file: &[u16], size: u16, by: Plan) -> bool
+    requires { ⌜ by ≡ plan (now file) size ⌝ }
+    ensures { λ told. ⌜ told ≡ goesRound (now (file .entry)) size ⌝ }
+{
+    match by {
+        Plan::Area(area) => round::area_round(area),
+        Plan::Line(line) => round::line_round(line),
+    }
+}
+
+// A blit for which the conditions hold that go without N: by its verdict, and by its moves where it is lawful.
+fn by_verdict(n: usize, file: &[u16], size: u16) -> Fate
+    ensures { λ fate. ⌜
+        fate
+        ≡ (if eqb (stepRefusal n (now (file .entry)) size) 0 then byRound (goesRound (now (file .entry)) size) else Kept) ⌝ }
 {
     match refusal::step_refusal(n, file, size) {
-        Verdict::Lawful(_) => true,
-        Verdict::Refused(_) => false,
+        Verdict::Refused(_) => Fate::Kept,
+        Verdict::Lawful(by) => by_round(goes_round(file, size, by)),
     }
 }
 
@@ -64,23 +95,24 @@ fn small(size: u16) -> bool
     word::size::height(size) * word::size::width(size) <= 64
 }
 
-// The conditions in the order of what they cost: a blit's rows are looked at only where it is small and all else holds.
-pub fn settled(n: usize, known: Knowledge, size: u16) -> bool
-    ensures { λ settles. ⌜ settles ≡ settled n (listed known) size ⌝ }
+// The conditions in the order of what they cost: a blit's rows are looked at only where it is small and all else holds,
+// and its moves last.
+pub fn fate(n: usize, known: Knowledge, size: u16) -> Fate
+    ensures { λ told. ⌜ told ≡ fate n (listed known) size ⌝ }
 {
     if !small(size) {
-        return false;
+        return Fate::Kept;
     }
     if !controls_known(known) {
-        return false;
+        return Fate::Kept;
     }
     let file = known.numbers();
     let con0 = file[file::CONTROL_0 as usize];
     if !only_d_used(con0) {
-        return false;
+        return Fate::Kept;
     }
     if !sources_known(con0, known) {
-        return false;
+        return Fate::Kept;
     }
-    lawful(n, &file, size)
+    by_verdict(n, &file, size)
 }

@@ -12,6 +12,7 @@ use Rattle.job.specs.Length.{jobMost, jobLength}
 use Rattle.folder.specs.declared.types.Refusal.{Refusal}
 use Rattle.folder.specs.declared.types.Answer.{Answer}
 use Rattle.folder.specs.Fold.{fold}
+use Rattle.folder.specs.Kept.{kept}
 use Rattle.folder.specs.Folding.{done, startRefusal, tooLong, byStep, folding}
 use Rattle.folder.specs.Answer.{refusalNumber, left}
 use Rattle.folder.specs.Inner.Folded.{Fits, Answers, Folded}
@@ -32,8 +33,8 @@ tooLong-when-few words out is =
 
 -- what is handed out has room
 module _ (n : ℕ) (job out start run : List ℕ) (answer : Answer) (folded : Folded n job out start answer run)
-    (long : ℕ) (same : answer ≡ Answer.Done long) where
-  when-done : Fits (fold n job) out long × (byStep (fold n job) out (steps job) ≡ done (fold n job) out)
+    (long : ℕ) (round : Bool) (same : answer ≡ Answer.Done long round) where
+  when-done : Fits (fold n job) out long × (byStep (fold n job) (kept n job) out (steps job) ≡ done (fold n job) round out)
   unfolding Answers
   when-done = rw same at (folded .answers)
 
@@ -54,7 +55,7 @@ module _ (n : ℕ) (job out : List ℕ) (bad : Bool) (of-bad : bad ≡ memorySiz
     unfolding folding startRefusal given
     folding-by-length holds = rw (← of-bad, taken, ← of-long, holds)
 
-    by-steps : long ≡ false → byStep (fold n job) out (steps job) ≡ folding n job out
+    by-steps : long ≡ false → byStep (fold n job) (kept n job) out (steps job) ≡ folding n job out
     unfolding folding startRefusal given
     by-steps short = rw (← of-bad, taken, ← of-long, short)
 
@@ -64,10 +65,10 @@ module _ (n : ℕ) (job out : List ℕ) (bad : Bool) (of-bad : bad ≡ memorySiz
       unfolding Answers
       folding-by-refused why place same = sym (rw same at (folded .answers)) ∙ by-steps short
 
-      pub folding-by-done : (long : ℕ) (next : List ℕ) → length start ≡ jobMost → answer ≡ Answer.Done long
-          → next ≡ take long run ++ drop long out → left (Answer.Done long) next ≡ folding n job out
-      folding-by-done long next room same hands =
-          let done = when-done n job out start run answer folded long same in
+      pub folding-by-done : (long : ℕ) (round : Bool) (next : List ℕ) → length start ≡ jobMost → answer ≡ Answer.Done long round
+          → next ≡ take long run ++ drop long out → left (Answer.Done long round) next ≡ folding n job out
+      folding-by-done long round next room same hands =
+          let done = when-done n job out start run answer folded long round same in
           let counts = done .0 .counts in
           let front : take long run ≡ fold n job =
           ap (λ (list : List ℕ). take long list) (folded .lays ∙ laid-in-front (fold n job) start (omega (arith, done .0 .few)))

@@ -1,5 +1,5 @@
 -- The number of a refusal tells it from all others, and is never 0: what an answer leaves tells the answer.
-use Rattle.word.proofs.Base.{_≡_, refl, sym, ap, _∙_, ℕ, eqb, List}
+use Rattle.word.proofs.Base.{_≡_, refl, sym, ap, ap₂, _∙_, ℕ, eqb, List}
 use Rattle.word.specs.Choice.{if_then_else_}
 use Rattle.job.specs.declared.types.Refusal as jobs
 use Rattle.folder.specs.declared.types.Refusal.{Refusal}
@@ -32,10 +32,11 @@ pub refusalNumber-is-unique : (one other : Refusal) → refusalNumber one ≡ re
 refusalNumber-is-unique one other same = sym (numbered-of-number one) ∙ ap numbered same ∙ numbered-of-number other
 
 pub answer-is-unique : (one other : Answer) (out others : List ℕ) → left one out ≡ left other others → one ≡ other
-answer-is-unique (Answer.Done words) (Answer.Done more) out others same = ap Answer.Done (ap (λ (end : Folding). end .long) same)
-answer-is-unique (Answer.Done words) (Answer.Refused why place) out others same =
+answer-is-unique (Answer.Done words round) (Answer.Done more told) out others same =
+    ap₂ Answer.Done (ap (λ (end : Folding). end .long) same) (ap (λ (end : Folding). end .round) same)
+answer-is-unique (Answer.Done words round) (Answer.Refused why place) out others same =
     absurd (refusalNumber-positive why (sym (ap (λ (end : Folding). end .number) same)))
-answer-is-unique (Answer.Refused why place) (Answer.Done words) out others same =
+answer-is-unique (Answer.Refused why place) (Answer.Done words round) out others same =
     absurd (refusalNumber-positive why (ap (λ (end : Folding). end .number) same))
 answer-is-unique (Answer.Refused why place) (Answer.Refused reason at) out others same =
     let reasons : why ≡ reason = refusalNumber-is-unique why reason (ap (λ (end : Folding). end .number) same) in

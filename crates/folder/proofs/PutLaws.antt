@@ -21,9 +21,13 @@ use Rattle.knowledge.specs.declared.types.Known.{Known}
 use Rattle.knowledge.specs.Knowledge.{numbers}
 use Rattle.learning.specs.Learn.{written, forgotten, movedD}
 use Rattle.refusal.specs.Refusal.{stepRefusal}
-use Rattle.settled.specs.Settled.{controlsKnown, onlyDUsed, sourcesKnown, settled}
+use Rattle.settled.specs.declared.types.Fate.{Fate}
+use Rattle.settled.specs.Settled.{controlsKnown, onlyDUsed, sourcesKnown, otherwiseSettled, settled, keptForRound}
+use Rattle.settled.specs.Inner.Fate.{fate}
+use Rattle.settled.proofs.SettledLaws.{fate-settled, fate-round, fate-kept, settled-is-otherwise, settled-is-not-kept}
 use Rattle.folder.specs.Fold.{becomes, learned, rawWords}
-use Rattle.folder.specs.Inner.Put.{Put}
+use Rattle.folder.specs.Kept.{keepsForRound}
+use Rattle.folder.specs.Inner.Put.{Put, Kept}
 
 -- the words of a settled blit
 settledWords-length : (file : List ℕ) (size : ℕ) → length (settledWords file size) ≡ 3 * (height size * width size) + 5
@@ -56,66 +60,87 @@ copied-length : (count from : ℕ) (job : List ℕ) → from + count ≤ length 
 copied-length count from job inside = sym (length-take-le count (drop from job) (omega (arith, length-drop from job)))
 
 -- a 058, settled or kept
-module _ (n size : ℕ) (known : List Known) (settles : Bool) (is : settles ≡ settled n known size) where
+module _ (n size : ℕ) (known : List Known) (told : Fate) (is : told ≡ fate n known size) where
   -- a settled blit has at most 64 words
-  pub few-when-settled : settles ≡ true → height size * width size ≤ 64
-  unfolding settled
-  few-when-settled holds =
+  pub few-when-settled : told ≡ Fate.Settled → height size * width size ≤ 64
+  unfolding otherwiseSettled
+  few-when-settled same =
       let before : Bool = controlsKnown known && onlyDUsed (con0 (numbers known)) && eqb (stepRefusal n (numbers known) size) 0 in
       let small : Bool = leb (height size * width size) 64 in
       leb-true (height size * width size) 64
-      (and-right before small (and-left (before && small) (sourcesKnown (function (con0 (numbers known))) known) (sym is ∙ holds)))
+      (and-right before small
+      (and-left (before && small) (sourcesKnown (function (con0 (numbers known))) known)
+      (settled-is-otherwise n known size (fate-settled n size known told is same))))
 
-  module _ (at from : ℕ) (job run next : List ℕ) (after : List Known) where
-    pub put-when-settled : (long : ℕ) → settles ≡ true → next ≡ laid (settledWords (numbers known) size) at run
+  module _ (at from : ℕ) (job run next : List ℕ) (long : ℕ) (after : List Known) where
+    pub put-when-settled : told ≡ Fate.Settled → next ≡ laid (settledWords (numbers known) size) at run
         → long ≡ 3 * (height size * width size) + 5 → after ≡ movedD (finalD (numbers known) size) known
-        → Put n known (Step.Size size) (take 2 (drop from job)) at run next long after
-    unfolding becomes learned
-    put-when-settled long holds lays counts moves =
-        let small = few-when-settled holds in
+        → Put n known (Step.Size size) (take 2 (drop from job)) at run next long after false
+    unfolding becomes learned keepsForRound
+    put-when-settled same lays counts moves =
+        let holds = fate-settled n size known told is same in
+        let small = few-when-settled same in
         record {
-          lays = rw (← is, holds) lays;
-          counts = rw (← is, holds) (counts ∙ sym (settledWords-length (numbers known) size));
+          lays = rw holds lays;
+          counts = rw holds (counts ∙ sym (settledWords-length (numbers known) size));
           few = omega arith;
-          learns = rw (← is, holds) moves;
+          learns = rw holds moves;
+          keeps = sym (settled-is-not-kept n known size holds);
         }
 
-    pub put-when-kept : settles ≡ false → from + 2 ≤ length job → next ≡ laid (take 2 (drop from job)) at run → after ≡ forgotten known
-        → Put n known (Step.Size size) (take 2 (drop from job)) at run next 2 after
-    unfolding becomes learned
-    put-when-kept fails inside lays forgets =
+    -- kept, and the yes it is kept with
+    put-when-not : (says round : Bool) → settled n known size ≡ false → keptForRound n known size ≡ says → from + 2 ≤ length job
+        → Kept known (take 2 (drop from job)) at says run next long after round
+        → Put n known (Step.Size size) (take 2 (drop from job)) at run next long after round
+    unfolding becomes learned keepsForRound
+    put-when-not says round fails tells inside put =
+        let counts = put .counts in
         record {
-          lays = rw (← is, fails) lays;
-          counts = rw (← is, fails) (copied-length 2 from job inside);
+          lays = rw fails (put .lays);
+          counts = rw fails (put .counts ∙ copied-length 2 from job inside);
           few = omega arith;
-          learns = rw (← is, fails) forgets;
+          learns = rw fails (put .learns);
+          keeps = put .keeps ∙ sym tells;
         }
+
+    pub put-when-round : (round : Bool) → told ≡ Fate.KeptForRound → from + 2 ≤ length job
+        → Kept known (take 2 (drop from job)) at true run next long after round
+        → Put n known (Step.Size size) (take 2 (drop from job)) at run next long after round
+    put-when-round round same inside put =
+        let tells = fate-round n size known told is same in put-when-not true round (tells .0) (tells .1) inside put
+
+    pub put-when-kept : (round : Bool) → told ≡ Fate.Kept → from + 2 ≤ length job
+        → Kept known (take 2 (drop from job)) at false run next long after round
+        → Put n known (Step.Size size) (take 2 (drop from job)) at run next long after round
+    put-when-kept round same inside put =
+        let tells = fate-kept n size known told is same in put-when-not false round (tells .0) (tells .1) inside put
 
 -- a step by its kind
 module _ (n at from : ℕ) (known : List Known) (job run next : List ℕ) (step : Step) (inside : from + (1 + operands step) ≤ length job) where
   pub put-of-register : (place value : ℕ) (after : List Known) → step ≡ Step.Register place value
       → next ≡ laid (take 2 (drop from job)) at run → after ≡ written place value known
-      → Put n known step (rawWords job from step) at run next 2 after
-  unfolding becomes learned operands
+      → Put n known step (rawWords job from step) at run next 2 after false
+  unfolding becomes learned keepsForRound operands
   put-of-register place value after same lays writes =
-      rw same (record { lays = lays; counts = copied-length 2 from job (rw same at inside); few = omega arith; learns = writes })
+      rw same (record { lays = lays; counts = copied-length 2 from job (rw same at inside); few = omega arith; learns = writes; keeps = refl })
 
-  pub put-of-size : (size long : ℕ) (after : List Known) → step ≡ Step.Size size
-      → Put n known (Step.Size size) (take 2 (drop from job)) at run next long after → Put n known step (rawWords job from step) at run next long after
+  pub put-of-size : (size long : ℕ) (after : List Known) (round : Bool) → step ≡ Step.Size size
+      → Put n known (Step.Size size) (take 2 (drop from job)) at run next long after round
+      → Put n known step (rawWords job from step) at run next long after round
   unfolding operands
-  put-of-size size long after same put = rw same put
+  put-of-size size long after round same put = rw same put
 
   pub put-of-store : (to value : ℕ) → step ≡ Step.Store to value → next ≡ laid (take 3 (drop from job)) at run
-      → Put n known step (rawWords job from step) at run next 3 known
-  unfolding becomes learned operands
+      → Put n known step (rawWords job from step) at run next 3 known false
+  unfolding becomes learned keepsForRound operands
   put-of-store to value same lays =
-      rw same (record { lays = lays; counts = copied-length 3 from job (rw same at inside); few = omega arith; learns = refl })
+      rw same (record { lays = lays; counts = copied-length 3 from job (rw same at inside); few = omega arith; learns = refl; keeps = refl })
 
   pub put-of-flag : (value : ℕ) → step ≡ Step.Flag value → next ≡ laid (take 1 (drop from job)) at run
-      → Put n known step (rawWords job from step) at run next 1 known
-  unfolding becomes learned operands
+      → Put n known step (rawWords job from step) at run next 1 known false
+  unfolding becomes learned keepsForRound operands
   put-of-flag value same lays =
-      rw same (record { lays = lays; counts = copied-length 1 from job (rw same at inside); few = omega arith; learns = refl })
+      rw same (record { lays = lays; counts = copied-length 1 from job (rw same at inside); few = omega arith; learns = refl; keeps = refl })
 
 module _ (from long : ℕ) (step : Step) (inside : from + (1 + operands step) ≤ long) where
   pub inside-of-register : (place value : ℕ) → step ≡ Step.Register place value → from + 2 ≤ long

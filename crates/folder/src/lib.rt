@@ -26,9 +26,9 @@ pub fn fold(n: usize, job: &[u16], out: &mut [u16]) -> Answer
     let mut run = [0u16; job::length::JOB_MOST];
     let answer = crate::write::folded(n, job, out, &mut run);
     match answer {
-        Answer::Done(long) => {
+        Answer::Done(long, round) => {
             crate::write::hand_out(&run, long, out);
-            Answer::Done(long)
+            Answer::Done(long, round)
         }
         Answer::Refused(why, place) => Answer::Refused(why, place),
     }

@@ -10,14 +10,17 @@ pub enum Refusal {
     TooLong,
 }
 
-// What a folding answers: done with the length of the folded job, or refused, with the place of the refused step.
+// What a folding answers: done with the length of the folded job and whether a blit was kept for going round alone, or
+// refused, with the place of the refused step.
 pub enum Answer {
-    Done(usize),
+    Done(usize, bool),
     Refused(Refusal, usize),
 }
 
-// What is left of a step: how many words it became, and what is known after it.
+// What is left of a step: how many words it became, what is known after it, and whether it is a blit that was kept for
+// going round alone.
 pub struct Piece {
     pub long: u32,
     pub known: Knowledge,
+    pub round: bool,
 }

@@ -8,10 +8,10 @@ use Rattle.folder.proofs.write.folded.Statement.{statement}
 use Rattle.folder.proofs.write.folded.Tie as tie
 
 abbrev Inv-loop : tie.InvT-loop
-Inv-loop n job out run₀ at₀ from₀ known₀ run at from known = Stands n job out run₀ (listed known) at from run
+Inv-loop n job out run₀ at₀ from₀ known₀ round₀ run at from known round = Stands n job out run₀ (listed known) at from round run
 
 abbrev μ-loop : tie.MeasureT-loop
-μ-loop n job out run₀ at₀ from₀ known₀ run at from known = length job - from
+μ-loop n job out run₀ at₀ from₀ known₀ round₀ run at from known round = length job - from
 
 loop-holds : tie.Need-loop-holds Inv-loop μ-loop
 loop-holds c = search stands-start
@@ -27,13 +27,17 @@ add-at c =
     search (turn-fits, match .before .read-at .ensures, put, match .before .before .before .loop .inv, pre)
 
 loop-less : tie.Need-loop-less Inv-loop μ-loop
-loop-less c = search (needs, read-falls)
+loop-less c =
+    let step = c .before .before .before .before .before .before .before .before in
+    let match = step .before in
+    search (needs, read-falls, step .step .given, match .before .read-at .ensures, match .before .before .loop-test .taken)
 
 loop-again : tie.Need-loop-again Inv-loop μ-loop
 loop-again c =
-    let put = c .before .before .before .before .put-step .ensures in
-    let match = c .before .before .before .before .before .before .before .before in
-    search (stands-turn, match .before .read-at .ensures, put, match .before .before .before .loop .inv)
+    let put = c .before .before .before .before .before .put-step .ensures in
+    let step = c .before .before .before .before .before .before .before .before in
+    let match = step .before in
+    search (stands-turn, step .step .given, match .before .read-at .ensures, put, match .before .before .before .loop .inv)
 
 returns : tie.Need-returns Inv-loop μ-loop
 returns c = search folded-of-end

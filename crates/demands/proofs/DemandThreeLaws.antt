@@ -33,7 +33,7 @@ use Rattle.learning.specs.Learn.{written, forgotten, movedD}
 use Rattle.settled.specs.Settled.{settled}
 use Rattle.folder.specs.Fold.{becomes, learned, rawWords, piece, learnedAfter, foldSteps, foldFrom, fold}
 use Rattle.demands.proofs.AgreesLaws.{Agrees, agrees-of-set, agrees-of-flag}
-use Rattle.demands.proofs.SettledKnownLaws.{settled-is-lawful, settled-uses-d, settled-agrees}
+use Rattle.demands.proofs.SettledKnownLaws.{settled-is-lawful, settled-uses-d, settled-agrees, settled-goesRound}
 use Rattle.demands.proofs.FoldedJobLaws.{Done, folding-when-done, foldedJob-is-fold}
 use Rattle.demands.proofs.GoodStepLaws.{Good, steps-are-good}
 use Rattle.demands.specs.DemandThree.{DemandThree}
@@ -65,7 +65,8 @@ module _ (n : ℕ) (known : List Known) (before : Machine) (stands : Stands n kn
   settled-runs at place next more rest later =
       rw (
         settledWords-alike (numbers known) (before .file) agree size only,
-        settledWords-run (before .memory) (before .file) size only-here lawful at more (before .stored),
+        settledWords-run (before .memory) (before .file) size only-here lawful at more (before .stored) (before .round)
+            (settled-goesRound n known size holds (before .file) (stands .long) (stands .agrees)),
         stepEffect-of-blit size (before .memory) (before .file),
         blitStep-number (before .memory) (before .file) size lawful,
       )
@@ -149,7 +150,7 @@ nothing-agrees file place value is = let none : getD nothing place Known.Unknown
 
 -- none of 1 to 3 applies to a run
 start-of-none : (memory file job : List ℕ) → memorySize (length memory) ≡ false → accepted file ≡ true → jobLength job ≡ false
-    → run memory file job ≡ runFrom 0 job (machine memory file 0)
+    → run memory file job ≡ runFrom 0 job (machine memory file 0 false)
 unfolding run startRefusal given
 start-of-none memory file job room fine short = rw (room, fine, short)
 
@@ -159,12 +160,12 @@ demand-three n job out memory file accepts sized fine =
     let is : Done n job out = folding-when-done n job out accepts in
     let room : memorySize (length memory) ≡ false = ap memorySize sized ∙ is .room in
     let good : Good job (steps job) = steps-are-good job 0 0 job refl (is .clean) in
-    let stands : Stands n nothing (machine memory file 0) =
+    let stands : Stands n nothing (machine memory file 0 false) =
     record { memory = sized; file = accepted-has-length file fine; long = nothing-length; agrees = nothing-agrees file } in
-    let alike : SameButPlace (runFrom 0 (fold n job) (machine memory file 0)) (runFrom 0 job (machine memory file 0)) =
-    simulate n job (steps job) good 0 nothing (machine memory file 0) stands in
-    let this : run memory file (fold n job) ≡ runFrom 0 (fold n job) (machine memory file 0) = start-of-none memory file (fold n job) room fine (jobLength-of-short (fold n job) (is .fits)) in
-    let that : run memory file job ≡ runFrom 0 job (machine memory file 0) = start-of-none memory file job room fine (is .short) in
+    let alike : SameButPlace (runFrom 0 (fold n job) (machine memory file 0 false)) (runFrom 0 job (machine memory file 0 false)) =
+    simulate n job (steps job) good 0 nothing (machine memory file 0 false) stands in
+    let this : run memory file (fold n job) ≡ runFrom 0 (fold n job) (machine memory file 0 false) = start-of-none memory file (fold n job) room fine (jobLength-of-short (fold n job) (is .fits)) in
+    let that : run memory file job ≡ runFrom 0 job (machine memory file 0 false) = start-of-none memory file job room fine (is .short) in
     let machines = alike .machines in
     let numbers = alike .numbers in
-    rw (foldedJob-is-fold n job out is, this, that) (record { memory = cc; file = cc; stored = cc; number = cc })
+    rw (foldedJob-is-fold n job out is, this, that) (record { memory = cc; file = cc; stored = cc; round = cc; number = cc })

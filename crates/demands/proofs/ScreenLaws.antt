@@ -19,6 +19,7 @@ use Rattle.line.specs.Dot.{firstDot}
 use Rattle.line.specs.Line as lines
 use Rattle.line.specs.Leave.{leave}
 use Rattle.refusal.specs.Refusal.{pointersDiffer, stepRefusal}
+use Rattle.round.specs.Round.{goesRound}
 use Rattle.blit.specs.Blit.{finished, drawn, areaDone, lineDone, done, refused, answered, blitStep}
 use Rattle.knowledge.specs.declared.types.Known.{Known}
 use Rattle.learning.specs.Learn.{written}
@@ -107,6 +108,10 @@ module _ (file : List ℕ) (place word : ℕ) (from : copcon ≤ place) where
   unfolding drawn
   drawn-stays memory size = rw (lineSetup-stays, firstDot-stays)
 
+  goesRound-stays : (size : ℕ) → goesRound (set file place word) size ≡ goesRound file size
+  unfolding goesRound
+  goesRound-stays size = rw (held control1 (lit< tt), setup-stays, pointers-stay, lineSetup-stays, firstDot-stays)
+
 -- what is written to them
 withPointer-apart : (at : ℕ) (pointer : Pointer) (file : List ℕ) (place word : ℕ) → copcon ≤ place → at + 1 < copcon
     → withPointer at pointer (set file place word) ≡ set (withPointer at pointer file) place word
@@ -126,10 +131,10 @@ unfolding putSource
 putSource-apart true at value file place word from inside = set-comm file place at word value (λ same. omega (arith, from, inside, same))
 putSource-apart false at value file place word from inside = refl
 
-areaDone-apart : (file : List ℕ) (end : State) (place word : ℕ) → copcon ≤ place → place < flag
-    → areaDone (set file place word) end ≡ withWord place word (areaDone file end)
+areaDone-apart : (file : List ℕ) (round : Bool) (end : State) (place word : ℕ) → copcon ≤ place → place < flag
+    → areaDone (set file place word) round end ≡ withWord place word (areaDone file round end)
 unfolding areaDone putPointers putSources putFlag
-areaDone-apart file end place word from to =
+areaDone-apart file round end place word from to =
     rw (
       setup-stays file place word from,
       putPointer-apart _ pointerA _ _ place word from (lit< tt),
@@ -142,10 +147,10 @@ areaDone-apart file end place word from to =
       set-comm _ place flag word _ (λ same. omega (arith, to, same)),
     )
 
-lineDone-apart : (file : List ℕ) (end : lines.State) (place word : ℕ) → copcon ≤ place → place < flag
-    → lineDone (set file place word) end ≡ withWord place word (lineDone file end)
+lineDone-apart : (file : List ℕ) (round : Bool) (end : lines.State) (place word : ℕ) → copcon ≤ place → place < flag
+    → lineDone (set file place word) round end ≡ withWord place word (lineDone file round end)
 unfolding lineDone leave putFlag
-lineDone-apart file end place word from to =
+lineDone-apart file round end place word from to =
     rw (
       set-comm file place (pointerA + 1) word (end .drawn .dot .accumulator) (λ same. omega (arith, from, same)),
       withPointer-apart pointerC (end .drawn .dot .spot .at) _ place word from (lit< tt),
@@ -157,14 +162,19 @@ done-apart : (memory file : List ℕ) (size place word : ℕ) → copcon ≤ pla
     → done memory (set file place word) size ≡ withWord place word (done memory file size)
 unfolding done
 done-apart memory file size place word from to =
-    rw (held file place word from control1 (lit< tt), drawn-stays file place word from memory size, finished-stays file place word from memory size)
+    rw (
+      held file place word from control1 (lit< tt),
+      drawn-stays file place word from memory size,
+      finished-stays file place word from memory size,
+      goesRound-stays file place word from size,
+    )
     (by-bit (line (con1 file)))
   where
     by-bit : (bit : Bool)
-        → (if bit then lineDone (set file place word) (drawn memory file size) else areaDone (set file place word) (finished memory file size))
-        ≡ withWord place word (if bit then lineDone file (drawn memory file size) else areaDone file (finished memory file size))
-    by-bit true = lineDone-apart file (drawn memory file size) place word from to
-    by-bit false = areaDone-apart file (finished memory file size) place word from to
+        → (if bit then lineDone (set file place word) (goesRound file size) (drawn memory file size) else areaDone (set file place word) (goesRound file size) (finished memory file size))
+        ≡ withWord place word (if bit then lineDone file (goesRound file size) (drawn memory file size) else areaDone file (goesRound file size) (finished memory file size))
+    by-bit true = lineDone-apart file (goesRound file size) (drawn memory file size) place word from to
+    by-bit false = areaDone-apart file (goesRound file size) (finished memory file size) place word from to
 
 answered-apart : (number : ℕ) (memory file : List ℕ) (size place word : ℕ) → copcon ≤ place → place < flag
     → answered number memory (set file place word) size ≡ withWord place word (answered number memory file size)

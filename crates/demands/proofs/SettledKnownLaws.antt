@@ -10,6 +10,9 @@ use Rattle.area.specs.Setup.{setup}
 use Rattle.file.specs.File.{con0, con1}
 use Rattle.word.specs.Control.{uses, function, line}
 use Rattle.refusal.specs.Refusal.{stepRefusal}
+use Rattle.round.specs.Round.{goesRound}
+use Rattle.blit.specs.Blit.{Outcome, areaDone, lineDone, refused, blitStep}
+use Rattle.blit.proofs.BlitLaws.{answered-either}
 use Rattle.depends.specs.Depends.{counts}
 use Rattle.knowledge.specs.declared.types.Known.{Known}
 use Rattle.knowledge.specs.Known.{number}
@@ -17,11 +20,13 @@ use Rattle.knowledge.specs.Knowledge.{numbers}
 use Rattle.knowledge.proofs.KnownLaws.{known-is-number}
 use Rattle.knowledge.proofs.KnowledgeLaws.{numbers-at}
 use Rattle.stores.proofs.OnlyDLaws.{OnlyD}
-use Rattle.settled.proofs.AgreeLaws.{Agree}
+use Rattle.settled.proofs.AgreeLaws.{Agree, goesRound-alike}
+use Rattle.settled.proofs.SettledLaws.{settled-is-otherwise, settled-never-goes-round}
 use Rattle.settled.proofs.WordsLaws.{area-of-only-d}
 use Rattle.learning.specs.Learn.{knownAt}
-use Rattle.settled.specs.Settled.{has, controlsKnown, onlyDUsed, sourcesKnown, settled}
+use Rattle.settled.specs.Settled.{has, controlsKnown, onlyDUsed, sourcesKnown, otherwiseSettled, settled}
 use Rattle.demands.specs.ALineIsNeverSettled.{ALineIsNeverSettled}
+use Rattle.demands.specs.ASettledBlitNeverGoesRound.{ASettledBlitNeverGoesRound}
 use Rattle.demands.proofs.AgreesLaws.{Agrees}
 
 -- a condition that is asked for holds
@@ -39,13 +44,16 @@ known-agrees known file place long inside agrees is =
 
 module _ (n : ℕ) (known : List Known) (size : ℕ) (holds : settled n known size ≡ true) where
   -- the conditions, one by one
+  otherwise : otherwiseSettled n known size ≡ true
+  otherwise = settled-is-otherwise n known size holds
+
   four : (controlsKnown known && onlyDUsed (con0 (numbers known)) && eqb (stepRefusal n (numbers known) size) 0 && leb (height size * width size) 64) ≡ true
-  unfolding settled
-  four = and-left _ (sourcesKnown (function (con0 (numbers known))) known) holds
+  unfolding otherwiseSettled
+  four = and-left _ (sourcesKnown (function (con0 (numbers known))) known) otherwise
 
   sources : sourcesKnown (function (con0 (numbers known))) known ≡ true
-  unfolding settled
-  sources = and-right (controlsKnown known && onlyDUsed (con0 (numbers known)) && eqb (stepRefusal n (numbers known) size) 0 && leb (height size * width size) 64) _ holds
+  unfolding otherwiseSettled
+  sources = and-right (controlsKnown known && onlyDUsed (con0 (numbers known)) && eqb (stepRefusal n (numbers known) size) 0 && leb (height size * width size) 64) _ otherwise
 
   three : (controlsKnown known && onlyDUsed (con0 (numbers known)) && eqb (stepRefusal n (numbers known) size) 0) ≡ true
   three = and-left (controlsKnown known && onlyDUsed (con0 (numbers known)) && eqb (stepRefusal n (numbers known) size) 0) (leb (height size * width size) 64) four
@@ -99,14 +107,27 @@ module _ (n : ℕ) (known : List Known) (size : ℕ) (holds : settled n known si
         c = λ counted. known-agrees known file sourceC long (lit< tt) agrees (asked (counts f 1) (has known sourceC) (and-right (ask-a && ask-b) ask-c sources) counted);
       }
 
--- a settled blit uses D alone and isn't refused, and a line that does is
+  -- it uses D alone and isn't refused, and a line that does is
+  settled-is-area : line (con1 (numbers known)) ≡ false
+  settled-is-area = area-of-only-d n (numbers known) size settled-uses-d settled-is-lawful
+
+  pub settled-goesRound : (file : List ℕ) → length known ≡ blitterLength → Agrees known file → goesRound file size ≡ false
+  settled-goesRound file long agrees =
+      sym (goesRound-alike (numbers known) file (settled-agrees file long agrees) size settled-uses-d settled-is-area)
+      ∙ settled-never-goes-round n known size holds
+
 pub a-line-is-never-settled : ALineIsNeverSettled
 unfolding Agrees
 a-line-is-never-settled n known file size long agrees lined = by-test (settled n known size) refl
   where
     by-test : (holds : Bool) → settled n known size ≡ holds → holds ≡ false
     by-test true holds =
-        let area : line (con1 (numbers known)) ≡ false =
-        area-of-only-d n (numbers known) size (settled-uses-d n known size holds) (settled-is-lawful n known size holds) in
-        sym lined ∙ ap line (sym (settled-agrees n known size holds file long agrees .control1)) ∙ area
+        sym lined ∙ ap line (sym (settled-agrees n known size holds file long agrees .control1)) ∙ settled-is-area n known size holds
     by-test false kept = refl
+
+-- done it doesn't go round, refused it gives no yes
+pub a-settled-blit-never-goes-round : ASettledBlitNeverGoesRound
+unfolding Agrees blitStep areaDone lineDone refused
+a-settled-blit-never-goes-round n known memory file size long agrees holds =
+    let stays = settled-goesRound n known size holds file long agrees in
+    answered-either (λ (end : Outcome). end .round ≡ false) (stepRefusal (length memory) file size) memory file size stays stays refl

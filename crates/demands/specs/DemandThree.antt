@@ -1,6 +1,7 @@
 -- Demand 3: "Take any job the folder accepts, any memory of the size it was folded for, and any register file the
 -- runner accepts at the start. The folded job and the original end with the same memory, registers, zero flag, count
--- of stored words and answer number. Only the place told with a refusal may differ."
+-- of stored words and answer number. Only the place told with a refusal may differ." Paper 02, W12, of the runner's yes:
+-- "Demand 3 then also compares the runner's."
 use Prim.Native.Nat.{ℕ}
 use mathlib.Core.Path.{_≡_}
 use mathlib.Core.Bool.{true}
@@ -27,6 +28,7 @@ pub record SameEnd (folded original : End) : Type 0 where
   pub memory : folded .machine .memory ≡ original .machine .memory
   pub file : folded .machine .file ≡ original .machine .file
   pub stored : folded .machine .stored ≡ original .machine .stored
+  pub round : folded .machine .round ≡ original .machine .round
   pub number : folded .number ≡ original .number
 
 abbrev pub DemandThree : Type 0

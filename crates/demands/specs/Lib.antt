@@ -2,4 +2,5 @@
 pub mod DemandThree
 pub mod SettledAreReplaced
 pub mod ALineIsNeverSettled
+pub mod ASettledBlitNeverGoesRound
 pub mod ScreenTouchesNeither

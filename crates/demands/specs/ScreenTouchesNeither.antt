@@ -12,7 +12,13 @@ use Rattle.folder.specs.Fold.{learned}
 -- an outcome with one word of its register file replaced
 abbrev pub withWord : (place word : ℕ) → Outcome → Outcome
 withWord place word end =
-    record { number = end .number; stored = end .stored; memory = end .memory; file = set (end .file) place word }
+    record {
+      number = end .number;
+      stored = end .stored;
+      round = end .round;
+      memory = end .memory;
+      file = set (end .file) place word;
+    }
 
 -- a blit on a file in which one of them is replaced gives and leaves what it does on the file as it was, with that one
 -- replaced; and a write of one of them leaves the folder's knowledge as it was

@@ -2,6 +2,7 @@
 ghost use Rattle.demands.specs.DemandThree.{DemandThree};
 ghost use Rattle.demands.specs.SettledAreReplaced.{SettledAreReplaced};
 ghost use Rattle.demands.specs.ALineIsNeverSettled.{ALineIsNeverSettled};
+ghost use Rattle.demands.specs.ASettledBlitNeverGoesRound.{ASettledBlitNeverGoesRound};
 ghost use Rattle.demands.specs.ScreenTouchesNeither.{ScreenTouchesNeither};
 
 pub fn demand_three()
@@ -14,6 +15,10 @@ pub fn settled_are_replaced()
 
 pub fn a_line_is_never_settled()
     ensures { λ _. ⌜ ALineIsNeverSettled ⌝ }
+{}
+
+pub fn a_settled_blit_never_goes_round()
+    ensures { λ _. ⌜ ASettledBlitNeverGoesRound ⌝ }
 {}
 
 pub fn screen_touches_neither()

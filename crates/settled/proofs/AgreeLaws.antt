@@ -17,6 +17,8 @@ use Rattle.refusal.specs.declared.types.AreaPlan.{AreaPlan}
 use Rattle.refusal.specs.Plan.{areaPlan}
 use Rattle.refusal.specs.Refusal.{bothFills, fillUpward, leaving, stepRefusal}
 use Rattle.refusal.proofs.RefusalLaws.{channelNumbered, areaNumbered, stepRefusal-of-area, stepRefusal-without-a}
+use Rattle.round.specs.Round.{goesRound}
+use Rattle.round.proofs.AreaLaws.{areaRound-by-d}
 use Rattle.depends.specs.Depends.{counts}
 use Rattle.stores.specs.Stores.{stores, finalD}
 use Rattle.stores.proofs.OnlyDLaws.{OnlyD}
@@ -120,6 +122,14 @@ module _ (this other : List ℕ) (agree : Agree this other) where
           stepRefusal-of-area n this size area
           ∙ ap₂ (λ (control channel : ℕ). areaNumbered (bothFills control) (fillUpward control) channel) (agree .control1) (leaving-alike n size only)
           ∙ sym (stepRefusal-of-area n other size (sym (ap line (agree .control1)) ∙ area))
+
+  -- an area blit goes round as D does
+  pub goesRound-alike : (size : ℕ) → OnlyD (setup this .uses) → line (con1 this) ≡ false → goesRound this size ≡ goesRound other size
+  unfolding goesRound
+  goesRound-alike size only area =
+      rw (area, sym (ap line (agree .control1)) ∙ area)
+      (areaRound-by-d (areaPlan this size) (areaPlan other size) (only .a) (only .b) (only .c) (setup-alike .uses)
+      (setup-alike .direction) refl refl (setup-alike .modulo) pointers-alike)
 
   pub finalD-alike : (size : ℕ) → finalD this size ≡ finalD other size
   unfolding finalD

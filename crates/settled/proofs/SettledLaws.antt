@@ -148,6 +148,6 @@ pub settled-is-otherwise : (n : ℕ) (known : List Known) (size : ℕ) → settl
 unfolding settled
 settled-is-otherwise n known size holds = and-left (otherwiseSettled n known size) (not (goesRound (numbers known) size)) holds
 
-pub settled-stays-inside : (n : ℕ) (known : List Known) (size : ℕ) → settled n known size ≡ true → goesRound (numbers known) size ≡ false
+pub settled-never-goes-round : (n : ℕ) (known : List Known) (size : ℕ) → settled n known size ≡ true → goesRound (numbers known) size ≡ false
 unfolding settled
-settled-stays-inside n known size holds = not-true (goesRound (numbers known) size) (and-right (otherwiseSettled n known size) (not (goesRound (numbers known) size)) holds)
+settled-never-goes-round n known size holds = not-true (goesRound (numbers known) size) (and-right (otherwiseSettled n known size) (not (goesRound (numbers known) size)) holds)

@@ -30,9 +30,11 @@ use Rattle.runner.specs.Answer as runs
 use Rattle.folder.specs.declared.types.Answer as foldAnswer
 use Rattle.folder.specs.Answer as folds
 use Rattle.folder.specs.Fold.{fold}
+use Rattle.folder.specs.Kept.{kept}
 use Rattle.folder.specs.Folding as foldings
 use Rattle.folder.specs.Folding.{Folding, refused, done, tooLong, byStep, folding}
 use Rattle.folder.proofs.FoldingLaws.{tooLong-when-few}
+use Rattle.desk.specs.Told.{yesNo, blitTold, runTold, foldTold}
 
 -- a run is refused at a word of its job
 runSteps-place-le : (skip at : ℕ) (words : List ℕ) (before : Machine)
@@ -70,49 +72,49 @@ run-place-le memory file job = by-start (decLt 0 (startRefusal memory file job))
         let starts = startRefusal-is-none memory file job begins in
         let short : length job ≤ 4096 = jobLength-when-short job (jobLength job) refl (starts .2) in
         let same = ap (λ (end : End). end .place) (run-when-started memory file job begins) in
-        omega (arith, same, short, runSteps-place-le 0 0 job (machine memory file 0))
+        omega (arith, same, short, runSteps-place-le 0 0 job (machine memory file 0 false))
 
 -- a folding is refused at a word of its job
-byStep-place-at-end : (words out : List ℕ) (at : ℕ) → byStep words out [] .place ≤ at
+byStep-place-at-end : (words : List ℕ) (round : Bool) (out : List ℕ) (at : ℕ) → byStep words round out [] .place ≤ at
 unfolding byStep
-byStep-place-at-end words out at = by-test (tooLong words out)
+byStep-place-at-end words round out at = by-test (tooLong words out)
   where
-    by-test : (long : Bool) → (if long then refused 11 0 out else done words out) .place ≤ at
+    by-test : (long : Bool) → (if long then refused 11 0 out else done words round out) .place ≤ at
     by-test true = omega arith
     by-test false = omega arith
 
-byStep-place-le : (words out : List ℕ) (skip at : ℕ) (job : List ℕ)
-    → byStep words out (stepsFrom skip at job) .place ≤ at + length job
+byStep-place-le : (words : List ℕ) (round : Bool) (out : List ℕ) (skip at : ℕ) (job : List ℕ)
+    → byStep words round out (stepsFrom skip at job) .place ≤ at + length job
 unfolding byStep stepsFrom
-byStep-place-le words out skip at [] = byStep-place-at-end words out (at + 0)
-byStep-place-le words out zero at (first ∷ rest) =
+byStep-place-le words round out skip at [] = byStep-place-at-end words round out (at + 0)
+byStep-place-le words round out zero at (first ∷ rest) =
     by-test
-    (behind-either (λ list. byStep words out list .place ≤ at + 1 + length rest) (front at (first ∷ rest)) (λ skip. stepsFrom skip (at + 1) rest)
-    (λ skip. byStep-place-le words out skip (at + 1) rest) (byStep-place-at-end words out (at + 1 + length rest)))
+    (behind-either (λ list. byStep words round out list .place ≤ at + 1 + length rest) (front at (first ∷ rest)) (λ skip. stepsFrom skip (at + 1) rest)
+    (λ skip. byStep-place-le words round out skip (at + 1) rest) (byStep-place-at-end words round out (at + 1 + length rest)))
     (eqb (readNumber (front at (first ∷ rest))) 0)
   where
     later : Folding
-    later = byStep words out (behind (front at (first ∷ rest)) (λ skip. stepsFrom skip (at + 1) rest))
+    later = byStep words round out (behind (front at (first ∷ rest)) (λ skip. stepsFrom skip (at + 1) rest))
 
     by-test : later .place ≤ at + 1 + length rest → (fine : Bool)
         → (if fine then later else refused (readNumber (front at (first ∷ rest))) at out) .place ≤ at + suc (length rest)
     by-test inside true = omega (arith, inside)
     by-test inside false = omega arith
-byStep-place-le words out (suc skip) at (word ∷ rest) = omega (arith, byStep-place-le words out skip (at + 1) rest)
+byStep-place-le words round out (suc skip) at (word ∷ rest) = omega (arith, byStep-place-le words round out skip (at + 1) rest)
 
 -- a folding's length is 0 or that of a folded job
-byStep-long-le : (words out : List ℕ) (list : List Placed) → byStep words out list .long ≤ 4096
+byStep-long-le : (words : List ℕ) (round : Bool) (out : List ℕ) (list : List Placed) → byStep words round out list .long ≤ 4096
 unfolding byStep
-byStep-long-le words out [] = by-test (tooLong words out) refl
+byStep-long-le words round out [] = by-test (tooLong words out) refl
   where
-    by-test : (long : Bool) → tooLong words out ≡ long → (if long then refused 11 0 out else done words out) .long ≤ 4096
+    by-test : (long : Bool) → tooLong words out ≡ long → (if long then refused 11 0 out else done words round out) .long ≤ 4096
     by-test true is = omega arith
     by-test false is = tooLong-when-few words out is
-byStep-long-le words out (one ∷ rest) =
-    by-test (byStep-long-le words out rest) (eqb (readNumber (one .read)) 0)
+byStep-long-le words round out (one ∷ rest) =
+    by-test (byStep-long-le words round out rest) (eqb (readNumber (one .read)) 0)
   where
-    by-test : byStep words out rest .long ≤ 4096 → (fine : Bool)
-        → (if fine then byStep words out rest else refused (readNumber (one .read)) (one .place) out) .long ≤ 4096
+    by-test : byStep words round out rest .long ≤ 4096 → (fine : Bool)
+        → (if fine then byStep words round out rest else refused (readNumber (one .read)) (one .place) out) .long ≤ 4096
     by-test inside true = inside
     by-test inside false = omega arith
 
@@ -135,7 +137,7 @@ module _ (n : ℕ) (job out : List ℕ) where
       by-start (no none) =
           let begins : foldings.startRefusal n job ≡ 0 = omega (arith, none) in
           rw (eq-eqb (foldings.startRefusal n job) 0 begins)
-          (omega (arith, few-of-start begins, byStep-place-le (fold n job) out 0 0 job), byStep-long-le (fold n job) out (steps job))
+          (omega (arith, few-of-start begins, byStep-place-le (fold n job) (kept n job) out 0 0 job), byStep-long-le (fold n job) (kept n job) out (steps job))
 
 -- what the entries tell, by the answers of the calls
 module _ (memory file job next end : List ℕ) (answer : runAnswer.Answer) (gives : runs.left answer next end ≡ run memory file job) where
@@ -143,10 +145,12 @@ module _ (memory file job next end : List ℕ) (answer : runAnswer.Answer) (give
   run-place-lt place same =
       omega (arith, same, ap (λ (end : End). end .place) gives, run-place-le memory file job)
 
-  pub run-of-answer : (number place stored : ℕ)
+  pub run-of-answer : (number place stored told : ℕ) (round : Bool)
       → number ≡ runs.answerNumber answer → place ≡ runs.answerPlace answer → stored ≡ runs.answerStored answer
-      → ended number place (machine next end stored) ≡ run memory file job
-  run-of-answer number place stored is-number is-place is-stored = rw (is-number, is-place, is-stored) gives
+      → round ≡ runs.answerRound answer → told ≡ yesNo round
+      → record { number = number; place = place; stored = stored; round = told; memory = next; file = end } ≡ runTold (run memory file job)
+  run-of-answer number place stored told round is-number is-place is-stored is-round is-told =
+      rw (is-number, is-place, is-stored, is-told, is-round) (ap runTold gives)
 
 module _ (n : ℕ) (job out next : List ℕ) (answer : foldAnswer.Answer) (gives : folds.left answer next ≡ folding n job out) where
   pub folding-place-lt : (place : ℕ) → place ≡ folds.answerPlace answer → place < 4294967296
@@ -157,10 +161,12 @@ module _ (n : ℕ) (job out next : List ℕ) (answer : foldAnswer.Answer) (gives
   folding-long-lt long same =
       omega (arith, same, ap (λ (end : Folding). end .long) gives, folding-le n job out .1)
 
-  pub folding-of-answer : (number place long : ℕ)
+  pub folding-of-answer : (number place long told : ℕ) (round : Bool)
       → number ≡ folds.answerNumber answer → place ≡ folds.answerPlace answer → long ≡ folds.answerLong answer
-      → record { number = number; place = place; long = long; out = next } ≡ folding n job out
-  folding-of-answer number place long is-number is-place is-long = rw (is-number, is-place, is-long) gives
+      → round ≡ folds.answerRound answer → told ≡ yesNo round
+      → record { number = number; place = place; long = long; round = told; out = next } ≡ foldTold (folding n job out)
+  folding-of-answer number place long told round is-number is-place is-long is-round is-told =
+      rw (is-number, is-place, is-long, is-told, is-round) (ap foldTold gives)
 
 pub widening-of-answer : (old target next : List ℕ) (number : ℕ) (answer : widenAnswer.Answer)
     → number ≡ widenings.answerNumber answer → widenings.left answer next ≡ widening old target
@@ -172,10 +178,19 @@ pub picture-of-answer : (memory file : List ℕ) (field : Playfield) (out next :
     → record { number = number; out = next } ≡ picture memory file field out
 picture-of-answer memory file field out next number answer is-number gives = rw is-number gives
 
-pub blit-of-answer : (memory file next end : List ℕ) (size number stored : ℕ) (answer : blitAnswer.Answer)
-    → number ≡ blits.answerNumber answer → stored ≡ blits.answerStored answer → blits.left answer next end ≡ blit memory file size
-    → record { number = number; stored = stored; memory = next; file = end } ≡ blit memory file size
-blit-of-answer memory file next end size number stored answer is-number is-stored gives = rw (is-number, is-stored) gives
+pub blit-of-answer : (memory file next end : List ℕ) (size number stored told : ℕ) (round : Bool) (answer : blitAnswer.Answer)
+    → number ≡ blits.answerNumber answer → stored ≡ blits.answerStored answer → round ≡ blits.answerRound answer → told ≡ yesNo round
+    → blits.left answer next end ≡ blit memory file size
+    → record { number = number; stored = stored; round = told; memory = next; file = end } ≡ blitTold (blit memory file size)
+blit-of-answer memory file next end size number stored told round answer is-number is-stored is-round is-told gives =
+    rw (is-number, is-stored, is-told, is-round) (ap blitTold gives)
+
+-- a yes is told as 1, a no as 0
+pub yesNo-when-yes : (round : Bool) → round ≡ true → 1 ≡ yesNo round
+yesNo-when-yes round holds = rw holds
+
+pub yesNo-when-no : (round : Bool) → round ≡ false → 0 ≡ yesNo round
+yesNo-when-no round fails = rw fails
 
 -- a frame's answer, told with the beam's place and without it
 module _ (memory file next end : List ℕ) (start lent why number : ℕ) (answer : copperAnswer.Answer)

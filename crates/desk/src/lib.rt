@@ -2,15 +2,26 @@
 // count of words; results are written into lent numbers. Each gives and leaves what the call below it does.
 ghost use mathlib.Core.Path.{_≡_};
 ghost use Rattle.blit.specs.Blit.{blit};
-ghost use Rattle.runner.specs.Run.{machine, ended, run};
+ghost use Rattle.runner.specs.Run.{run};
 ghost use Rattle.folder.specs.Folding.{folding};
 ghost use Rattle.widen.specs.Widen.{widening};
 ghost use Rattle.instruction.specs.Effect as copper;
 ghost use Rattle.copper.specs.Frame.{stopped, frameFrom, frame, told};
 ghost use Rattle.playfield.specs.Playfield.{playfield};
 ghost use Rattle.picture.specs.Picture.{picture};
+ghost use Rattle.desk.specs.Told.{yesNo, blitTold, runTold, foldTold};
 
-// Does one area blit.
+// A yes or no as a number.
+fn yes_no(yes: bool) -> u32
+    ensures { λ number. ⌜ number ≡ yesNo yes ⌝ }
+{
+    if yes {
+        return 1;
+    }
+    0
+}
+
+// Does one blit.
 #[no_mangle]
 pub extern "C" fn desk_blit(
     ram: &mut [u16],
@@ -18,14 +29,22 @@ pub extern "C" fn desk_blit(
     size: u16,
     number: &mut u32,
     stored: &mut u32,
+    round: &mut u32,
 )
     ensures { λ _. ⌜
-        record { number = now (number .exit); stored = now (stored .exit); memory = now (ram .exit); file = now (file .exit) }
-        ≡ blit (now (ram .entry)) (now (file .entry)) size ⌝ }
+        record {
+          number = now (number .exit);
+          stored = now (stored .exit);
+          round = now (round .exit);
+          memory = now (ram .exit);
+          file = now (file .exit);
+        }
+        ≡ blitTold (blit (now (ram .entry)) (now (file .entry)) size) ⌝ }
 {
     let answer = blit::blit(ram, file, size);
     *number = blit::answer::number(answer);
     *stored = blit::answer::stored(answer);
+    *round = yes_no(blit::answer::round(answer));
 }
 
 // Runs a job.
@@ -37,15 +56,24 @@ pub extern "C" fn desk_run(
     number: &mut u32,
     place: &mut u32,
     stored: &mut u32,
+    round: &mut u32,
 )
     ensures { λ _. ⌜
-        ended (now (number .exit)) (now (place .exit)) (machine (now (ram .exit)) (now (file .exit)) (now (stored .exit)))
-        ≡ run (now (ram .entry)) (now (file .entry)) (now (job .entry)) ⌝ }
+        record {
+          number = now (number .exit);
+          place = now (place .exit);
+          stored = now (stored .exit);
+          round = now (round .exit);
+          memory = now (ram .exit);
+          file = now (file .exit);
+        }
+        ≡ runTold (run (now (ram .entry)) (now (file .entry)) (now (job .entry))) ⌝ }
 {
     let answer = runner::run(ram, file, job);
     *number = runner::answer::number(answer);
     *place = runner::answer::place(answer) as u32;
     *stored = runner::answer::stored(answer);
+    *round = yes_no(runner::answer::round(answer));
 }
 
 // Folds a job for memory of `words` words.
@@ -57,15 +85,23 @@ pub extern "C" fn desk_fold(
     number: &mut u32,
     place: &mut u32,
     long: &mut u32,
+    round: &mut u32,
 )
     ensures { λ _. ⌜
-        record { number = now (number .exit); place = now (place .exit); long = now (long .exit); out = now (out .exit) }
-        ≡ folding words (now (job .entry)) (now (out .entry)) ⌝ }
+        record {
+          number = now (number .exit);
+          place = now (place .exit);
+          long = now (long .exit);
+          round = now (round .exit);
+          out = now (out .exit);
+        }
+        ≡ foldTold (folding words (now (job .entry)) (now (out .entry))) ⌝ }
 {
     let answer = folder::fold(words, job, out);
     *number = folder::answer::number(answer);
     *place = folder::answer::place(answer) as u32;
     *long = folder::answer::length(answer) as u32;
+    *round = yes_no(folder::answer::round(answer));
 }
 
 // Turns an old register file into a new one.

@@ -16,4 +16,4 @@ returns c = search folding-of-answer
 pub desk-fold-spec : {M : Type 1} → statement M
 desk-fold-spec =
     tie.close (tie.spec (λ c κs. search needs) (λ c κs. search needs) (λ c κs. search needs) cast-place
-    (λ c κs. search needs) cast-long (λ c. search needs) returns)
+    (λ c κs. search needs) cast-long (λ c κs. search needs) (λ c κs. search needs) (λ c. search needs) returns)

@@ -1,0 +1,2 @@
+-- What the entries tell of what the calls give and leave.
+pub mod Told

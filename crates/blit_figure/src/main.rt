@@ -58,7 +58,7 @@ fn main() {
     pictures(&ram);
     // Three rows of two words.
     match blit::blit(&mut ram, &mut file, 0x00C2) {
-        blit::types::Answer::Done(stored) => {
+        blit::types::Answer::Done(stored, _) => {
             show_words::text(b"After, words stored");
             show_words::hex((stored % 65536) as u16);
             show_words::line();

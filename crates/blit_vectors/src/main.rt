@@ -18,7 +18,7 @@ fn registers(con0: u16, con1: u16, a: u16, b: u16, c: u16, d: u16) -> [u16; file
 // Does a blit; prints a refusal, which no vector expects, or the count of words stored and the zero flag.
 fn run(ram: &mut [u16], file: &mut [u16], size: u16) {
     match blit::blit(ram, file, size) {
-        blit::types::Answer::Done(stored) => {
+        blit::types::Answer::Done(stored, _) => {
             show_words::text(b" stored");
             show_words::hex((stored % 65536) as u16);
         }

@@ -93,7 +93,7 @@ fn print_set_up(file: &[u16], size: u16) {
 // stand, and the zero flag.
 fn run(ram: &mut [u16], file: &mut [u16], size: u16) {
     match blit::blit(ram, file, size) {
-        blit::types::Answer::Done(stored) => {
+        blit::types::Answer::Done(stored, _) => {
             show_words::text(b" stored");
             show_words::hex((stored % 65536) as u16);
         }

@@ -26,6 +26,16 @@ module _ (by : AreaPlan) (a : Bool) (of-a : a ≡ runsRound by (by .setup .uses 
       unfolding areaRound
       areaRound-when-last d not-c of-d = rw (← of-a, not-a, ← of-b, not-b, ← of-c, not-c) of-d
 
+-- none goes round
+pub areaRound-of-none : (by : AreaPlan)
+    → runsRound by (by .setup .uses .a) (by .setup .modulos .a) (by .pointers .a) ≡ false
+    → runsRound by (by .setup .uses .b) (by .setup .modulos .b) (by .pointers .b) ≡ false
+    → runsRound by (by .setup .uses .c) (by .setup .modulos .c) (by .pointers .c) ≡ false
+    → runsRound by (by .setup .uses .d) (by .setup .modulos .d) (by .pointers .d) ≡ false
+    → areaRound by ≡ false
+unfolding areaRound
+areaRound-of-none by no-a no-b no-c no-d = rw (no-a, no-b, no-c, no-d)
+
 -- where D alone is used, D decides
 areaRound-of-d : (by : AreaPlan) → by .setup .uses .a ≡ false → by .setup .uses .b ≡ false → by .setup .uses .c ≡ false
     → areaRound by ≡ runsRound by (by .setup .uses .d) (by .setup .modulos .d) (by .pointers .d)

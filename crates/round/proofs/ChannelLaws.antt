@@ -104,7 +104,7 @@ module _ (direction : Direction) (width modulo : ℕ) (some : 1 ≤ width) (narr
       rw steps (sym (wentRound-of-last here small) ∙ (rw only at same))
 
 module _ (direction : Direction) (used : Bool) (width modulo rows : ℕ) (pointer : Pointer) where
-  pub channelRound-when-unused : not used ≡ true → false ≡ channelRound direction used width modulo rows pointer
+  pub channelRound-when-unused : not used ≡ true → channelRound direction used width modulo rows pointer ≡ false
   unfolding channelRound
   channelRound-when-unused idle = rw (not-true used idle)
 
@@ -113,7 +113,7 @@ module _ (direction : Direction) (used : Bool) (width modulo rows : ℕ) (pointe
   unfolding channelRound
   channelRound-when-used told uses same = rw (not-false used uses) same
 
-  pub channelRound-when-clear : (told : Bool) → (told ≡ true → wentRound (channelMoves direction width modulo rows pointer) ≡ false) → told ≡ true
-      → false ≡ channelRound direction used width modulo rows pointer
+  pub channelRound-when-clear : wentRound (channelMoves direction width modulo rows pointer) ≡ false
+      → channelRound direction used width modulo rows pointer ≡ false
   unfolding channelRound
-  channelRound-when-clear told promised holds = rw (promised holds) (sym (and-none used))
+  channelRound-when-clear stays = rw stays (and-none used)

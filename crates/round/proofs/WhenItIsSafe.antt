@@ -23,6 +23,7 @@ use Rattle.round.specs.Inner.Reach.{rise, reach}
 use Rattle.round.specs.WhenItIsSafe.{wordsOn, wordsBack, Lies, LiesWithNext, Follows, PlainRows, PlainChannel, PlainArea}
 use Rattle.round.specs.WhenItIsSafe as statements
 use Rattle.round.proofs.ChannelLaws.{endRound, wentRound-of-last, wentRound-of-rows}
+use Rattle.round.proofs.AreaLaws.{areaRound-of-none}
 use Rattle.round.proofs.FewLaws.{passedRound-is-far}
 use Rattle.round.proofs.RangeLaws.{area-in-range, line-in-range}
 use Rattle.round.proofs.LineLaws.{lineMoves-of-mark}
@@ -118,13 +119,9 @@ channel-stays direction true width modulo zero pointer range plain = absurd (ome
 channel-stays direction true width modulo (suc more) pointer range plain =
     rows-stay direction width modulo (range .word) (range .narrow) more pointer (range .start) (plain refl)
 
-none-of-four : (a b c d : Bool) → a ≡ false → b ≡ false → c ≡ false → d ≡ false → (a || b || c || d) ≡ false
-none-of-four a b c d no-a no-b no-c no-d = rw (no-a, no-b, no-c, no-d)
-
 area-stays : (by : AreaPlan) → AreaRange by → PlainArea by → areaRound by ≡ false
-unfolding areaRound
 area-stays by range plain =
-    none-of-four _ _ _ _
+    areaRound-of-none by
     (channel-stays (by .setup .direction) (by .setup .uses .a) (by .width) (by .setup .modulos .a) (by .height) (by .pointers .a) (range .a) (plain .a))
     (channel-stays (by .setup .direction) (by .setup .uses .b) (by .width) (by .setup .modulos .b) (by .height) (by .pointers .b) (range .b) (plain .b))
     (channel-stays (by .setup .direction) (by .setup .uses .c) (by .width) (by .setup .modulos .c) (by .height) (by .pointers .c) (range .c) (plain .c))

@@ -69,6 +69,24 @@ fn clear(direction: Direction, width: u32, modulo: u32, rows: u32, pointer: Poin
     (far <= from) & (from + width < POINTER_END)
 }
 
+// What a quick look at a channel tells: an unused one doesn't count.
+pub fn channel_clear(
+    direction: Direction,
+    used: bool,
+    width: u32,
+    modulo: u32,
+    rows: u32,
+    pointer: Pointer,
+) -> bool
+    requires { ⌜ ChannelRange width rows pointer ⌝ }
+    ensures { λ told. ⌜ (told ≡ true → channelRound direction used width modulo rows pointer ≡ false) ⌝ }
+{
+    if !used {
+        return true;
+    }
+    clear(direction, width, modulo, rows, pointer)
+}
+
 pub fn channel_round(
     direction: Direction,
     used: bool,
@@ -81,9 +99,6 @@ pub fn channel_round(
     ensures { λ told. ⌜ told ≡ channelRound direction used width modulo rows pointer ⌝ }
 {
     if !used {
-        return false;
-    }
-    if clear(direction, width, modulo, rows, pointer) {
         return false;
     }
     rows_round(direction, width, modulo, rows, pointer)

@@ -114,6 +114,14 @@ fn farthest(row: u32, dots: u32) -> u32
     dots * reach(row)
 }
 
+pub fn by_dots(line: Line, dots: u32, first: Dot) -> bool
+    requires { ⌜ LineRange dots first ⌝ }
+    ensures { λ told. ⌜ told ≡ wentRound (lineMoves line dots first) ⌝ }
+{
+    let mark = line::walk::mark_of(first);
+    dots_round(line, dots, mark)
+}
+
 pub fn course_round(line: Line, dots: u32, first: Dot) -> bool
     requires { ⌜ LineRange dots first ⌝ }
     ensures { λ told. ⌜ told ≡ wentRound (lineMoves line dots first) ⌝ }
@@ -124,5 +132,5 @@ pub fn course_round(line: Line, dots: u32, first: Dot) -> bool
     if (far <= pixel) & (pixel + far < PIXEL_END) {
         return false;
     }
-    dots_round(line, dots, mark)
+    by_dots(line, dots, first)
 }

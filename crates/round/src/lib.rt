@@ -39,8 +39,8 @@ fn all_clear(by: AreaPlan) -> bool
     crate::channel::channel_clear(direction, uses.d, width, modulos.d, height, d)
 }
 
-// Every channel row by row, A to D.
-fn some_round(by: AreaPlan) -> bool
+// Every channel row by row, A to D; for a blit of a few words that is quick enough.
+pub fn area_by_rows(by: AreaPlan) -> bool
     requires { ⌜ AreaRange by ⌝ }
     ensures { λ told. ⌜ told ≡ areaRound by ⌝ }
 {
@@ -67,7 +67,7 @@ fn some_round(by: AreaPlan) -> bool
     crate::channel::channel_round(direction, uses.d, width, modulos.d, height, d)
 }
 
-// The channels of an area blit: nearly always the quick look tells.
+// The channels of an area blit: nearly always the quick look tells. One place calls it, so that it is put there whole.
 pub fn area_round(by: AreaPlan) -> bool
     requires { ⌜ AreaRange by ⌝ }
     ensures { λ told. ⌜ told ≡ areaRound by ⌝ }
@@ -75,10 +75,20 @@ pub fn area_round(by: AreaPlan) -> bool
     if all_clear(by) {
         return false;
     }
-    some_round(by)
+    area_by_rows(by)
 }
 
-// A line's C.
+// A line's C, dot by dot.
+pub fn line_by_dots(by: LinePlan) -> bool
+    requires { ⌜ LineRange (by .dots) (by .first) ⌝ }
+    ensures { λ told. ⌜ told ≡ lineRound by ⌝ }
+{
+    let line = by.line;
+    let first = by.first;
+    crate::course::by_dots(line, by.dots as u32, first)
+}
+
+// The same, at once where its dots can't come near an end.
 pub fn line_round(by: LinePlan) -> bool
     requires { ⌜ LineRange (by .dots) (by .first) ⌝ }
     ensures { λ told. ⌜ told ≡ lineRound by ⌝ }

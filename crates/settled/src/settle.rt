@@ -72,8 +72,8 @@ fn goes_round(file: &[u16], size: u16, by: Plan) -> bool
     ensures { λ told. ⌜ told ≡ goesRound (now (file .entry)) size ⌝ }
 {
     match by {
-        Plan::Area(area) => round::area_round(area),
-        Plan::Line(line) => round::line_round(line),
+        Plan::Area(area) => round::area_by_rows(area),
+        Plan::Line(line) => round::line_by_dots(line),
     }
 }
 

@@ -4,11 +4,11 @@ use Rattle.word.proofs.Base.{needs}
 use Rattle.settled.proofs.settle.goes_round.Statement.{statement}
 use Rattle.settled.proofs.settle.goes_round.Tie as tie
 
-area-round-requires : tie.Need-area-round-requires
-area-round-requires c κs = search planned-area-in-range
+area-by-rows-requires : tie.Need-area-by-rows-requires
+area-by-rows-requires c κs = search planned-area-in-range
 
-line-round-requires : tie.Need-line-round-requires
-line-round-requires c κs = search planned-line-in-range
+line-by-dots-requires : tie.Need-line-by-dots-requires
+line-by-dots-requires c κs = search planned-line-in-range
 
 returns : tie.Need-returns
 returns c = search goesRound-of-area
@@ -18,4 +18,4 @@ returns-2 c = search goesRound-of-line
 
 pub goes-round-spec : {M : Type 1} → statement M
 goes-round-spec =
-    tie.close (tie.spec (λ c. search needs) area-round-requires (λ c. search needs) line-round-requires returns returns-2)
+    tie.close (tie.spec (λ c. search needs) area-by-rows-requires (λ c. search needs) line-by-dots-requires returns returns-2)

@@ -12,27 +12,27 @@ use Rattle.job.specs.declared.types.Read.{Read}
 use Rattle.job.specs.Steps.{Placed, steps}
 use Rattle.runner.specs.Run.{Machine, machine, effectOn, after, startRefusal, run}
 
--- of a blit, whether it goes round with the register file that it finds; other steps are none
-unfoldable pub ofBlit : (file : List ℕ) → Read → List Bool
-ofBlit file (Read.Step (Step.Register place value) next) = []
-ofBlit file (Read.Step (Step.Size size) next) = goesRound file size ∷ []
-ofBlit file (Read.Step (Step.Store to value) next) = []
-ofBlit file (Read.Step (Step.Flag value) next) = []
-ofBlit file Read.End = []
-ofBlit file (Read.Refused why) = []
+-- of a blit, whether it goes round, by the register file that it finds; no other step says anything
+unfoldable pub roundHere : (file : List ℕ) → Read → List Bool
+roundHere file (Read.Step (Step.Register place value) next) = []
+roundHere file (Read.Step (Step.Size size) next) = goesRound file size ∷ []
+roundHere file (Read.Step (Step.Store to value) next) = []
+roundHere file (Read.Step (Step.Flag value) next) = []
+roundHere file Read.End = []
+roundHere file (Read.Refused why) = []
 
--- of each blit that is done, in order: steps are taken to the first refused one, which is not done
-unfoldable pub ofBlitsDone : List Placed → Machine → List Bool
-ofBlitsDone [] before = []
-ofBlitsDone (one ∷ rest) before =
+-- of each blit that is done, in order; the first refused step isn't done, and what stands behind it isn't taken
+unfoldable pub roundsIn : List Placed → Machine → List Bool
+roundsIn [] before = []
+roundsIn (one ∷ rest) before =
     if eqb (effectOn before (one .read) .number) 0 then
-    ofBlit (before .file) (one .read) ++ ofBlitsDone rest (after before (effectOn before (one .read))) else
+    roundHere (before .file) (one .read) ++ roundsIn rest (after before (effectOn before (one .read))) else
     []
 
--- of each that a run does: none where it is refused with 1, 2 or 3
-unfoldable pub doneBlits : (memory file job : List ℕ) → List Bool
-doneBlits memory file job =
-    if eqb (startRefusal memory file job) 0 then ofBlitsDone (steps job) (machine memory file 0 false) else
+-- of each that a run does; one that is refused with 1, 2 or 3 does none
+unfoldable pub rounds : (memory file job : List ℕ) → List Bool
+rounds memory file job =
+    if eqb (startRefusal memory file job) 0 then roundsIn (steps job) (machine memory file 0 false) else
     []
 
 -- one of them is a yes
@@ -41,4 +41,4 @@ some [] = false
 some (first ∷ rest) = first || some rest
 
 abbrev pub OrOfItsBlits : Type 0
-OrOfItsBlits = (memory file job : List ℕ) → run memory file job .machine .round ≡ some (doneBlits memory file job)
+OrOfItsBlits = (memory file job : List ℕ) → run memory file job .machine .round ≡ some (rounds memory file job)

@@ -39,7 +39,7 @@ sourcesKnown function known =
     && (not (counts function 2) || has known sourceB)
     && (not (counts function 1) || has known sourceC)
 
--- every condition of paper 01, one line each, in its order; numbers is the file of the known numbers
+-- every condition but W12's, one line each, in the paper's order; numbers is the file of the known numbers
 unfoldable pub otherwiseSettled : (n : ℕ) → (known : List Known) → (size : ℕ) → Bool
 otherwiseSettled n known size =
     controlsKnown known

@@ -24,6 +24,24 @@ pub fn words(name: &[u8], words: &[u16]) {
     io::write_all(1, b"\n");
 }
 
+// Whether a blit was kept for going round alone, on a line of its own.
+pub fn round(answer: Answer) {
+    if folder::answer::round(answer) {
+        io::write_all(1, b"  round yes\n");
+    } else {
+        io::write_all(1, b"  round no\n");
+    }
+}
+
+// A job folded into an output of 28 words that hold EEEE, and whether a blit was kept for going round alone.
+pub fn folded_round(name: &[u8], n: usize, job: &[u16]) {
+    let mut out = [0xEEEEu16; 28];
+    let folding = folder::fold(n, job, &mut out);
+    answer(name, folding);
+    round(folding);
+    words(b"  out", &out);
+}
+
 // A job folded into an output of 28 words that hold EEEE.
 pub fn folded(name: &[u8], n: usize, job: &[u16]) {
     let mut out = [0xEEEEu16; 28];

@@ -1,6 +1,6 @@
 // Runs jobs through the runner and prints what they give and leave: paper 01's "Run and compared" cases, each number of
-// the table that a run can give, colours, which channel is told of a blit that leaves memory, and a job of several blits
-// with stores and flags between. What it must print is written out beside it, from the papers.
+// the table that a run can give, colours, which channel is told of a blit that leaves memory, a job of several blits with
+// stores and flags between, and pointers that go round. What it must print is written out beside it, from the papers.
 use runner::types::Answer;
 
 // A case's name, and the answer's number, place and count.
@@ -348,6 +348,203 @@ fn several_blits() {
     show_file(&file);
 }
 
+// A case's name, and of the answer also whether a pointer went round.
+fn show_round(name: &[u8], answer: Answer) {
+    show(name, answer);
+    if runner::answer::round(answer) {
+        io::write_all(1, b"  round yes\n");
+    } else {
+        io::write_all(1, b"  round no\n");
+    }
+}
+
+// A job on 16 words of memory that are zero, and on the most.
+fn round_on_16(name: &[u8], job: &[u16]) {
+    let mut ram = [0u16; 16];
+    let mut file = [0u16; file::WORDS];
+    show_round(name, runner::run(&mut ram, &mut file, job));
+}
+
+fn round_on_most(name: &[u8], job: &[u16]) {
+    let mut ram = [0u16; 262144];
+    let mut file = [0u16; file::WORDS];
+    show_round(name, runner::run(&mut ram, &mut file, job));
+}
+
+// Paper 02, W12, on 16 words. D alone downward from word 0, a modulo of -4 bytes: after word 0 D steps to word 262,143, and
+// the modulo brings it back to word 1. A refused blit gives no yes, and a refused step takes none back.
+fn rounds_on_16() {
+    round_on_16(
+        b"D round and back",
+        &[
+            0x0040u16,
+            0x0100,
+            0x0042,
+            0x0002,
+            0x0066,
+            0xFFFC,
+            0x0058,
+            0x0081,
+        ],
+    );
+    round_on_16(
+        b"D round after its last word",
+        &[
+            0x0040u16,
+            0x0100,
+            0x0042,
+            0x0002,
+            0x0066,
+            0xFFFC,
+            0x0058,
+            0x0041,
+        ],
+    );
+    round_on_16(
+        b"a yes, then a blit that stays",
+        &[
+            0x0040u16,
+            0x0100,
+            0x0042,
+            0x0002,
+            0x0066,
+            0xFFFC,
+            0x0058,
+            0x0081,
+            0x0058,
+            0x0041,
+        ],
+    );
+    round_on_16(
+        b"a yes, then a refused store",
+        &[
+            0x0040u16,
+            0x0100,
+            0x0042,
+            0x0002,
+            0x0066,
+            0xFFFC,
+            0x0058,
+            0x0081,
+            0x8000,
+            0x0020,
+            0x2222,
+        ],
+    );
+    round_on_16(
+        b"a refused blit",
+        &[0x0040u16, 0x0100, 0x0042, 0x0002, 0x0058, 0x0042],
+    );
+}
+
+// On 262,144 words: a row over the top, and one that ends there; a modulo that leads below nought, and one to it; A over
+// the top, with D, without D and not in use; a line whose C goes left of word 0.
+fn rounds_on_most() {
+    round_on_most(
+        b"row over the top",
+        &[
+            0x0040u16,
+            0x0100,
+            0x0054,
+            0x0007,
+            0x0056,
+            0xFFFC,
+            0x0058,
+            0x0043,
+        ],
+    );
+    round_on_most(
+        b"row to the top",
+        &[
+            0x0040u16,
+            0x0100,
+            0x0054,
+            0x0007,
+            0x0056,
+            0xFFFC,
+            0x0058,
+            0x0042,
+        ],
+    );
+    round_on_most(
+        b"modulo below nought",
+        &[
+            0x0040u16,
+            0x0100,
+            0x0056,
+            0x0004,
+            0x0066,
+            0xFFF8,
+            0x0058,
+            0x0081,
+        ],
+    );
+    round_on_most(
+        b"modulo to nought",
+        &[
+            0x0040u16,
+            0x0100,
+            0x0056,
+            0x0004,
+            0x0066,
+            0xFFFA,
+            0x0058,
+            0x0081,
+        ],
+    );
+    round_on_most(
+        b"A over the top",
+        &[
+            0x0040u16,
+            0x0900,
+            0x0050,
+            0x0007,
+            0x0052,
+            0xFFFE,
+            0x0056,
+            0x0010,
+            0x0058,
+            0x0042,
+        ],
+    );
+    round_on_most(
+        b"A over the top, without D",
+        &[
+            0x0040u16,
+            0x0800,
+            0x0050,
+            0x0007,
+            0x0052,
+            0xFFFE,
+            0x0058,
+            0x0042,
+        ],
+    );
+    round_on_most(
+        b"A at the top, not used",
+        &[
+            0x0040u16,
+            0x0100,
+            0x0050,
+            0x0007,
+            0x0052,
+            0xFFFE,
+            0x0056,
+            0x0010,
+            0x0058,
+            0x0042,
+        ],
+    );
+    round_on_most(
+        b"line left of word 0",
+        &[0x0040u16, 0x0BCA, 0x0042, 0x0055, 0x0058, 0x0082],
+    );
+    round_on_most(
+        b"line of one dot there",
+        &[0x0040u16, 0x0BCA, 0x0042, 0x0055, 0x0058, 0x0042],
+    );
+}
+
 fn main() {
     memory_sizes();
     files();
@@ -359,4 +556,6 @@ fn main() {
     channels();
     largest_blit();
     several_blits();
+    rounds_on_16();
+    rounds_on_most();
 }

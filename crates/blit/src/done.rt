@@ -23,7 +23,7 @@ fn finished(ram: &mut [u16], file: &[u16], size: u16, by: AreaPlan) -> Flow
 }
 
 // Does it, writes back what it leaves, and answers the count of words stored and whether a channel went round. That is
-// told last: what were known before the loops would have to be kept through them.
+// told first: afterwards the plan would have to be kept through the word loops.
 pub fn area_done(ram: &mut [u16], file: &mut [u16], size: u16, by: AreaPlan) -> Answer
     requires { ⌜ by ≡ areaPlan (now file) size ⌝ }
     ensures { λ answer. ⌜
@@ -31,13 +31,13 @@ pub fn area_done(ram: &mut [u16], file: &mut [u16], size: u16, by: AreaPlan) -> 
         ≡ areaDone (now (file .entry)) (areaRound (areaPlan (now (file .entry)) size))
         (finished (now (ram .entry)) (now (file .entry)) size) ⌝ }
 {
+    let round = round::area_round(by);
     let end = finished(ram, file, size, by);
     crate::registers::write_back(file, by.setup.uses, end);
-    let round = round::area_round(by);
     Answer::Done(end.stored, round)
 }
 
-// The same of a line.
+// The same of a line; there whether it went round is told last, for its one loop has no register to spare.
 pub fn line_done(ram: &mut [u16], file: &mut [u16], size: u16, by: LinePlan) -> Answer
     requires { ⌜ by ≡ linePlan (now file) size ⌝ }
     ensures { λ answer. ⌜

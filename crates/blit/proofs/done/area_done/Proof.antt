@@ -13,5 +13,5 @@ returns c = search areaDone-of-parts
 
 pub area-done-spec : {M : Type 1} → statement M
 area-done-spec =
-    tie.close (tie.spec (λ c κs. search needs) (λ c κs. search needs) area-round-requires (λ c. search needs)
+    tie.close (tie.spec area-round-requires (λ c κs. search needs) (λ c κs. search needs) (λ c. search needs)
     (λ c. search needs) returns)

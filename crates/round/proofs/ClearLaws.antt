@@ -35,9 +35,10 @@ unfolding plusRound
 plusRound-of-back words at below inside =
     rw (le-leb downward (words % pointerEnd) below, le-ltb at (pointerEnd - words % pointerEnd) inside)
 
--- rows that stay clear: each with a word behind it, and the gap to the next one too; `more` rows follow
+-- rows that stay clear: each but the last with a word behind it, and the gap to the next one too; `more` rows follow
 module _ (direction : Direction) (width modulo : ℕ) (some : 1 ≤ width) (narrow : width ≤ 64) (Clear : (more at : ℕ) → Type 0)
-    (room : (more at : ℕ) → Clear more at → at + width < pointerEnd)
+    (last : (at : ℕ) → Clear 0 at → at + width ≤ pointerEnd)
+    (room : (more at : ℕ) → Clear (suc more) at → at + width < pointerEnd)
     (turn : (more at : ℕ) → Clear (suc more) at
     → (plusRound modulo (record { word = at + width }) ≡ false) × Clear more ((at + width + modulo % pointerEnd) % pointerEnd)) where
   steps-inside : (words : ℕ) (pointer : Pointer) → pointer .word < pointerEnd → words < downward → onward direction pointer + words < pointerEnd
@@ -56,11 +57,11 @@ module _ (direction : Direction) (width modulo : ℕ) (some : 1 ≤ width) (narr
       → wentRound (channelMoves direction width modulo (suc more) pointer) ≡ false
   unfolding endRound
   stays-clear zero pointer small clear =
-      let inside = room zero (onward direction pointer) clear in
+      let inside = last (onward direction pointer) clear in
       wentRound-of-last direction width modulo some narrow pointer small
       ∙ steps-inside (width - 1) pointer small (omega arith) (omega arith)
   stays-clear (suc more) pointer small clear =
-      let inside = room (suc more) (onward direction pointer) clear in
+      let inside = room more (onward direction pointer) clear in
       let end : Pointer = passed direction width pointer in
       let row = onward-of-row pointer small inside in
       let next = nextRow-of-moves direction width modulo pointer end (passed direction modulo end) small narrow refl refl in
@@ -90,19 +91,20 @@ module _ (direction : Direction) (width modulo rows : ℕ) (pointer : Pointer) (
           rw same (each more (apart ∙ ap (λ (many : ℕ). (many - 1) * stride) same ∙ ap (λ (many : ℕ). many * stride) (sub-one (suc more))))
 
   abbrev Upward : (more at : ℕ) → Type 0
-  Upward more at = at + more * stride + width < pointerEnd
+  Upward more at = at + more * stride + width ≤ pointerEnd
 
-  clear-upward : ((at : ℕ) → at + stride < pointerEnd
+  clear-upward : 1 ≤ stride → ((at : ℕ) → at + stride < pointerEnd
       → (plusRound modulo (record { word = at + width }) ≡ false) × ((at + width + modulo % pointerEnd) % pointerEnd ≡ at + stride))
-      → ltb (from + far + width) pointerEnd ≡ true → wentRound (channelMoves direction width modulo rows pointer) ≡ false
-  clear-upward lands told =
+      → leb (from + far + width) pointerEnd ≡ true → wentRound (channelMoves direction width modulo rows pointer) ≡ false
+  clear-upward on-and-on lands told =
       by-rows (λ more many.
       stays-clear direction width modulo some narrow Upward
+      (λ at inside. omega arith)
       (λ more at inside. omega arith)
       (λ more at inside.
       let on = lands at (omega arith) in
       (on .0, rw (on .1) (omega arith)))
-      more pointer small (let end = ltb-true (from + far + width) pointerEnd told in omega arith))
+      more pointer small (let end = leb-true (from + far + width) pointerEnd told in omega arith))
 
   abbrev Downward : (more at : ℕ) → Type 0
   Downward more at = (more * stride ≤ at) × (at + width < pointerEnd)
@@ -115,6 +117,7 @@ module _ (direction : Direction) (width modulo rows : ℕ) (pointer : Pointer) (
       let end = ltb-true (from + width) pointerEnd (and-right (leb far from) (ltb (from + width) pointerEnd) told) in
       by-rows (λ more many.
       stays-clear direction width modulo some narrow Downward
+      (λ at inside. omega (arith, inside .1))
       (λ more at inside. inside .1)
       (λ more at inside.
       let room = inside .0 in
@@ -125,19 +128,19 @@ module _ (direction : Direction) (width modulo rows : ℕ) (pointer : Pointer) (
 -- by what the quick look tests: a gap from 0 on, one below 0 that the width makes up for, and one that leads back
 module _ (direction : Direction) (width modulo rows : ℕ) (pointer : Pointer) (some : 1 ≤ width) (narrow : width ≤ 64) (row : 1 ≤ rows)
     (small : pointer .word < pointerEnd) (from gap far : ℕ) (of-from : from ≡ onward direction pointer) (of-gap : gap ≡ modulo % pointerEnd) where
-  pub clear-by-gap : gap < downward → far ≡ (rows - 1) * (width + gap) → ltb (from + far + width) pointerEnd ≡ true
+  pub clear-by-gap : gap < downward → far ≡ (rows - 1) * (width + gap) → leb (from + far + width) pointerEnd ≡ true
       → wentRound (channelMoves direction width modulo rows pointer) ≡ false
   clear-by-gap above apart told =
-      clear-upward direction width modulo rows pointer some narrow row small (width + gap) from far of-from apart
+      clear-upward direction width modulo rows pointer some narrow row small (width + gap) from far of-from apart (omega arith)
       (λ at inside. (plusRound-of-few modulo (at + width) (omega arith) (omega arith), omega arith)) told
 
-  pub clear-by-width : downward ≤ gap → pointerEnd - gap ≤ width → far ≡ (rows - 1) * (width - (pointerEnd - gap))
-      → ltb (from + far + width) pointerEnd ≡ true → wentRound (channelMoves direction width modulo rows pointer) ≡ false
+  pub clear-by-width : downward ≤ gap → pointerEnd - gap < width → far ≡ (rows - 1) * (width - (pointerEnd - gap))
+      → leb (from + far + width) pointerEnd ≡ true → wentRound (channelMoves direction width modulo rows pointer) ≡ false
   clear-by-width below short apart told =
-      clear-upward direction width modulo rows pointer some narrow row small (width - (pointerEnd - gap)) from far of-from apart
+      clear-upward direction width modulo rows pointer some narrow row small (width - (pointerEnd - gap)) from far of-from apart (omega arith)
       (λ at inside. (plusRound-of-back modulo (at + width) (omega arith) (omega arith), omega arith)) told
 
-  pub clear-by-back : downward ≤ gap → width < pointerEnd - gap → far ≡ (rows - 1) * (pointerEnd - gap - width)
+  pub clear-by-back : downward ≤ gap → width ≤ pointerEnd - gap → far ≡ (rows - 1) * (pointerEnd - gap - width)
       → (leb far from && ltb (from + width) pointerEnd) ≡ true → wentRound (channelMoves direction width modulo rows pointer) ≡ false
   clear-by-back below long apart told =
       clear-downward direction width modulo rows pointer some narrow row small (pointerEnd - gap - width) from far of-from apart

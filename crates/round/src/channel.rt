@@ -48,8 +48,8 @@ fn onward(direction: Direction, pointer: Pointer) -> u32
     }
 }
 
-// The first and the last row lie inside, with a word behind each: no move between goes round. Each row starts a width and a
-// gap after the one before; a gap below 0 leads back.
+// The first and the last row lie inside, with a word behind all but the last: no move between goes round. Each row starts a
+// width and a gap after the one before; a gap below 0 may lead back.
 fn clear(direction: Direction, width: u32, modulo: u32, rows: u32, pointer: Pointer) -> bool
     requires { ⌜ ChannelRange width rows pointer ⌝ }
     ensures { λ told. ⌜ (told ≡ true → wentRound (channelMoves direction width modulo rows pointer) ≡ false) ⌝ }
@@ -58,12 +58,12 @@ fn clear(direction: Direction, width: u32, modulo: u32, rows: u32, pointer: Poin
     let gap = modulo % POINTER_END;
     if gap < DOWNWARD {
         let far = word::even::distance(rows, width + gap);
-        return from + far + width < POINTER_END;
+        return from + far + width <= POINTER_END;
     }
     let back = POINTER_END - gap;
-    if back <= width {
+    if back < width {
         let far = word::even::distance(rows, width - back);
-        return from + far + width < POINTER_END;
+        return from + far + width <= POINTER_END;
     }
     let far = word::even::distance(rows, back - width);
     (far <= from) & (from + width < POINTER_END)

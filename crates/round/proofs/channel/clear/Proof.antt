@@ -16,5 +16,5 @@ returns-3 c = search (needs, clear-by-back)
 pub clear-spec : {M : Type 1} → statement M
 clear-spec =
     tie.close (tie.spec (λ c κs. search needs) (λ c. search needs) (λ c κs. search needs) (λ c. search needs)
-    (λ c. search needs) returns (λ c. search needs) (λ c κs. search needs) (λ c. search needs) (λ c. search needs) returns-2
-    (λ c. search needs) (λ c κs. search needs) (λ c. search needs) returns-3)
+    (λ c. search needs) returns (λ c. search needs) (λ c. search needs) (λ c κs. search needs) (λ c. search needs)
+    (λ c. search needs) returns-2 (λ c κs. search needs) (λ c. search needs) returns-3)

@@ -7,3 +7,4 @@ pub mod ALine
 pub mod CopyOfARectangle
 pub mod CopyOfOneRow
 pub mod AcceptedAgain
+pub mod WhenItIsSafe

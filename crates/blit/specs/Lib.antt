@@ -6,5 +6,6 @@ pub mod UnusedStay
 pub mod ALine
 pub mod CopyOfOneRow
 pub mod CopyOfARectangle
+pub mod WhenItIsSafe
 pub mod AcceptedAgain
 pub mod OneAnswer

@@ -4,6 +4,7 @@ ghost use Rattle.blit.specs.UnusedStay.{UnusedStay};
 ghost use Rattle.blit.specs.ALine.{OnlyDotsChange, AWordARow, OthersAsBefore};
 ghost use Rattle.blit.specs.CopyOfOneRow.{CopyOfOneRow};
 ghost use Rattle.blit.specs.CopyOfARectangle.{CopyOfARectangle};
+ghost use Rattle.blit.specs.WhenItIsSafe.{WhenItIsSafe};
 ghost use Rattle.blit.specs.AcceptedAgain.{AcceptedAgain};
 ghost use Rattle.blit.specs.OneAnswer.{OneAnswer, OneStepAnswer};
 
@@ -37,6 +38,10 @@ pub fn copy_of_one_row()
 
 pub fn copy_of_a_rectangle()
     ensures { λ _. ⌜ CopyOfARectangle ⌝ }
+{}
+
+pub fn when_it_is_safe()
+    ensures { λ _. ⌜ WhenItIsSafe ⌝ }
 {}
 
 pub fn accepted_again()

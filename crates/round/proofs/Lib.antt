@@ -10,4 +10,4 @@ pub mod ReachLaws
 pub mod RangeLaws
 pub mod AreaLaws
 pub mod RoundLaws
-pub mod WhenItIsSafe
+pub mod PlainLaws

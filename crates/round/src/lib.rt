@@ -1,7 +1,6 @@
 // Whether a blit goes round: whether a pointer of its channels does between two of its accesses.
 mod channel;
 mod course;
-pub mod theorems;
 
 ghost use mathlib.Core.Path.{_≡_};
 ghost use mathlib.Core.Bool.{true, false};

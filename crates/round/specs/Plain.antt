@@ -1,8 +1,8 @@
--- When it is safe: a blit says no where its rows, counted plainly, lie in memory without passing the top or nought. Nothing
--- here is taken modulo 262,144.
+-- Rows of a channel counted plainly, which lie in memory without passing the top or nought: nothing here is taken modulo
+-- 262,144. A blit of such rows doesn't go round (`WhenItIsSafe`, in the crate `blit`).
 use Prim.Native.Nat.{ℕ, _+_, _*_, _%_, _<_, _≤_}
 use mathlib.Core.Path.{_≡_}
-use mathlib.Core.Bool.{Bool, true, false}
+use mathlib.Core.Bool.{Bool, true}
 use mathlib.Core.List.{List}
 use Rattle.word.specs.declared.types.Direction.{Direction}
 use Rattle.word.specs.declared.types.Direction.the-variants.{Ascending, Descending}
@@ -10,14 +10,9 @@ use Rattle.word.specs.declared.types.Pointer.{Pointer}
 use Rattle.word.specs.Choice.{if_then_else_}
 use Rattle.word.specs.Pointer.{pointerEnd}
 use Rattle.word.specs.Round.{isBelow, farBelow}
-use Rattle.word.specs.Control.{line}
 use Rattle.word.specs.Size.{height}
-use Rattle.file.specs.File.{con1}
 use Rattle.line.specs.Setup.{lineSetup}
-use Rattle.line.specs.Dot.{firstDot}
 use Rattle.refusal.specs.declared.types.AreaPlan.{AreaPlan}
-use Rattle.refusal.specs.Plan.{areaPlan}
-use Rattle.round.specs.Round.{goesRound}
 
 -- half of a modulo as a plain number: so many words on, so many back; one of the two is nought
 abbrev pub wordsOn : (modulo : ℕ) → ℕ
@@ -61,14 +56,3 @@ pub record PlainArea (by : AreaPlan) : Type 0 where
 -- of a line the farthest that its dots may come: a row and a word each
 abbrev pub farthestDot : (file : List ℕ) → (size : ℕ) → ℕ
 farthestDot file size = height size * (wordsOn (lineSetup file .row) + wordsBack (lineSetup file .row) + 1)
-
-pub record WhenItIsSafe : Type 0 where
-  pub area : (file : List ℕ) (size : ℕ)
-      → line (con1 file) ≡ false
-      → PlainArea (areaPlan file size)
-      → goesRound file size ≡ false
-  pub line : (file : List ℕ) (size : ℕ)
-      → line (con1 file) ≡ true
-      → farthestDot file size ≤ firstDot file .spot .at .word
-      → firstDot file .spot .at .word + farthestDot file size < pointerEnd
-      → goesRound file size ≡ false

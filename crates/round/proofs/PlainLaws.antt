@@ -10,6 +10,7 @@ use Rattle.word.specs.Round.{plusRound, minusRound, passedRound}
 use Rattle.word.specs.Control.{line}
 use Rattle.word.proofs.PointerLaws.{nextRow-lt, nextRow-of-moves}
 use Rattle.file.specs.File.{con1}
+use Rattle.line.specs.Dot.{firstDot}
 use Rattle.line.specs.Inner.Walk.{dotOf, markOf}
 use Rattle.refusal.specs.declared.types.AreaPlan.{AreaPlan}
 use Rattle.refusal.specs.declared.types.LinePlan.{LinePlan}
@@ -20,8 +21,7 @@ use Rattle.round.specs.Line.{lineMoves, lineRound}
 use Rattle.round.specs.Round.{goesRound}
 use Rattle.round.specs.Inner.Ranges.{ChannelRange, AreaRange, LineRange}
 use Rattle.round.specs.Inner.Reach.{rise, reach}
-use Rattle.round.specs.WhenItIsSafe.{wordsOn, wordsBack, Lies, LiesWithNext, Follows, PlainRows, PlainChannel, PlainArea}
-use Rattle.round.specs.WhenItIsSafe as statements
+use Rattle.round.specs.Plain.{wordsOn, wordsBack, Lies, LiesWithNext, Follows, PlainRows, PlainChannel, PlainArea, farthestDot}
 use Rattle.round.proofs.ChannelLaws.{endRound, wentRound-of-last, wentRound-of-rows}
 use Rattle.round.proofs.AreaLaws.{areaRound-of-none}
 use Rattle.round.proofs.FewLaws.{passedRound-is-far}
@@ -163,10 +163,14 @@ line-of-dots by range low high = sym (lineMoves-of-mark (by .line) (by .dots) (b
         let small = range .start in
         sym (line-stays (by .line) more (markOf (by .first)) (omega (arith, far)) (omega (arith, far)))
 
-pub when-it-is-safe : statements.WhenItIsSafe
+-- so neither goes round
+pub goesRound-when-plain : (file : List ℕ) (size : ℕ) → line (con1 file) ≡ false → PlainArea (areaPlan file size) → goesRound file size ≡ false
 unfolding goesRound
-when-it-is-safe =
-    record {
-      area = λ file size area plain. rw area (area-stays (areaPlan file size) (area-in-range file size (areaPlan file size) refl) plain);
-      line = λ file size lined low high. rw lined (line-of-dots (linePlan file size) (line-in-range file size (linePlan file size) refl) low high);
-    }
+goesRound-when-plain file size area plain =
+    rw area (area-stays (areaPlan file size) (area-in-range file size (areaPlan file size) refl) plain)
+
+pub goesRound-when-far : (file : List ℕ) (size : ℕ) → line (con1 file) ≡ true → farthestDot file size ≤ firstDot file .spot .at .word
+    → firstDot file .spot .at .word + farthestDot file size < pointerEnd → goesRound file size ≡ false
+unfolding goesRound
+goesRound-when-far file size lined low high =
+    rw lined (line-of-dots (linePlan file size) (line-in-range file size (linePlan file size) refl) low high)

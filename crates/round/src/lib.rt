@@ -16,26 +16,23 @@ fn all_clear(by: AreaPlan) -> bool
     ensures { λ told. ⌜ (told ≡ true → areaRound by ≡ false) ⌝ }
 {
     let setup = by.setup;
-    let pointers = by.pointers;
-    let uses = setup.uses;
-    let modulos = setup.modulos;
-    let direction = setup.direction;
+    let way = setup.direction;
     let width = by.width as u32;
-    let height = by.height as u32;
-    let a = pointers.a;
-    let b = pointers.b;
-    let c = pointers.c;
-    let d = pointers.d;
-    if !crate::channel::channel_clear(direction, uses.a, width, modulos.a, height, a) {
+    let rows = by.height as u32;
+    let a = by.pointers.a;
+    if !crate::channel::channel_clear(way, setup.uses.a, width, setup.modulos.a, rows, a) {
         return false;
     }
-    if !crate::channel::channel_clear(direction, uses.b, width, modulos.b, height, b) {
+    let b = by.pointers.b;
+    if !crate::channel::channel_clear(way, setup.uses.b, width, setup.modulos.b, rows, b) {
         return false;
     }
-    if !crate::channel::channel_clear(direction, uses.c, width, modulos.c, height, c) {
+    let c = by.pointers.c;
+    if !crate::channel::channel_clear(way, setup.uses.c, width, setup.modulos.c, rows, c) {
         return false;
     }
-    crate::channel::channel_clear(direction, uses.d, width, modulos.d, height, d)
+    let d = by.pointers.d;
+    crate::channel::channel_clear(way, setup.uses.d, width, setup.modulos.d, rows, d)
 }
 
 // Every channel row by row, A to D; for a blit of a few words that is quick enough.
@@ -44,26 +41,23 @@ pub fn area_by_rows(by: AreaPlan) -> bool
     ensures { λ told. ⌜ told ≡ areaRound by ⌝ }
 {
     let setup = by.setup;
-    let pointers = by.pointers;
-    let uses = setup.uses;
-    let modulos = setup.modulos;
-    let direction = setup.direction;
+    let way = setup.direction;
     let width = by.width as u32;
-    let height = by.height as u32;
-    let a = pointers.a;
-    let b = pointers.b;
-    let c = pointers.c;
-    let d = pointers.d;
-    if crate::channel::channel_round(direction, uses.a, width, modulos.a, height, a) {
+    let rows = by.height as u32;
+    let a = by.pointers.a;
+    if crate::channel::channel_round(way, setup.uses.a, width, setup.modulos.a, rows, a) {
         return true;
     }
-    if crate::channel::channel_round(direction, uses.b, width, modulos.b, height, b) {
+    let b = by.pointers.b;
+    if crate::channel::channel_round(way, setup.uses.b, width, setup.modulos.b, rows, b) {
         return true;
     }
-    if crate::channel::channel_round(direction, uses.c, width, modulos.c, height, c) {
+    let c = by.pointers.c;
+    if crate::channel::channel_round(way, setup.uses.c, width, setup.modulos.c, rows, c) {
         return true;
     }
-    crate::channel::channel_round(direction, uses.d, width, modulos.d, height, d)
+    let d = by.pointers.d;
+    crate::channel::channel_round(way, setup.uses.d, width, setup.modulos.d, rows, d)
 }
 
 // The channels of an area blit: nearly always the quick look tells. One place calls it, so that it is put there whole.

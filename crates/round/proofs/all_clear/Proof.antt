@@ -7,9 +7,9 @@ use Rattle.round.proofs.all_clear.Tie as tie
 
 returns-4 : tie.Need-returns-4
 returns-4 c = λ holds.
-    let third = c .before in
-    let second = third .before .before in
-    let first = second .before .before in
+    let third = c .before .before in
+    let second = third .before .before .before in
+    let first = second .before .before .before in
     areaRound-of-none _
     (first .before .channel-clear .ensures (not-false _ (first .if1 .left)))
     (second .before .channel-clear2 .ensures (not-false _ (second .if2 .left)))

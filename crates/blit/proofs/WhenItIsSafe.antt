@@ -1,5 +1,5 @@
 -- A blit that is done says what its moves say, and one that is refused says no.
-use Rattle.word.proofs.Base.{_≡_, refl, _∙_, ℕ, false, List, length}
+use Rattle.word.proofs.Base.{_≡_, refl, ℕ, false, List, length}
 use Rattle.refusal.specs.Refusal.{refusal}
 use Rattle.round.specs.Round.{goesRound}
 use Rattle.round.proofs.PlainLaws.{goesRound-when-plain, goesRound-when-far}

@@ -1,5 +1,5 @@
 -- Laws of an area blit that goes round: its channels, one after the other.
-use Rattle.word.proofs.Base.{_≡_, sym, ap, _∙_, ℕ, Bool, true, false, _&&_, _||_}
+use Rattle.word.proofs.Base.{_≡_, sym, ap, _∙_, ℕ, Bool, true, false}
 use Rattle.word.specs.declared.types.Direction.{Direction}
 use Rattle.word.specs.declared.types.Pointer.{Pointer}
 use Rattle.word.specs.declared.types.Uses.{Uses}

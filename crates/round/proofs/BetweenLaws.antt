@@ -1,5 +1,5 @@
 -- Laws of the moves between accesses: where more accesses follow, all moves count.
-use Rattle.word.proofs.Base.{_≡_, refl, sym, ap, _∙_, Bool, false, _||_, List, [], _∷_, _++_}
+use Rattle.word.proofs.Base.{_≡_, refl, sym, ap, _∙_, Bool, _||_, List, [], _∷_, _++_}
 use mathlib.Core.Bool.{or-assoc}
 use Rattle.word.specs.declared.types.Move.{Move}
 use Rattle.round.specs.Between.{between, anyRound, wentRound}

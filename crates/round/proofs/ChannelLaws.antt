@@ -1,19 +1,19 @@
 -- Laws of a channel's moves: a row tells, or the rest does.
-use Rattle.word.proofs.Base.{_≡_, refl, sym, ap, ap₂, _∙_, ℕ, zero, suc, _-_, _<_, _≤_, sub-one, arith, Bool, true, false, _&&_, _||_, not}
-use Rattle.word.proofs.Base.{List, [], _++_, not-true, not-false}
+use Rattle.word.proofs.Base.{_≡_, refl, sym, ap, ap₂, _∙_, ℕ, zero, suc, _-_, _<_, _≤_, sub-one, arith, Bool, true, false, _||_, not}
+use Rattle.word.proofs.Base.{List, _++_, not-true, not-false}
 use mathlib.Core.List.{append-nil}
 use Rattle.word.specs.declared.types.Direction.{Direction}
 use Rattle.word.specs.declared.types.Pointer.{Pointer}
 use Rattle.word.specs.declared.types.Move.{Move}
-use Rattle.word.specs.Pointer.{pointerEnd, downward, passed, nextRow}
+use Rattle.word.specs.Pointer.{pointerEnd, passed, nextRow}
 use Rattle.word.specs.Round.{passedRound, moduloMove}
 use Rattle.word.proofs.ChoiceLaws.{and-none}
 use Rattle.word.proofs.PointerLaws.{passed-lt, nextRow-of-moves}
 use Rattle.line.proofs.WalkLaws.{or-true}
 use Rattle.round.specs.Between.{anyRound, wentRound}
 use Rattle.round.specs.Channel.{rowMoves, channelMoves, channelRound}
-use Rattle.round.proofs.BetweenLaws.{flat, Some, some-of-append, wentRound-of-append}
-use Rattle.round.proofs.RowLaws.{some-of-row, wentRound-of-row, anyRound-of-row}
+use Rattle.round.proofs.BetweenLaws.{flat, Some, wentRound-of-append}
+use Rattle.round.proofs.RowLaws.{wentRound-of-row, anyRound-of-row}
 
 module _ (direction : Direction) (width modulo : ℕ) (some : 1 ≤ width) (narrow : width ≤ 64) where
   -- the moves at a row's end: its steps, and the modulo

@@ -1,5 +1,5 @@
 -- Laws of a channel that keeps clear of the ends: where the first and the last row do, so do all moves between.
-use Rattle.word.proofs.Base.{_≡_, refl, sym, ap, ap₂, _∙_, ℕ, zero, suc, _+_, _-_, _*_, _%_, _<_, _≤_, sub-one, mod-eq-of-lt, arith, Bool, true, false, _&&_, _||_}
+use Rattle.word.proofs.Base.{_≡_, refl, sym, ap, ap₂, _∙_, ℕ, zero, suc, _+_, _-_, _*_, _%_, _<_, _≤_, sub-one, mod-eq-of-lt, arith, true, false, _&&_, _||_}
 use Rattle.word.proofs.Base.{leb, ltb, lt-leb, le-leb, le-ltb, ltb-true, leb-true}
 use Rattle.word.specs.declared.types.Direction.{Direction}
 use Rattle.word.specs.declared.types.Direction.the-variants.{Ascending, Descending}

@@ -1,6 +1,6 @@
 -- Laws of a dot's moves, told by its pixel: each goes round where its pixel passes an end of all pixels.
-use Rattle.word.proofs.Base.{_≡_, refl, sym, ap, ap₂, _∙_, ℕ, zero, suc, _+_, _-_, _*_, _/_, _%_, _<_, _≤_, mod-eq-of-lt, decLt, arith, Bool, true, false, _&&_, _||_}
-use Rattle.word.proofs.Base.{eqb, leb, ltb, eqb-true, eqb-false, le-leb, lt-leb, lt-ltb, le-ltb, List, [], _∷_, _++_}
+use Rattle.word.proofs.Base.{_≡_, refl, sym, ap, _∙_, ℕ, _+_, _-_, _*_, _/_, _%_, _<_, mod-eq-of-lt, decLt, arith, Bool, true, false, _||_}
+use Rattle.word.proofs.Base.{eqb, leb, ltb, eqb-true, eqb-false, lt-leb, lt-ltb, le-ltb, [], _∷_}
 use native.Mathlib.Nat.{div-add-mod'}
 use mathlib.Core.Bool.{or-false}
 use Rattle.word.specs.declared.types.Move.{Move}

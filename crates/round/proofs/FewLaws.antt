@@ -1,5 +1,5 @@
 -- Laws of a few words' move: it goes round where one of its steps does, and the directions mirror each other.
-use Rattle.word.proofs.Base.{_≡_, refl, sym, ap, ap₂, _∙_, ℕ, zero, suc, _+_, _-_, _%_, _<_, _≤_, mod-lt, mod-eq-of-lt, decLt, arith, Bool, true, false, _||_}
+use Rattle.word.proofs.Base.{_≡_, refl, sym, ap, ap₂, _∙_, ℕ, suc, _+_, _-_, _%_, _<_, mod-lt, mod-eq-of-lt, decLt, arith, Bool, false, _||_}
 use Rattle.word.proofs.Base.{leb, ltb, le-leb, lt-leb, lt-ltb, le-ltb}
 use Rattle.word.specs.declared.types.Direction.{Direction}
 use Rattle.word.specs.declared.types.Direction.the-variants.{Ascending, Descending}

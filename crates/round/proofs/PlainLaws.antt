@@ -1,5 +1,5 @@
 -- Rows that lie in memory, counted plainly, are the rows that the pointer's own moves lead to, and none of these goes round.
-use Rattle.word.proofs.Base.{_≡_, refl, sym, ap, ap₂, _∙_, ℕ, zero, suc, _+_, _-_, _*_, _%_, _<_, _≤_, add-zero, add-one, mod-lt, arith, Bool, true, false, _&&_, _||_}
+use Rattle.word.proofs.Base.{_≡_, refl, sym, ap, ap₂, _∙_, ℕ, zero, suc, _+_, _-_, _*_, _%_, _<_, _≤_, mod-lt, arith, Bool, true, false, _||_}
 use Rattle.word.proofs.Base.{leb, ltb, lt-leb, le-ltb, List}
 use Rattle.word.specs.declared.types.Direction.{Direction}
 use Rattle.word.specs.declared.types.Direction.the-variants.{Ascending, Descending}
@@ -16,12 +16,12 @@ use Rattle.refusal.specs.declared.types.AreaPlan.{AreaPlan}
 use Rattle.refusal.specs.declared.types.LinePlan.{LinePlan}
 use Rattle.refusal.specs.Plan.{areaPlan, linePlan}
 use Rattle.round.specs.Between.{wentRound}
-use Rattle.round.specs.Channel.{channelMoves, channelRound, runsRound, areaRound}
+use Rattle.round.specs.Channel.{channelMoves, channelRound, areaRound}
 use Rattle.round.specs.Line.{lineMoves, lineRound}
 use Rattle.round.specs.Round.{goesRound}
 use Rattle.round.specs.Inner.Ranges.{ChannelRange, AreaRange, LineRange}
 use Rattle.round.specs.Inner.Reach.{rise, reach}
-use Rattle.round.specs.Plain.{wordsOn, wordsBack, Lies, LiesWithNext, Follows, PlainRows, PlainChannel, PlainArea, farthestDot}
+use Rattle.round.specs.Plain.{wordsOn, wordsBack, Lies, LiesWithNext, Follows, PlainRows, PlainArea, farthestDot}
 use Rattle.round.proofs.ChannelLaws.{endRound, wentRound-of-last, wentRound-of-rows}
 use Rattle.round.proofs.AreaLaws.{areaRound-of-none}
 use Rattle.round.proofs.FewLaws.{passedRound-is-far}

@@ -1,9 +1,8 @@
 -- Laws of a row's moves: its steps are one move of so many words, and the modulo is one more.
-use Rattle.word.proofs.Base.{_≡_, refl, sym, ap, ap₂, _∙_, ℕ, zero, suc, _<_, _≤_, arith, Bool, true, false, _||_, List, [], _∷_}
+use Rattle.word.proofs.Base.{_≡_, sym, ap, ap₂, _∙_, ℕ, zero, suc, _<_, arith, Bool, _||_, [], _∷_}
 use mathlib.Core.Bool.{or-assoc, or-false}
 use Rattle.word.specs.declared.types.Direction.{Direction}
 use Rattle.word.specs.declared.types.Pointer.{Pointer}
-use Rattle.word.specs.declared.types.Move.{Move}
 use Rattle.word.specs.Pointer.{pointerEnd, downward, moved, passed}
 use Rattle.word.specs.Round.{movedRound, passedRound, wordMove}
 use Rattle.word.proofs.PointerLaws.{moved-lt}

@@ -1,7 +1,7 @@
 // A channel of an area blit, row by row; at once where its first and last row tell.
 ghost use mathlib.Core.Path.{_≡_};
 ghost use mathlib.Core.Bool.{true, false};
-ghost use Prim.Native.Nat.{_<_, _≤_};
+ghost use Prim.Native.Nat.{_<_};
 ghost use Rattle.word.specs.Pointer.{pointerEnd};
 ghost use Rattle.round.specs.Between.{wentRound};
 ghost use Rattle.round.specs.Channel.{channelMoves, channelRound};

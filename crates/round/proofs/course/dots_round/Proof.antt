@@ -1,6 +1,6 @@
 -- `round::course::dots_round` meets its contract: the dots that remain tell what all tell.
 use Rattle.word.proofs.Base.{_≡_, _<_, _≤_, needs}
-use Rattle.line.specs.Inner.Walk.{pixelEnd, dotOf, steps}
+use Rattle.line.specs.Inner.Walk.{pixelEnd, dotOf}
 use Rattle.round.specs.Between.{wentRound}
 use Rattle.round.specs.Line.{lineMoves}
 use Rattle.round.proofs.LineLaws.{dots-when-round, dots-turn, dots-done, walked-lt}

@@ -1,4 +1,6 @@
 // The test before a blit by blocks: how many rows at a time may be fetched before any of them is stored.
+#![tactic(auto)]
+
 mod calm;
 mod span;
 pub mod types;

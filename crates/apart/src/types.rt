@@ -1,7 +1,7 @@
 // The types that the test before blocks speaks of.
 
 // How far above a row's start the next one's is, for each channel.
-#[derive(Drop)]
+#[derive(Clone, Copy)]
 pub struct Strides {
     pub a: usize,
     pub b: usize,
@@ -10,7 +10,7 @@ pub struct Strides {
 }
 
 // Whether all a channel's rows lie inside memory and none goes round; its lowest and its highest word.
-#[derive(Drop)]
+#[derive(Clone, Copy)]
 pub struct Span {
     pub fine: bool,
     pub low: usize,

@@ -12,7 +12,7 @@ use Rattle.area.specs.declared.types.Earlier.{Earlier}
 use Rattle.area.specs.declared.types.Flow.{Flow}
 use Rattle.area.specs.Flow.{State, state, nothing}
 use Rattle.area.specs.Fetch.{fetched, fetch}
-use Rattle.area.specs.Finish.{masked_a, result, final, finish}
+use Rattle.area.specs.Finish.{masked_a, result_word, final, finish}
 use Rattle.area.specs.Store.{wait, memory_with, count_with, store_pending}
 use Rattle.area.specs.Move.{move_on, row_end}
 use Rattle.area.specs.Rows.{finished_word, stored_before, one_word, words, row_start, one_row}
@@ -37,7 +37,7 @@ fetched-early false waits place word memory pointer source clear = refl
 -- the word that waits, stored before the next is fetched
 one_word-early : (setup : Setup) (width remaining : ℕ) (now : State) → Clear setup.uses now.flow.pending now.flow.pointers
     → one_word setup width remaining (store_pending now) ≡ one_word setup width remaining now
-unfolding one_word stored_before store_pending finished_word wait move_on finish final result masked_a fetch memory_with count_with
+unfolding one_word stored_before store_pending finished_word wait move_on finish final result_word masked_a fetch memory_with count_with
 one_word-early setup width remaining now clear =
     let pending : Pending = now.flow.pending in
     rw (

@@ -11,7 +11,7 @@ use Rattle.area.specs.declared.types.Finished.{Finished}
 use Rattle.area.specs.Flow.{State, state}
 use Rattle.area.specs.With.{with_pointers, with_carry}
 use Rattle.area.specs.Fetch.{fetch}
-use Rattle.area.specs.Finish.{masked_a, result, final, finish}
+use Rattle.area.specs.Finish.{masked_a, result_word, final, finish}
 use Rattle.area.specs.Store.{wait, store_pending}
 use Rattle.area.specs.Move.{stepped, move_on, row_end}
 use Rattle.area.specs.Rows.{finished_word, stored_before, one_word, words, row_start, one_row, rows, area_blit}
@@ -51,7 +51,7 @@ pub one_word-of-parts : (setup : Setup) (width remaining : ℕ) (memory after : 
     })
     waiting
     → state after end ≡ one_word setup width remaining (state memory flow)
-unfolding one_word stored_before store_pending finished_word wait move_on finish final result masked_a fetch
+unfolding one_word stored_before store_pending finished_word wait move_on finish final result_word masked_a fetch
 one_word-of-parts setup width remaining memory after flow fetched stored waiting end made fetches finishes stores waits moves =
     let memory-is : after ≡ (store_pending (state memory made.flow)).memory = ap (λ (now : State). now.memory) stores in
     let flow-is : stored ≡ (store_pending (state memory made.flow)).flow = ap (λ (now : State). now.flow) stores in

@@ -10,7 +10,7 @@ use Rattle.area.specs.declared.types.Flow.{Flow}
 use Rattle.area.specs.declared.types.Setup.{Setup}
 use Rattle.area.specs.Flow.{State}
 use Rattle.area.specs.Fetch.{fetched, fetch}
-use Rattle.area.specs.Finish.{result, final, finish}
+use Rattle.area.specs.Finish.{result_word, final, finish}
 use Rattle.area.specs.Store.{wait, memory_with, store_pending}
 use Rattle.area.specs.Move.{move_on, row_end}
 use Rattle.area.specs.Rows.{finished_word, stored_before, one_word, words, row_start, one_row, rows, area_blit}
@@ -30,7 +30,7 @@ fetched-lt true memory pointer source all small = all pointer.word
 fetched-lt false memory pointer source all small = small
 
 final-lt : (setup : Setup) (first last : Bool) (flow : Flow) → (final setup first last flow).word < 65536
-unfolding final result
+unfolding final result_word
 final-lt setup first last flow = filled-lt setup.fill flow.carry _ (logic-lt setup.function _ _ _)
 
 memory_with-bounded : (waits : Bool) (place word : ℕ) (memory : List ℕ) → SixteenBits memory → word < 65536

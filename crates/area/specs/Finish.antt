@@ -15,8 +15,8 @@ unfoldable pub masked_a : Setup → (first last : Bool) → Flow → ℕ
 masked_a setup first last flow = masked first last setup.masks.first setup.masks.last flow.sources.a
 
 -- "Shift of A, after the mask, and of B .. C isn't shifted." The logic function joins the three.
-unfoldable pub result : Setup → (masked : ℕ) → Flow → ℕ
-result setup masked flow =
+unfoldable pub result_word : Setup → (masked : ℕ) → Flow → ℕ
+result_word setup masked flow =
     logic setup.function
     (shifted setup.direction setup.shifts.a flow.earlier.a masked)
     (shifted setup.direction setup.shifts.b flow.earlier.b flow.sources.b)
@@ -24,7 +24,7 @@ result setup masked flow =
 
 -- "Fill runs .. from bit 0 of the first word to bit 15 of the last": the carry comes from the word before
 unfoldable pub final : Setup → (first last : Bool) → Flow → Filled
-final setup first last flow = filled setup.fill flow.carry (result setup (masked_a setup first last flow) flow)
+final setup first last flow = filled setup.fill flow.carry (result_word setup (masked_a setup first last flow) flow)
 
 -- this word is the next one's earlier word; "every final word was zero, D used or not"
 unfoldable pub finish : Setup → (first last : Bool) → Flow → Finished

@@ -8,7 +8,7 @@ use crate::types::{Earlier, Flow, Pointers, Sources};
 use word::types::{Direction, Pointer, Uses};
 
 // What a source gives, and its pointer moved on.
-#[derive(Drop)]
+#[derive(Clone, Copy)]
 pub struct Source {
     pub word: u16,
     pub pointer: Pointer,

@@ -1,11 +1,11 @@
 // A word finished from its sources: masked, shifted, joined by the logic function, filled.
 ghost use Rattle.std.specs.Prelude.{◌≡◌, ◌<◌};
-ghost use Rattle.area.specs.Finish.{masked_a, result, finish};
+ghost use Rattle.area.specs.Finish.{masked_a, result_word, finish};
 
 use crate::types::{Earlier, Finished, Flow, Setup};
 
 pub fn masked_a(setup: Setup, first: bool, last: bool, flow: Flow) -> u16
-    ensures* { λ word. ⌜ word ≡ masked_a setup first last flow ⌝ }
+    ensures { result ≡ masked_a setup first last flow }
 {
     word::mask::masked(
         first,
@@ -18,7 +18,7 @@ pub fn masked_a(setup: Setup, first: bool, last: bool, flow: Flow) -> u16
 
 pub fn result(setup: Setup, masked: u16, flow: Flow) -> u16
     requires { (setup.shifts.a < 16) × (setup.shifts.b < 16) }
-    ensures* { λ word. ⌜ word ≡ result setup masked flow ⌝ }
+    ensures { result ≡ result_word setup masked flow }
 {
     let direction = setup.direction;
     let a = word::shift::shifted(direction, setup.shifts.a, flow.earlier.a, masked);
@@ -28,7 +28,7 @@ pub fn result(setup: Setup, masked: u16, flow: Flow) -> u16
 
 pub fn finish(setup: Setup, first: bool, last: bool, flow: Flow) -> Finished
     requires { (setup.shifts.a < 16) × (setup.shifts.b < 16) }
-    ensures* { λ made. ⌜ made ≡ finish setup first last flow ⌝ }
+    ensures { result ≡ finish setup first last flow }
 {
     let fill = setup.fill;
     let pointers = flow.pointers;

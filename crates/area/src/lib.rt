@@ -1,4 +1,6 @@
 // The parts of an area blit: set-up and flow; the fetches, the result, the store and the moves of one word; a row's start.
+#![tactic(auto)]
+
 pub mod fetch;
 pub mod finish;
 pub mod flow;

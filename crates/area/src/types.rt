@@ -2,7 +2,7 @@
 use word::types::{Direction, Fill, Pointer, Uses};
 
 // Half of each channel's modulo, in words modulo 262,144.
-#[derive(Drop)]
+#[derive(Clone, Copy)]
 pub struct Modulos {
     pub a: u32,
     pub b: u32,
@@ -11,21 +11,21 @@ pub struct Modulos {
 }
 
 // BLTAFWM and BLTALWM.
-#[derive(Drop)]
+#[derive(Clone, Copy)]
 pub struct Masks {
     pub first: u16,
     pub last: u16,
 }
 
 // The shift of A and of B.
-#[derive(Drop)]
+#[derive(Clone, Copy)]
 pub struct Shifts {
     pub a: u32,
     pub b: u32,
 }
 
 // What a blit doesn't change. The carry is the fill carry in.
-#[derive(Drop)]
+#[derive(Clone, Copy)]
 pub struct Setup {
     pub uses: Uses,
     pub modulos: Modulos,
@@ -38,7 +38,7 @@ pub struct Setup {
 }
 
 // The pointer of each channel.
-#[derive(Drop)]
+#[derive(Clone, Copy)]
 pub struct Pointers {
     pub a: Pointer,
     pub b: Pointer,
@@ -47,7 +47,7 @@ pub struct Pointers {
 }
 
 // What each source gives: the data register, which holds the last word fetched.
-#[derive(Drop)]
+#[derive(Clone, Copy)]
 pub struct Sources {
     pub a: u16,
     pub b: u16,
@@ -56,14 +56,14 @@ pub struct Sources {
 
 // The earlier word of A, as masked, and of B. A flow made of another copies them one by one, so that each has a register
 // of its own.
-#[derive(Drop)]
+#[derive(Clone, Copy)]
 pub struct Earlier {
     pub a: u16,
     pub b: u16,
 }
 
 // The final word that waits to be stored, and the place it is for. Nothing is pending where none waits.
-#[derive(Drop)]
+#[derive(Clone, Copy)]
 pub struct Pending {
     pub waits: bool,
     pub place: u32,
@@ -71,7 +71,7 @@ pub struct Pending {
 }
 
 // What a blit changes as it goes, memory aside. The carry is the fill's.
-#[derive(Drop)]
+#[derive(Clone, Copy)]
 pub struct Flow {
     pub pointers: Pointers,
     pub sources: Sources,
@@ -83,7 +83,7 @@ pub struct Flow {
 }
 
 // A finished word, and the flow after it.
-#[derive(Drop)]
+#[derive(Clone, Copy)]
 pub struct Finished {
     pub word: u16,
     pub flow: Flow,

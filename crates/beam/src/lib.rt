@@ -1,4 +1,6 @@
 // The beam of one frame: its places, where a comparison is satisfied, and where a WAIT takes it.
+#![tactic(auto)]
+
 ghost use Rattle.std.specs.Prelude.{◌≡◌, false, ◌-◌, ◌<◌, ◌≤◌};
 ghost use Rattle.beam.specs.Beam.{frame_end, line};
 ghost use Rattle.beam.specs.Satisfied.{mask, compared, satisfied};

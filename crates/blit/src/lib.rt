@@ -1,4 +1,6 @@
 // The blit, an area's or a line's: refused, or done and the register file written back.
+#![tactic(auto)]
+
 pub mod answer;
 mod done;
 mod registers;

@@ -1,5 +1,6 @@
 // The manual's Figure 6-4, a cookie cut: B shows where the mask lets it, C elsewhere. Memory before and after, in dots
 // and hashes.
+#![tactic(auto)]
 
 // Three rows of two words from a place on.
 fn picture(ram: &[u16], from: u32) {

@@ -1,5 +1,6 @@
 // The manual's vectors, and blits with D over a source, run through the blit on memory and printed; the file stdout
 // beside src/ holds what the manual says, and paper 02 of the order of fetches and stores.
+#![tactic(auto)]
 
 // A register file with masks of all ones and the pointers' low halves.
 fn registers(con0: u16, con1: u16, a: u16, b: u16, c: u16, d: u16) -> [u16; file::WORDS] {

@@ -1,5 +1,7 @@
 // A block: whole rows of words in local arrays, at most 64 words in all, fetched, masked, shifted, mixed, filled and
 // stored by loops that do one thing to every word.
+#![tactic(auto)]
+
 pub mod fetch;
 pub mod fill;
 pub mod level;

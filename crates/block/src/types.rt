@@ -4,21 +4,21 @@
 pub type Words = [u16; 80];
 
 // How many words a row has, and how many rows there are.
-#[derive(Drop)]
+#[derive(Clone, Copy)]
 pub struct Size {
     pub width: usize,
     pub height: usize,
 }
 
 // Where a channel's rows lie: the first word of the first, and how far above a row's start the next one's is.
-#[derive(Drop)]
+#[derive(Clone, Copy)]
 pub struct Course {
     pub from: usize,
     pub far: usize,
 }
 
 // Whether a function depends on each source.
-#[derive(Drop)]
+#[derive(Clone, Copy)]
 pub struct Needs {
     pub a: bool,
     pub b: bool,
@@ -27,7 +27,7 @@ pub struct Needs {
 
 // A logic function as a sum without carries: what stands where no source has a 1, and what each product of sources turns
 // over.
-#[derive(Drop)]
+#[derive(Clone, Copy)]
 pub struct Terms {
     pub none: u16,
     pub c: u16,

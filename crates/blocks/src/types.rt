@@ -4,7 +4,7 @@ use block::types::{Course, Size};
 
 // A source: whether it is used, whether the function needs it, where its rows lie, the word that it gives at rest, and how
 // many words and rows they are as they lie.
-#[derive(Drop)]
+#[derive(Clone, Copy)]
 pub struct Source {
     pub used: bool,
     pub need: bool,
@@ -15,7 +15,7 @@ pub struct Source {
 
 // A block's words made: its last words, as fetched and as shifted, the last carry, and whether all words up to here were
 // nought.
-#[derive(Drop)]
+#[derive(Clone, Copy)]
 pub struct Made {
     pub sources: Sources,
     pub earlier: Earlier,

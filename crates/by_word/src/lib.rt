@@ -1,4 +1,6 @@
 // An area blit word by word, each word stored after the next one's fetches.
+#![tactic(auto)]
+
 pub mod smear;
 pub mod types;
 

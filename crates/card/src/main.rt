@@ -1,5 +1,7 @@
 // The bench card: reads a card from standard input and prints what it asks for.
 // A good card has at most 210 bytes, so that more than 256 are never read (`FirstBytesDecide`).
+#![tactic(auto)]
+
 ghost use Rattle.std.specs.Prelude.{◌≡◌, length};
 
 use libc::{STDIN_FILENO, STDOUT_FILENO};

@@ -1,4 +1,6 @@
 // What is proved of the card's definitions; each function has its theorem as its contract, and does nothing.
+#![tactic(auto)]
+
 ghost use Rattle.card_facts.specs.KeysAreRegisters.{KeysAreRegisters};
 ghost use Rattle.card_facts.specs.FirstBytesDecide.{FirstBytesDecide};
 ghost use Rattle.card_facts.specs.TextFits.{TextFits};

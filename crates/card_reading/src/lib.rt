@@ -1,4 +1,6 @@
 // A card's text read: its lines, and the job that a good card asks for.
+#![tactic(auto)]
+
 pub mod lines;
 mod text;
 pub mod types;

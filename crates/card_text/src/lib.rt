@@ -1,4 +1,6 @@
 // The bench card on lent bytes: its text read, its job run, and what that gives and leaves printed.
+#![tactic(auto)]
+
 mod printing;
 mod start;
 

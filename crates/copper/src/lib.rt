@@ -1,4 +1,6 @@
 // The Copper: a list run for one frame over lent memory and a lent register file, by the contract of one instruction.
+#![tactic(auto)]
+
 pub mod answer;
 mod onward;
 pub mod types;

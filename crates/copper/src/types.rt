@@ -2,7 +2,7 @@
 use instruction::types::Refusal;
 
 // Why a frame stopped. Memory and register file are refused by the blit's own reasons.
-#[derive(Drop)]
+#[derive(Clone, Copy)]
 pub enum Why {
     EndOfFrame,
     UsedUp,
@@ -11,7 +11,7 @@ pub enum Why {
 
 // What a frame answers: why it stopped, how many instructions were done, the word of the next or the refused one, and
 // the beam's place.
-#[derive(Drop)]
+#[derive(Clone, Copy)]
 pub struct Answer {
     pub why: Why,
     pub done: u32,

@@ -1,4 +1,6 @@
 // What is proved of the Copper's definitions; each function has its theorem as its contract, and does nothing.
+#![tactic(auto)]
+
 ghost use Rattle.copper_facts.specs.BeamGoesForward.{BeamGoesForward};
 ghost use Rattle.copper_facts.specs.EveryFrameEnds.{EveryFrameEnds};
 ghost use Rattle.copper_facts.specs.AcceptedAgain.{AcceptedAgain};

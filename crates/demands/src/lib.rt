@@ -1,4 +1,6 @@
 // What is demanded of a folding, of a line, and of COPCON and the colours; each function has its theorem as its contract, and does nothing.
+#![tactic(auto)]
+
 ghost use Rattle.demands.specs.DemandThree.{DemandThree};
 ghost use Rattle.demands.specs.SettledAreReplaced.{SettledAreReplaced};
 ghost use Rattle.demands.specs.ALineIsNeverSettled.{ALineIsNeverSettled};

@@ -1,5 +1,7 @@
 // The entries that a C program calls; include/desk.h declares them. A slice is two arguments there, its address and its
 // count of words; results are written into lent numbers. Each gives and leaves what the call below it does.
+#![tactic(auto)]
+
 ghost use Rattle.std.specs.Prelude.{◌≡◌};
 ghost use Rattle.blit.specs.Blit.{blit};
 ghost use Rattle.runner.specs.Run.{run};

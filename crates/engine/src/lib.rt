@@ -1,4 +1,6 @@
 // An area blit: by blocks of rows where no source meets what D stored, else word by word.
+#![tactic(auto)]
+
 ghost use Rattle.std.specs.Prelude.{◌≡◌, true, ◌+◌, ◌*◌, ◌<◌, ◌≤◌};
 ghost use Rattle.word.specs.Pointer.{pointer_end};
 ghost use Rattle.area.specs.Flow.{state, nothing};

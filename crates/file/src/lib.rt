@@ -1,4 +1,6 @@
 // The register file: where each register stands, and which of its bits are kept.
+#![tactic(auto)]
+
 ghost use Rattle.std.specs.Prelude.{◌≡◌, ◌+◌, ◌<◌, ◌≤◌, length, get_or};
 ghost use Rattle.word.specs.Choice.{every};
 ghost use Rattle.file.specs.Places.{file_length, colour_count, colour0};

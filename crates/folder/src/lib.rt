@@ -1,4 +1,6 @@
 // The folder: blits whose outcome the job alone settles become stores, and all else is copied.
+#![tactic(auto)]
+
 pub mod answer;
 pub mod theorems;
 pub mod types;

@@ -3,7 +3,7 @@ use knowledge::types::Knowledge;
 
 // Why a folding is refused, in the order of the paper: memory, the job's length, what is no step, and a folded job that
 // is too long.
-#[derive(Drop)]
+#[derive(Clone, Copy)]
 pub enum Refusal {
     MemorySize,
     JobLength,
@@ -13,7 +13,7 @@ pub enum Refusal {
 
 // What a folding answers: done with the length of the folded job and whether a blit was kept for going round alone, or
 // refused, with the place of the refused step.
-#[derive(Drop)]
+#[derive(Clone, Copy)]
 pub enum Answer {
     Done(usize, bool),
     Refused(Refusal, usize),
@@ -21,7 +21,7 @@ pub enum Answer {
 
 // What is left of a step: how many words it became, what is known after it, and whether it is a blit that was kept for
 // going round alone.
-#[derive(Drop)]
+#[derive(Clone, Copy)]
 pub struct Piece {
     pub long: u32,
     pub known: Knowledge,

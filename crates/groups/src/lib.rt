@@ -1,4 +1,6 @@
 // A blit's stores gathered into groups, and the words of these laid into a run.
+#![tactic(auto)]
+
 ghost use Rattle.std.specs.Prelude.{◌≡◌, [], ◌∷◌, ◌+◌, ◌-◌, ◌<◌, ◌≤◌, eqb, length, take, drop};
 ghost use Rattle.word.specs.Laid.{laid};
 ghost use Rattle.word.specs.Pointer.{high, low};

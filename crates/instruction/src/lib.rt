@@ -1,4 +1,6 @@
 // One instruction of a Copper list: read as memory stands, and done, over lent memory and a lent register file.
+#![tactic(auto)]
+
 pub mod number;
 mod permitted;
 mod read;

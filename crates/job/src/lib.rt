@@ -1,4 +1,6 @@
 // A job: its length, what its first words begin, the step at a place, and a reader that stands on the job.
+#![tactic(auto)]
+
 pub mod length;
 pub mod number;
 pub mod reader;

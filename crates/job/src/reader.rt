@@ -5,7 +5,7 @@ ghost use Rattle.job.specs.Step.{step_at};
 use crate::step;
 use crate::types::Read;
 
-#[derive(Drop)]
+#[derive(Clone, Copy)]
 pub struct Reader<'a> {
     pub job: &'a [u16],
     pub place: usize,

@@ -1,4 +1,6 @@
 // What the folder knows of the registers: each is known with its number, or not known.
+#![tactic(auto)]
+
 pub mod knowledge;
 pub mod known;
 pub mod parts;

@@ -1,14 +1,14 @@
 // The types that the definitions of knowledge speak of.
 
 // What is known of one register: its number, or nothing.
-#[derive(Drop)]
+#[derive(Clone, Copy)]
 pub enum Known {
     Is(u16),
     Unknown,
 }
 
 // BLTCON0, BLTCON1, BLTAFWM and BLTALWM.
-#[derive(Drop)]
+#[derive(Clone, Copy)]
 pub struct Controls {
     pub con0: Known,
     pub con1: Known,
@@ -17,14 +17,14 @@ pub struct Controls {
 }
 
 // The halves of one pointer.
-#[derive(Drop)]
+#[derive(Clone, Copy)]
 pub struct Halves {
     pub high: Known,
     pub low: Known,
 }
 
 // The pointers of C, B, A and D.
-#[derive(Drop)]
+#[derive(Clone, Copy)]
 pub struct Pointers {
     pub c: Halves,
     pub b: Halves,
@@ -33,7 +33,7 @@ pub struct Pointers {
 }
 
 // The modulos of C, B, A and D.
-#[derive(Drop)]
+#[derive(Clone, Copy)]
 pub struct Modulos {
     pub c: Known,
     pub b: Known,
@@ -42,7 +42,7 @@ pub struct Modulos {
 }
 
 // The data registers of C, B and A.
-#[derive(Drop)]
+#[derive(Clone, Copy)]
 pub struct Sources {
     pub c: Known,
     pub b: Known,
@@ -50,7 +50,7 @@ pub struct Sources {
 }
 
 // The Blitter's 19 registers. COPCON, the colours and the zero flag aren't tracked.
-#[derive(Drop)]
+#[derive(Clone, Copy)]
 pub struct Knowledge {
     pub controls: Controls,
     pub pointers: Pointers,

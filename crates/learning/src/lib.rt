@@ -1,4 +1,6 @@
 // What a step does to the folder's knowledge.
+#![tactic(auto)]
+
 ghost use Rattle.std.specs.Prelude.{◌≡◌, ◌<◌};
 ghost use Rattle.file.specs.Places.{file_length, pointer_a, pointer_b, pointer_c, pointer_d};
 ghost use Rattle.knowledge.specs.Knowledge.{listed};

@@ -1,4 +1,6 @@
 // A line: its set-up, the way from dot to dot, and one dot's word.
+#![tactic(auto)]
+
 pub mod marks;
 pub mod setup;
 pub mod theorems;

@@ -1,7 +1,7 @@
 // The types that only contracts inside speak of: what the code goes by from dot to dot.
 
 // What follows a dot, by the sign: so many pixels on, so much gained by the accumulator, and whether a move was vertical.
-#[derive(Drop)]
+#[derive(Clone, Copy)]
 pub struct Step {
     pub pixels: u32,
     pub gain: u16,
@@ -9,14 +9,14 @@ pub struct Step {
 }
 
 // Where the sign is 0, and where it is 1.
-#[derive(Drop)]
+#[derive(Clone, Copy)]
 pub struct Steps {
     pub clear: Step,
     pub set: Step,
 }
 
 // A dot, its spot as one number: 16 pixels a word, all words counted through.
-#[derive(Drop)]
+#[derive(Clone, Copy)]
 pub struct Mark {
     pub pixel: u32,
     pub bit: u32,
@@ -26,7 +26,7 @@ pub struct Mark {
 }
 
 // How far a line has come, with its next dot's mark.
-#[derive(Drop)]
+#[derive(Clone, Copy)]
 pub struct Marked {
     pub mark: Mark,
     pub allzero: bool,

@@ -2,7 +2,7 @@
 use word::types::Pointer;
 
 // SUD, SUL and AUL of BLTCON1, the manual's octant code.
-#[derive(Drop)]
+#[derive(Clone, Copy)]
 pub struct Octant {
     pub sud: bool,
     pub sul: bool,
@@ -10,7 +10,7 @@ pub struct Octant {
 }
 
 // What the accumulator gains: the whole modulos of A and B.
-#[derive(Drop)]
+#[derive(Clone, Copy)]
 pub struct Gains {
     pub a: u16,
     pub b: u16,
@@ -18,7 +18,7 @@ pub struct Gains {
 
 // What a line is set up with, and no dot changes. A's data is masked; a row is half of C's modulo, in words modulo
 // 262,144.
-#[derive(Drop)]
+#[derive(Clone, Copy)]
 pub struct Line {
     pub a: u16,
     pub texture: u16,
@@ -30,7 +30,7 @@ pub struct Line {
 }
 
 // Where a dot stands: at the word of C's pointer, and in it as far right as A's shift.
-#[derive(Drop)]
+#[derive(Clone, Copy)]
 pub struct Spot {
     pub at: Pointer,
     pub shift: u32,
@@ -38,7 +38,7 @@ pub struct Spot {
 
 // What changes from dot to dot. The bit is the texture's; first says whether this dot is the first of all, or the first
 // after a vertical move.
-#[derive(Drop)]
+#[derive(Clone, Copy)]
 pub struct Dot {
     pub spot: Spot,
     pub bit: u32,
@@ -49,7 +49,7 @@ pub struct Dot {
 
 // How far a line has come, memory aside: the dot that is next, whether every word stored was zero, and how many were
 // stored.
-#[derive(Drop)]
+#[derive(Clone, Copy)]
 pub struct Drawn {
     pub dot: Dot,
     pub allzero: bool,

@@ -1,4 +1,6 @@
 // One line of picture: what the screen shows of a playfield of one to five bit planes, in colours.
+#![tactic(auto)]
+
 pub mod answer;
 pub mod refuse;
 pub mod show;

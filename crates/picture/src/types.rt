@@ -2,7 +2,7 @@
 
 // What the call answers: done, or refused because of memory, the register file, the numbers of the playfield, the
 // output, or a plane that leaves memory.
-#[derive(Drop)]
+#[derive(Clone, Copy)]
 pub enum Answer {
     Done,
     MemorySize,

@@ -1,5 +1,7 @@
 // The colour numbers of a line: plane by plane each word's bits are laid from the delay on. No word is shifted: a delay
 // of nought is a place like the others.
+#![tactic(auto)]
+
 pub mod types;
 
 ghost use Rattle.std.specs.Prelude.{◌≡◌, ◌+◌, ◌-◌, ◌*◌, ◌^◌, ◌<◌, ◌≤◌, length};

@@ -13,7 +13,7 @@ use Rattle.area.specs.declared.types.Setup.{Setup}
 use Rattle.area.specs.declared.types.Flow.{Flow}
 use Rattle.area.specs.Flow.{State, state, nothing}
 use Rattle.area.specs.Fetch.{fetched, fetch}
-use Rattle.area.specs.Finish.{masked_a, result, final as finished_final, finish}
+use Rattle.area.specs.Finish.{masked_a, result_word, final as finished_final, finish}
 use Rattle.area.specs.Store.{wait, memory_with, count_with, store_pending}
 use Rattle.area.specs.Move.{move_on, row_end}
 use Rattle.area.specs.Rows.{finished_word, stored_before, one_word, words, row_start, one_row, rows, area_blit}
@@ -135,7 +135,7 @@ module _ (setup : Setup) (width : ℕ) (memory : List ℕ) (flow : Flow) (a b c 
     one_word-goes : (row word remaining k carry : ℕ) → remaining + 1 + word ≡ width → k ≡ row * width + word → k < n
         → carry ≡ carry_to setup.fill setup.carry width (result_at setup width flow.earlier a b c) k
         → one_word setup width remaining (state_in row word carry k) ≡ state_in row (suc word) (final k).carry (suc k)
-    unfolding one_word stored_before store_pending finished_word wait move_on finish finished_final result masked_a fetch flow_to memory_to count_to held pending_to zero_to word_before filled_at result_at mixed_at shifted_at masked_at
+    unfolding one_word stored_before store_pending finished_word wait move_on finish finished_final result_word masked_a fetch flow_to memory_to count_to held pending_to zero_to word_before filled_at result_at mixed_at shifted_at masked_at
     one_word-goes row word remaining k carry all is below comes =
         let short : word < width = omega arith in
         let row_is : k / width ≡ row = row_of width row word k short is in

@@ -1,4 +1,6 @@
 // The refusals of a blit, in the order of the paper, and what a lawful one goes by.
+#![tactic(auto)]
+
 mod line_rules;
 pub mod theorems;
 mod touch;

@@ -4,7 +4,7 @@ use line::types::{Dot, Line};
 
 // Why a blit is refused. An area blit that leaves memory is refused by the first channel that does, in the order A, B, C,
 // D; a line by C, which D follows. LineForm is a line's width or use bits, LineApart its C and D pointers.
-#[derive(Drop)]
+#[derive(Clone, Copy)]
 pub enum Refusal {
     MemorySize,
     RegisterFile,
@@ -20,7 +20,7 @@ pub enum Refusal {
 
 // What an area blit goes by, decoded once from register file and size. Types as narrow as width and height are tell the
 // compiler how small they stay.
-#[derive(Drop)]
+#[derive(Clone, Copy)]
 pub struct AreaPlan {
     pub setup: Setup,
     pub pointers: Pointers,
@@ -29,7 +29,7 @@ pub struct AreaPlan {
 }
 
 // What a line goes by, decoded once.
-#[derive(Drop)]
+#[derive(Clone, Copy)]
 pub struct LinePlan {
     pub line: Line,
     pub first: Dot,
@@ -37,14 +37,14 @@ pub struct LinePlan {
 }
 
 // What a blit goes by: it is an area's or a line's.
-#[derive(Drop)]
+#[derive(Clone, Copy)]
 pub enum Plan {
     Area(AreaPlan),
     Line(LinePlan),
 }
 
 // Whether a blit would be done; a lawful one hands on what it goes by.
-#[derive(Drop)]
+#[derive(Clone, Copy)]
 pub enum Verdict {
     Lawful(Plan),
     Refused(Refusal),

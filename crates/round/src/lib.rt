@@ -1,4 +1,6 @@
 // Whether a blit goes round: whether a pointer of its channels does between two of its accesses.
+#![tactic(auto)]
+
 mod channel;
 mod course;
 

@@ -1,4 +1,6 @@
 // The runner: takes a job's steps in order over lent memory and a lent register file, by the blit's contract.
+#![tactic(auto)]
+
 pub mod answer;
 mod step;
 mod steps;

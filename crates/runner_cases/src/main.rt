@@ -1,6 +1,8 @@
 // Runs jobs through the runner and prints what they give and leave: paper 01's "Run and compared" cases, each number of
 // the table that a run can give, colours, which channel is told of a blit that leaves memory, a job of several blits with
 // stores and flags between, and pointers that go round. What it must print is written out beside it, from the papers.
+#![tactic(auto)]
+
 use runner::types::Answer;
 
 // A case's name, and the answer's number, place and count.

@@ -11,7 +11,7 @@ use Rattle.area.specs.declared.types.Masks.{Masks}
 use Rattle.area.specs.declared.types.Shifts.{Shifts}
 use Rattle.area.specs.declared.types.Setup.{Setup}
 use Rattle.area.specs.declared.types.Flow.{Flow}
-use Rattle.area.specs.Finish.{masked_a, result, final, finish}
+use Rattle.area.specs.Finish.{masked_a, result_word, final, finish}
 use Rattle.depends.specs.Depends.{counts}
 use Rattle.depends.proofs.DependsLaws.{logic-without-a, logic-without-b, logic-without-c}
 
@@ -75,8 +75,8 @@ module _ (this other : Setup) (setups : AlikeSetup this other) where
       masked-alike first last this.masks other.masks flow.sources.a flow'.sources.a (setups.masks counted) (flows.a counted)
 
   result-alike : (masked masked' : ℕ) (flow flow' : Flow) → AlikeFlow this.function flow flow'
-      → (counts this.function 4 ≡ true → masked ≡ masked') → result this masked flow ≡ result other masked' flow'
-  unfolding result
+      → (counts this.function 4 ≡ true → masked ≡ masked') → result_word this masked flow ≡ result_word other masked' flow'
+  unfolding result_word
   result-alike masked masked' flow flow' flows same =
       logic-alike this.function _ _ _ _ flow.sources.c flow'.sources.c
       (λ counted. shifted-alike this.direction other.direction this.shifts.a other.shifts.a flow.earlier.a flow'.earlier.a masked masked'

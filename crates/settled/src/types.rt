@@ -1,7 +1,7 @@
 // What becomes of a blit.
 
 // Which of three a blit is to the folder: settled, kept for going round alone, or kept for another reason too.
-#[derive(Drop)]
+#[derive(Clone, Copy)]
 pub enum Fate {
     Settled,
     KeptForRound,

@@ -1,4 +1,6 @@
 // Text, and words as hex digits or as dots and hashes, written to standard output, for programs that are run and compared.
+#![tactic(auto)]
+
 use libc::STDOUT_FILENO;
 use word::pointer::POINTER_END;
 

@@ -1,6 +1,7 @@
 // The manual's programs for line mode, SimpleLine and RotateBits, run through the blit: what SimpleLine writes into the
 // registers for one line in each octant, and what all of them together leave in a plane of 32 by 32 pixels; then the words
 // of RotateBits. The file stdout beside src/ holds what the manual says.
+#![tactic(auto)]
 
 // The bytes of a row of the plane.
 const ROW_BYTES: u16 = 4;

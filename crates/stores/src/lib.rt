@@ -1,4 +1,6 @@
 // A blit's stores without a memory: where they go, what they hold, and where D's pointer ends.
+#![tactic(auto)]
+
 ghost use Rattle.std.specs.Prelude.{◌≡◌, ◌&&◌, [], ◌+◌, ◌*◌, ◌<◌, ◌≤◌, set};
 ghost use Rattle.word.specs.Laid.{laid};
 ghost use Rattle.word.specs.Repeat.{repeated};

@@ -1,4 +1,6 @@
 // An old register file, of 20 words, turned into a new one.
+#![tactic(auto)]
+
 pub mod answer;
 pub mod theorems;
 pub mod types;

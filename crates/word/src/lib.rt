@@ -1,5 +1,7 @@
 // One word: memory and pointers, what the control and size registers say, and the mask, shift, logic function and fill
 // of a blit's word.
+#![tactic(auto)]
+
 pub mod control;
 pub mod even;
 pub mod fill;

@@ -15,7 +15,7 @@ use Rattle.word.specs.Control.{uses}
 use Rattle.file.specs.Pointers.{pointer_at}
 use Rattle.area.specs.Flow.{pointers, sources, start}
 use Rattle.area.specs.Fetch.{fetched, fetch}
-use Rattle.area.specs.Finish.{masked_a, result, final, finish}
+use Rattle.area.specs.Finish.{masked_a, result_word, final, finish}
 use Rattle.area.specs.Store.{wait, memory_with, count_with, store_pending}
 use Rattle.area.specs.Move.{stepped, move_on, turned, row_end}
 use Rattle.area.specs.Rows.{finished_word, stored_before, one_word, row_start, one_row, area_blit}
@@ -47,7 +47,7 @@ unfolding fold fold_from fold_steps piece learned_after becomes learned settled 
     step_refusal given both_fills fill_upward channel_leaves leaves touches row_touches next_row repeated setup uses shifts direction fill masks modulos start pointers pointer_at sources pointer half moved passed
     goes_round area_round channel_round channel_moves row_moves between any_round moved_round passed_round plus_round minus_round
     blit answered done area_done finished area_blit refusal memory_size accepted store_pending memory_with count_with wait
-    one_word stored_before finished_word finish final result masked_a fetch fetched move_on stepped row_start one_row row_end turned filled examples of_bits height width masked_when masked logic carry exclusive inclusive
+    one_word stored_before finished_word finish final result_word masked_a fetch fetched move_on stepped row_start one_row row_end turned filled examples of_bits height width masked_when masked logic carry exclusive inclusive
 returns c = refl
 
 pub examples-hold-spec : {M : Type 1} → statement M

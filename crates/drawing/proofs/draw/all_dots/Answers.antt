@@ -1,0 +1,12 @@
+-- the answers that are left
+use Rattle.word.proofs.Base.{◌≡◌, ◌+◌, ◌≤◌, rules, length}
+use Rattle.line.specs.Line.{state, line_blit}
+use Rattle.line.specs.Inner.Walk.{drawn_of}
+use Rattle.drawing.proofs.DrawLaws.{line_blit-turn, line_blit-done, one_dot-room}
+use Rattle.drawing.proofs.draw.all_dots.Goals as goal
+
+pub loop-remaining-preserved : goal.loop-remaining-preserved
+loop-remaining-preserved c = (search line_blit-turn, search one_dot-room, search rules)
+
+pub returns : goal.returns
+returns c = search line_blit-done

@@ -1,0 +1,18 @@
+-- `file::colours_keep` meets its contract: it is told so far whether every colour keeps its bits.
+use Rattle.word.proofs.Base.{◌≡◌, refl, ap, ℕ, ◌+◌, ◌-◌, ◌<◌, ◌≤◌, arith, Bool, ◌&&◌, eqb, rules, List, get_or, bit_and}
+use Rattle.word.specs.Choice.{every}
+use Rattle.word.proofs.ChoiceLaws.{every-turn, every-done}
+use Rattle.file.specs.Places.{colour_count, colour0}
+use Rattle.file.specs.File.{kept, kept_at}
+use Rattle.file.proofs.FileLaws.{kept_bits-of-colour}
+use Rattle.file.proofs.colours_keep.Given as goal
+
+-- whether a colour keeps its bits
+abbrev keeps : (file : List ℕ) (colour : ℕ) → Bool
+keeps file colour = kept_at file (colour0 + colour)
+
+abbrev pub invariant-loop-colour : goal.invariant-loop-colour
+invariant-loop-colour l = (l.fine ≡ every (keeps l.file) l.colour) × (l.colour ≤ colour_count)
+
+abbrev pub decreases-loop-colour : goal.decreases-loop-colour
+decreases-loop-colour l = colour_count - l.colour

@@ -1,0 +1,7 @@
+-- `refusal::leaving` meets its contract: no channel leaves memory that no pointer does.
+use Rattle.word.proofs.Base.{refl, rules}
+use Rattle.refusal.proofs.RefusalLaws.{leaving-at-end}
+use Rattle.refusal.proofs.leaving.Goals as goal
+
+pub returns : goal.returns
+returns c = (search leaving-at-end, refl)

@@ -1,0 +1,13 @@
+-- `refusal::touch::channel_leaves` meets its contract: unused, or with rows that all lie inside, it stays inside.
+use Rattle.refusal.proofs.TouchLaws.{channel_leaves-when-used, channel_leaves-when-inside, channel_leaves-when-unused}
+use Rattle.word.proofs.Base.{rules}
+use Rattle.refusal.proofs.touch.channel_leaves.Goals as goal
+
+pub returns-then-evenly_inside : goal.returns-then-evenly_inside
+returns-then-evenly_inside c = search (channel_leaves-when-inside, c.evenly_inside.ensures)
+
+pub returns-then-used : goal.returns-then-used
+returns-then-used c = search channel_leaves-when-used
+
+pub returns : goal.returns
+returns c = search channel_leaves-when-unused

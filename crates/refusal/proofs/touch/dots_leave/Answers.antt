@@ -1,0 +1,16 @@
+-- the answers that are left
+use Rattle.word.proofs.Base.{rules}
+use Rattle.refusal.proofs.LineTouchLaws.{Same, same-at-first, same-when-leaves, same_turn, same-done}
+use Rattle.refusal.proofs.touch.dots_leave.Goals as goal
+
+pub loop-remaining-init : goal.loop-remaining-init
+loop-remaining-init c = search same-at-first
+
+pub returns-then-n-word_of : goal.returns-then-n-word_of
+returns-then-n-word_of c = search same-when-leaves
+
+pub loop-remaining-preserved : goal.loop-remaining-preserved
+loop-remaining-preserved c = search same_turn
+
+pub returns : goal.returns
+returns c = search same-done

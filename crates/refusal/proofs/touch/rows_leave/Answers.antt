@@ -1,0 +1,15 @@
+-- the answers that are left
+use Rattle.word.proofs.Base.{◌≡◌, ◌<◌, rules}
+use Rattle.word.specs.Pointer.{pointer_end}
+use Rattle.refusal.specs.Touch.{touches, leaves}
+use Rattle.refusal.proofs.TouchLaws.{touches-when-row-leaves, touches-turn, touches-done}
+use Rattle.refusal.proofs.touch.rows_leave.Goals as goal
+
+pub returns-then-row_leaves : goal.returns-then-row_leaves
+returns-then-row_leaves c = search touches-when-row-leaves
+
+pub loop-remaining-preserved : goal.loop-remaining-preserved
+loop-remaining-preserved c = (search touches-turn, search rules)
+
+pub returns : goal.returns
+returns c = search touches-done

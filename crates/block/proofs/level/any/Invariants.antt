@@ -1,0 +1,11 @@
+-- `block::level::any` meets its contract: the OR of words is nought where each is.
+use Rattle.word.proofs.Base.{◌≡◌, ◌-◌, ◌≤◌, eqb, rules}
+use Rattle.block.specs.Inner.Each.{nought, at}
+use Rattle.block.proofs.EachLaws.{nought-none, nought-turn, nought-done}
+use Rattle.block.proofs.level.any.Given as goal
+
+abbrev pub invariant-loop-i : goal.invariant-loop-i
+invariant-loop-i l = (l.i ≤ l.n) × (eqb l.all 0 ≡ nought l.i (at l.o))
+
+abbrev pub decreases-loop-i : goal.decreases-loop-i
+decreases-loop-i l = l.n - l.i

@@ -1,0 +1,13 @@
+-- `block::mask::mask` meets its contract: masks of all ones leave every word, and others change two of a row.
+use Rattle.word.proofs.Base.{◌≡◌, ◌-◌, arith, rules, length}
+use Rattle.quiet.specs.Words.{masked_at}
+use Rattle.block.specs.Inner.Each.{at, Each, Kept}
+use Rattle.block.proofs.EachLaws.{each_none, kept-all, each_fewer, Reached, reached-none, reached-fits, reached-turn, reached-done}
+use Rattle.block.proofs.MaskLaws.{masked-all-ones, mask-turn}
+use Rattle.block.proofs.mask.mask.Given as goal
+
+abbrev pub invariant-loop-row : goal.invariant-loop-row
+invariant-loop-row l = Reached l.width l.rows l.row l.s × (length l.x ≡ 80) × Kept l.s l.x l.initial.x × Each l.s l.x (masked_at l.masks l.width (at l.initial.x))
+
+abbrev pub decreases-loop-row : goal.decreases-loop-row
+decreases-loop-row l = l.rows - l.row

@@ -1,0 +1,17 @@
+-- the answers that are left
+use Rattle.word.proofs.Base.{refl, ◌-◌, rules}
+use Rattle.block.specs.Inner.Each.{at, turned_at}
+use Rattle.block.proofs.EachLaws.{SetTo, set-none, set-turn, set-done}
+use Rattle.block.proofs.mix.mix_one.Goals as goal
+
+pub loop-i-init : goal.loop-i-init
+unfolding turned_at at
+loop-i-init c = set-none (search rules)
+
+pub loop-i-preserved : goal.loop-i-preserved
+unfolding turned_at at
+loop-i-preserved c = set-turn (search rules) (search rules) refl c.loop-i.invariant
+
+pub returns : goal.returns
+unfolding turned_at at
+returns c = set-done (search rules) c.loop-i.invariant

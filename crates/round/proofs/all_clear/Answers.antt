@@ -1,0 +1,22 @@
+-- `round::all_clear` meets its contract: it says yes only where each channel's look does.
+use Rattle.word.proofs.Base.{rules, not-false}
+use Rattle.word.proofs.EvenLaws.{nothing-promised}
+use Rattle.round.proofs.AreaLaws.{area_round-of-none}
+use Rattle.round.proofs.all_clear.Goals as goal
+
+pub returns-then-not-channel_clear : goal.returns-then-not-channel_clear
+returns-then-not-channel_clear c = nothing-promised
+
+pub returns-then-not-channel_clear-2 : goal.returns-then-not-channel_clear-2
+returns-then-not-channel_clear-2 c = nothing-promised
+
+pub returns-then-not-channel_clear-3 : goal.returns-then-not-channel_clear-3
+returns-then-not-channel_clear-3 c = nothing-promised
+
+pub returns : goal.returns
+returns c = λ holds.
+    area_round-of-none _
+    (c.channel_clear.ensures c.if-not-channel_clear.false)
+    (c.channel_clear-2.ensures c.if-not-channel_clear-2.false)
+    (c.channel_clear-3.ensures c.if-not-channel_clear-3.false)
+    (c.channel_clear-4.ensures holds)

@@ -1,0 +1,16 @@
+-- the answers that are left
+use Rattle.word.proofs.Base.{◌≡◌, ◌<◌, ◌≤◌, rules}
+use Rattle.line.specs.Inner.Walk.{pixel_end, dot_of}
+use Rattle.round.specs.Between.{went_round}
+use Rattle.round.specs.Line.{line_moves}
+use Rattle.round.proofs.LineLaws.{dots-when-round, dots-turn, dots-done, walked-lt}
+use Rattle.round.proofs.course.dots_round.Goals as goal
+
+pub returns-then-dot_round : goal.returns-then-dot_round
+returns-then-dot_round c = search (rules, dots-when-round)
+
+pub loop-remaining-preserved : goal.loop-remaining-preserved
+loop-remaining-preserved c = (search (rules, dots-turn), search (rules, walked-lt), search rules)
+
+pub returns : goal.returns
+returns c = search (rules, dots-done)

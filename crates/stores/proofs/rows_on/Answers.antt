@@ -1,0 +1,12 @@
+-- the answers that are left
+use Rattle.word.proofs.Base.{◌≡◌, ◌<◌, rules}
+use Rattle.word.specs.Repeat.{repeated}
+use Rattle.word.specs.Pointer.{pointer_end, next_row}
+use Rattle.word.proofs.RepeatLaws.{repeated-turn, repeated-done}
+use Rattle.stores.proofs.rows_on.Goals as goal
+
+pub loop-remaining-preserved : goal.loop-remaining-preserved
+loop-remaining-preserved c = (search repeated-turn, search rules)
+
+pub returns : goal.returns
+returns c = search repeated-done

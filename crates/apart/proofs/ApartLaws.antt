@@ -1,5 +1,5 @@
 -- The test before a blit tells what its blocks must be told.
-use Rattle.word.proofs.Base.{◌≡◌, sym, ◌∙◌, ℕ, ◌*◌, ◌/◌, ◌<◌, ◌≤◌, mul-le-mul_right, arith, Bool, true, needs}
+use Rattle.word.proofs.Base.{◌≡◌, sym, ◌∙◌, ℕ, ◌*◌, ◌/◌, ◌<◌, ◌≤◌, mul-le-mul_right, arith, Bool, true, rules}
 use native.Mathlib.Nat.{le_trans, div-mul-le_self}
 use Rattle.quiet.specs.Stream.{standing_at, at_d}
 use Rattle.apart.specs.Inner.Placed.{Pointer, Setup, Flow, Strides, pointer_end, Channel, Placed}
@@ -44,7 +44,7 @@ module _ {n : ℕ} {setup : Setup} {size : Size} {flow : Flow} {far : Strides} (
       let b = source-apart some second to-b known.even.b known.b in
       let c = source-apart some (omega arith) to-c known.even.c known.c in
       let d = d-placed in
-      (search needs, search needs)
+      (search rules, search rules)
 
 pub rows-room : (rows width : ℕ) → rows ≤ 64 / width → rows * width ≤ 64
 rows-room rows width few = le_trans (mul-le-mul_right width few) (div-mul-le_self 64 width)

@@ -1,6 +1,6 @@
 -- Block by block: after a block what is left is placed and apart as it was, and leads to the same end.
 use Rattle.word.proofs.Base.{◌≡◌, refl, sym, ap, ◌∙◌, ℕ, zero, suc, ◌+◌, ◌-◌, ◌*◌, ◌/◌, ◌%◌, ◌<◌, ◌≤◌, add-mul}
-use Rattle.word.proofs.Base.{mul-le-mul, mul-le-mul_right, arith, Bool, true, false, List, length, needs}
+use Rattle.word.proofs.Base.{mul-le-mul, mul-le-mul_right, arith, Bool, true, false, List, length, rules}
 use native.Mathlib.Nat.{mul-add-div_right, mul-add-mod_self_right}
 use Rattle.word.proofs.ChoiceLaws.{if-either}
 use Rattle.word.specs.Repeat.{repeated}
@@ -65,7 +65,7 @@ module _ {n : ℕ} {setup : Setup} {width : ℕ} {far : Strides} {most left : �
 
   -- and those after it
   placed_on : Placed n setup width (left - rows) (flow_after setup width ram here rows) far
-  placed_on = search (needs, on)
+  placed_on = search (rules, on)
     where
       on : {modulo : ℕ} {used : Bool} {pointer : Pointer} {gap : ℕ} → Channel n setup.direction width left modulo used pointer gap
           → Channel n setup.direction width (left - rows) modulo used (standing setup.direction used width modulo rows 0 pointer) gap

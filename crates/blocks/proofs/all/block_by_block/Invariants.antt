@@ -1,0 +1,18 @@
+-- `blocks::all::block_by_block` meets its contract, block by block. The facts are named, for `search` reads too few.
+use Rattle.word.proofs.Base.{◌-◌, ◌≤◌, arith, rules, length}
+use Rattle.area.specs.Flow.{state}
+use Rattle.area.specs.Rows.{area_blit}
+use Rattle.blocks.specs.Inner.Block.{Arrays}
+use Rattle.blocks.specs.Inner.Repeats.{Repeating}
+use Rattle.blocks.proofs.RepeatsLaws.{arrays-of, repeating-on, ready_of}
+use Rattle.blocks.proofs.RunningLaws.{Running, running-starts, block-fits, running-on, running-done}
+use Rattle.blocks.proofs.all.block_by_block.Given as goal
+
+abbrev pub invariant-loop-row : goal.invariant-loop-row
+invariant-loop-row l = (l.row ≤ l.size.height)
+    × Running (length l.initial.ram) l.setup l.size.width l.far l.most (l.size.height - l.row) (state l.ram l.here) (area_blit l.setup l.size.width l.size.height (state l.initial.ram l.initial.here))
+    × Arrays l.setup l.size.width l.here.sources l.xa l.xb l.xc l.ya l.o
+    × Repeating l.setup l.size.width l.most l.size.height l.row l.here l.xa l.xb l.xc l.o
+
+abbrev pub decreases-loop-row : goal.decreases-loop-row
+decreases-loop-row l = l.size.height - l.row

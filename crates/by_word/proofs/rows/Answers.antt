@@ -1,0 +1,13 @@
+-- the answers that are left
+use Rattle.word.proofs.Base.{◌≡◌, ◌+◌, ◌*◌, ◌<◌, rules, length}
+use Rattle.word.proofs.RepeatLaws.{repeated-turn, repeated-done}
+use Rattle.area.specs.Flow.{state}
+use Rattle.area.specs.Rows.{rows}
+use Rattle.area.proofs.RowsLaws.{rows-room}
+use Rattle.by_word.proofs.rows.Goals as goal
+
+pub loop-remaining-preserved : goal.loop-remaining-preserved
+loop-remaining-preserved c = (search repeated-turn, search rows-room, search rules)
+
+pub returns : goal.returns
+returns c = search repeated-done

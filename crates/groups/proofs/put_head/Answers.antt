@@ -1,0 +1,7 @@
+-- `groups::put_head` meets its contract, word by word.
+use Rattle.word.proofs.Base.{rules}
+use Rattle.groups.proofs.PutLaws.{put-head-of-parts}
+use Rattle.groups.proofs.put_head.Goals as goal
+
+pub returns : goal.returns
+returns c = search put-head-of-parts

@@ -1,0 +1,21 @@
+-- the answers that are left
+use Rattle.word.proofs.Base.{◌≡◌, ◌-◌, ◌≤◌, rules, length}
+use Rattle.instruction.specs.Effect.{moment}
+use Rattle.copper.specs.Frame.{onward}
+use Rattle.copper.proofs.FrameLaws.{onward-at-start, onward-at-end, onward-at-last, onward-turn, onward-of-refused}
+use Rattle.copper.proofs.onward.onward.Goals as goal
+
+pub loop-place-init : goal.loop-place-init
+loop-place-init c = (search onward-at-start, search rules, search rules, search rules)
+
+pub returns-then-done-lent : goal.returns-then-done-lent
+returns-then-done-lent c = search onward-at-last
+
+pub loop-place-preserved : goal.loop-place-preserved
+loop-place-preserved c = (search onward-turn, search rules, search rules, search rules)
+
+pub returns-in-Refused : goal.returns-in-Refused
+returns-in-Refused c = search onward-of-refused
+
+pub returns : goal.returns
+returns c = search onward-at-end

@@ -1,0 +1,12 @@
+-- the answers that are left
+use Rattle.word.proofs.Base.{◌≡◌, ◌+◌, ◌-◌, ◌*◌, ◌≤◌, rules, length, drop}
+use Rattle.card_text.specs.Printing.{changed}
+use Rattle.card_text.specs.Card.{written, writing}
+use Rattle.card_text.proofs.PrintingLaws.{changed-turn, changed-done}
+use Rattle.card_text.proofs.printing.changed.Goals as goal
+
+pub loop-place-preserved : goal.loop-place-preserved
+loop-place-preserved c = (search changed-turn, search rules, search rules, search rules, search rules)
+
+pub returns : goal.returns
+returns c = search changed-done

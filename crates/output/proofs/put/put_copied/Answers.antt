@@ -1,0 +1,11 @@
+-- the answers that are left
+use Rattle.word.proofs.Base.{◌≡◌, ◌+◌, ◌<◌, ◌≤◌, rules, length, take, drop}
+use Rattle.word.specs.Laid.{laid}
+use Rattle.output.proofs.PutLaws.{copied-turn, copied-done}
+use Rattle.output.proofs.put.put_copied.Goals as goal
+
+pub loop-remaining-preserved : goal.loop-remaining-preserved
+loop-remaining-preserved c = (search copied-turn, search rules, search rules, search rules)
+
+pub returns : goal.returns
+returns c = search copied-done

@@ -34,7 +34,7 @@ pub extern "C" fn desk_blit(
     round: &mut u32,
 )
     ensures { record {
-      number = number.exit.now;
+      number = number.new;
       stored = stored.new;
       round = round.new;
       memory = ram.new;
@@ -60,7 +60,7 @@ pub extern "C" fn desk_run(
     round: &mut u32,
 )
     ensures { record {
-      number = number.exit.now;
+      number = number.new;
       place = place.new;
       stored = stored.new;
       round = round.new;
@@ -88,7 +88,7 @@ pub extern "C" fn desk_fold(
     round: &mut u32,
 )
     ensures { record {
-      number = number.exit.now;
+      number = number.new;
       place = place.new;
       long = long.new;
       round = round.new;
@@ -106,7 +106,7 @@ pub extern "C" fn desk_fold(
 // Turns an old register file into a new one.
 #[unsafe(no_mangle)]
 pub extern "C" fn desk_widen(old: &[u16], target: &mut [u16], number: &mut u32)
-    ensures { record { number = number.exit.now; target = target.new }
+    ensures { record { number = number.new; target = target.new }
         ≡ widening old.now target.old }
 {
     let answer = widen::widen(old, target);
@@ -182,7 +182,7 @@ pub extern "C" fn desk_picture(
     out: &mut [u16],
     number: &mut u32,
 )
-    ensures { record { number = number.exit.now; out = out.new }
+    ensures { record { number = number.new; out = out.new }
         ≡ picture ram.now file.now (playfield planes.now words odd even) out.old }
 {
     let answer = picture::picture(ram, file, planes, words, odd, even, out);

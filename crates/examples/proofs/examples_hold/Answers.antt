@@ -38,17 +38,13 @@ use Rattle.learning.specs.Learn.{written, may_use, forget_pointer, forget_source
 use Rattle.settled.specs.Settled.{controls_known, only_d_used, sources_known, otherwise_settled, settled}
 use Rattle.folder.specs.Fold.{becomes, learned, piece, learned_after, fold_steps, fold_from, fold}
 use Rattle.examples.specs.Examples.{examples}
-use Rattle.examples.proofs.examples_hold.Statement.{statement}
-use Rattle.examples.proofs.examples_hold.Tie as tie
+use Rattle.examples.proofs.examples_hold.Goals as goal
 
-returns : tie.Need-returns
+pub returns : goal.returns
 unfolding fold fold_from fold_steps piece learned_after becomes learned settled otherwise_settled controls_known only_d_used sources_known written forgotten forget_used forget_pointer forget_source may_use moved_d
     settled_words stores_words stores blit_stores row_stores all_zero final_d numbers number is_known counts changes steps_from behind front begun found operands kind place place_in is_register registers kept kept_bits kept_at
     step_refusal given both_fills fill_upward channel_leaves leaves touches row_touches next_row repeated setup uses shifts direction fill masks modulos start pointers pointer_at sources pointer half moved passed
     goes_round area_round channel_round channel_moves row_moves between any_round moved_round passed_round plus_round minus_round
     blit answered done area_done finished area_blit refusal memory_size accepted store_pending memory_with count_with wait
-    one_word stored_before finished_word finish final result_word masked_a fetch fetched move_on stepped row_start one_row row_end turned filled examples of_bits height width masked_when masked logic carry exclusive inclusive
+    one_word stored_before finished_word finish final result masked_a fetch fetched move_on stepped row_start one_row row_end turned filled examples of_bits height width masked_when masked logic carry exclusive inclusive
 returns c = refl
-
-pub examples-hold-spec : {M : Type 1} → statement M
-examples-hold-spec = tie.close (tie.spec returns)

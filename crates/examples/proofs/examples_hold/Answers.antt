@@ -46,5 +46,5 @@ unfolding fold fold_from fold_steps piece learned_after becomes learned settled 
     step_refusal given both_fills fill_upward channel_leaves leaves touches row_touches next_row repeated setup uses shifts direction fill masks modulos start pointers pointer_at sources pointer half moved passed
     goes_round area_round channel_round channel_moves row_moves between any_round moved_round passed_round plus_round minus_round
     blit answered done area_done finished area_blit refusal memory_size accepted store_pending memory_with count_with wait
-    one_word stored_before finished_word finish final result masked_a fetch fetched move_on stepped row_start one_row row_end turned filled examples of_bits height width masked_when masked logic carry exclusive inclusive
+    one_word stored_before finished_word finish final result_word masked_a fetch fetched move_on stepped row_start one_row row_end turned filled examples of_bits height width masked_when masked logic carry exclusive inclusive
 returns c = refl

@@ -2,30 +2,33 @@
 // and hashes.
 #![tactic(auto)]
 
+use std::io;
+
 // Three rows of two words from a place on.
-fn picture(ram: &[u16], from: u32) {
+fn picture(rt: &impl Print, ram: &[u16], from: u32) -> io::Result<()> {
     let mut more: u32 = 3;
     let mut at = from % 64;
     while 0 < more {
-        show_words::bits(word::memory::read(ram, at));
-        show_words::bits(word::memory::read(ram, at + 1));
-        show_words::line();
+        show_words::bits(rt, word::memory::read(ram, at))?;
+        show_words::bits(rt, word::memory::read(ram, at + 1))?;
+        show_words::line(rt)?;
         at = (at + 2) % 64;
         more = more - 1;
     }
+    Ok(())
 }
 
 // B, C and D, each three rows of two words.
-fn pictures(ram: &[u16]) {
-    show_words::text(b"B\n");
-    picture(ram, 0);
-    show_words::text(b"C\n");
-    picture(ram, 6);
-    show_words::text(b"D\n");
-    picture(ram, 12);
+fn pictures(rt: &impl Print, ram: &[u16]) -> io::Result<()> {
+    show_words::text(rt, b"B\n")?;
+    picture(rt, ram, 0)?;
+    show_words::text(rt, b"C\n")?;
+    picture(rt, ram, 6)?;
+    show_words::text(rt, b"D\n")?;
+    picture(rt, ram, 12)
 }
 
-fn main() {
+fn main(rt: HostRuntime) -> io::Result<()> {
     let mut ram = [
         0x0000, 0x0000, 0xFFFF, 0xFFFF, 0xAA55, 0xAA55, 0xFFFF, 0xFFFF, 0xFFFF, 0xFFFF, 0xFFFF,
         0xFFFF, 0, 0, 0, 0, 0, 0,
@@ -39,18 +42,18 @@ fn main() {
     // The pointers of C and D; B's is 0.
     file[file::POINTER_C as usize + 1] = 12;
     file[file::POINTER_D as usize + 1] = 24;
-    show_words::text(b"Before\n");
-    pictures(&ram);
+    show_words::text(&rt, b"Before\n")?;
+    pictures(&rt, &ram)?;
     // Three rows of two words.
     match blit::blit(&mut ram, &mut file, 0x00C2) {
         blit::types::Answer::Done(stored, _) => {
-            show_words::text(b"After, words stored");
-            show_words::hex((stored % 65536) as u16);
-            show_words::line();
+            show_words::text(&rt, b"After, words stored")?;
+            show_words::hex(&rt, (stored % 65536) as u16)?;
+            show_words::line(&rt)?;
         }
         blit::types::Answer::Refused(_) => {
-            show_words::text(b"Refused\n");
+            show_words::text(&rt, b"Refused\n")?;
         }
     }
-    pictures(&ram);
+    pictures(&rt, &ram)
 }

@@ -2,29 +2,54 @@
 // A good card has at most 210 bytes, so that more than 256 are never read (`FirstBytesDecide`).
 #![tactic(auto)]
 
-ghost use Rattle.std.specs.Prelude.{◌≡◌, length};
+ghost use Rattle.std.specs.Prelude.{◌≡◌, ◌≤◌, length, IfOk};
 
-use libc::{STDIN_FILENO, STDOUT_FILENO};
+use std::io;
+use std::io::Read;
+
+// So many bytes.
+fn zeros<const MANY: usize>() -> [u8; MANY]
+    ensures { MANY ≡ length result }
+{
+    [0; MANY]
+}
 
 // Room for the longest text that a card gives: 60 bytes and 32,768 lines of 16.
 fn room() -> [u8; 524416]
     ensures { 524416 ≡ length result }
 {
-    [0; 524416]
+    zeros()
 }
 
 // Prints the first bytes of a text, as many as were written. They are all there (`TextFits`).
-fn print(text: &[u8], written: usize) {
+fn print(rt: &impl Print, text: &[u8], written: usize) -> io::Result<()> {
     if written <= text.len() {
-        io::write_all(STDOUT_FILENO, &text[..written]);
+        rt.write_all(&text[..written])?;
     }
+    Ok(())
 }
 
-fn main() {
+// Reads until the text is full or the input ends; answers how many bytes were read.
+fn read_full(input: &mut impl Read, text: &mut [u8]) -> io::Result<usize>
+    ensures { IfOk result (λ read. read ≤ length text.new) }
+{
+    let mut read: usize = 0;
+    while read < text.len() {
+        let more = input.read(&mut text[read..])?;
+        if more == 0 {
+            return Ok(read);
+        }
+        read = read + more;
+    }
+    Ok(read)
+}
+
+fn main(rt: HostRuntime) -> io::Result<()> {
     let mut text = [0u8; 256];
-    let read = io::read_full(STDIN_FILENO, &mut text);
+    let mut input = rt.reader();
+    let read = read_full(&mut input, &mut text)?;
     let mut space = room();
     let out: &mut [u8] = &mut space;
     let written = card_text::card(&text[..read], out);
-    print(out, written);
+    print(&rt, out, written)
 }

@@ -1,56 +1,65 @@
 // What is known after a blit.
-pub fn all() {
+use std::io;
+
+pub fn all(rt: &impl Print) -> io::Result<()> {
     crate::print::folded(
+        rt,
         b"two settled blits",
         16,
         &[
             0x0040u16, 0x0100, 0x0042, 0x0000, 0x0054, 0x0000, 0x0056, 0x0010, 0x0066, 0x0000,
             0x0058, 0x0041, 0x0058, 0x0041,
         ],
-    );
+    )?;
     crate::print::folded(
+        rt,
         b"after a kept blit",
         9,
         &[
             0x0040u16, 0x0100, 0x0042, 0x0000, 0x0054, 0x0000, 0x0056, 0x0010, 0x0066, 0x0000,
             0x0058, 0x0042, 0x0058, 0x0041,
         ],
-    );
+    )?;
     crate::print::folded(
+        rt,
         b"after a kept blit that uses no channel",
         16,
         &[
             0x0040u16, 0x0000, 0x0042, 0x0000, 0x0054, 0x0000, 0x0056, 0x0010, 0x0066, 0x0000,
             0x0058, 0x0041, 0x0040, 0x0100, 0x0058, 0x0041,
         ],
-    );
+    )?;
     crate::print::folded(
+        rt,
         b"after a kept blit with BLTCON0 not known",
         16,
         &[
             0x0042u16, 0x0000, 0x0054, 0x0000, 0x0056, 0x0010, 0x0066, 0x0000, 0x0058, 0x0041,
             0x0040, 0x0100, 0x0058, 0x0041,
         ],
-    );
+    )?;
     crate::print::folded(
+        rt,
         b"after a kept blit, the pointer written anew",
         9,
         &[
             0x0040u16, 0x0100, 0x0042, 0x0000, 0x0054, 0x0000, 0x0056, 0x0010, 0x0066, 0x0000,
             0x0058, 0x0042, 0x0054, 0x0000, 0x0056, 0x0010, 0x0058, 0x0041,
         ],
-    );
+    )?;
     crate::print::folded(
+        rt,
         b"after a store at N or above",
         16,
         &[
             0x8007u16, 0xFFFE, 0x1234, 0x0040, 0x0100, 0x0042, 0x0000, 0x0054, 0x0000, 0x0056,
             0x0010, 0x0066, 0x0000, 0x0058, 0x0041,
         ],
-    );
+    )?;
     crate::print::folded(
+        rt,
         b"store and flag copied",
         16,
         &[0x8000u16, 0x0010, 0xABCD, 0xC001, 0xC000],
-    );
+    )
 }

@@ -3,6 +3,8 @@
 // print is written out beside it, from the papers.
 #![tactic(auto)]
 
+use std::io;
+
 mod blits;
 mod known;
 mod lengths;
@@ -11,11 +13,11 @@ mod print;
 mod refusals;
 mod rounds;
 
-fn main() {
-    paper::all();
-    lengths::all();
-    blits::all();
-    known::all();
-    refusals::all();
-    rounds::all();
+fn main(rt: HostRuntime) -> io::Result<()> {
+    paper::all(&rt)?;
+    lengths::all(&rt)?;
+    blits::all(&rt)?;
+    known::all(&rt)?;
+    refusals::all(&rt)?;
+    rounds::all(&rt)
 }

@@ -1,50 +1,52 @@
 // What a folding gives and leaves, printed.
+use std::io;
 use folder::types::Answer;
 
 // A case's name, and the answer's number, place and length.
-pub fn answer(name: &[u8], answer: Answer) {
-    io::write_all(1, name);
-    io::write_all(1, b": number ");
-    io::print_decimal(1, folder::answer::number(answer) as u64);
-    io::write_all(1, b" place ");
-    io::print_decimal(1, folder::answer::place(answer) as u64);
-    io::write_all(1, b" length ");
-    io::print_decimal(1, folder::answer::length(answer) as u64);
-    io::write_all(1, b"\n");
+pub fn answer(rt: &impl Print, name: &[u8], answer: Answer) -> io::Result<()> {
+    rt.write_all(name)?;
+    rt.write_all(b": number ")?;
+    rt.print(folder::answer::number(answer) as u64)?;
+    rt.write_all(b" place ")?;
+    rt.print(folder::answer::place(answer) as u64)?;
+    rt.write_all(b" length ")?;
+    rt.print(folder::answer::length(answer) as u64)?;
+    rt.write_all(b"\n")
 }
 
 // Words in hex, on a line of their own.
-pub fn words(name: &[u8], words: &[u16]) {
-    io::write_all(1, name);
+pub fn words(rt: &impl Print, name: &[u8], words: &[u16]) -> io::Result<()> {
+    rt.write_all(name)?;
     let mut at: usize = 0;
     while at < words.len() {
-        show_words::hex(words[at]);
+        show_words::hex(rt, words[at])?;
         at = at + 1;
     }
-    io::write_all(1, b"\n");
+    rt.write_all(b"\n")
 }
 
 // Whether a blit was kept for going round alone, on a line of its own.
-pub fn round(answer: Answer) {
+pub fn round(rt: &impl Print, answer: Answer) -> io::Result<()> {
     if folder::answer::round(answer) {
-        io::write_all(1, b"  round yes\n");
+        rt.write_all(b"  round yes\n")?;
     } else {
-        io::write_all(1, b"  round no\n");
+        rt.write_all(b"  round no\n")?;
     }
+    Ok(())
 }
 
 // A job folded into an output of 28 words that hold EEEE, and whether a blit was kept for going round alone.
-pub fn folded_round(name: &[u8], n: usize, job: &[u16]) {
+pub fn folded_round(rt: &impl Print, name: &[u8], n: usize, job: &[u16]) -> io::Result<()> {
     let mut out = [0xEEEEu16; 28];
     let folding = folder::fold(n, job, &mut out);
-    answer(name, folding);
-    round(folding);
-    words(b"  out", &out);
+    answer(rt, name, folding)?;
+    round(rt, folding)?;
+    words(rt, b"  out", &out)
 }
 
 // A job folded into an output of 28 words that hold EEEE.
-pub fn folded(name: &[u8], n: usize, job: &[u16]) {
+pub fn folded(rt: &impl Print, name: &[u8], n: usize, job: &[u16]) -> io::Result<()> {
     let mut out = [0xEEEEu16; 28];
-    answer(name, folder::fold(n, job, &mut out));
-    words(b"  out", &out);
+    answer(rt, name, folder::fold(n, job, &mut out))?;
+    words(rt, b"  out", &out)
 }

@@ -1,15 +1,15 @@
 // Text, and words as hex digits or as dots and hashes, written to standard output, for programs that are run and compared.
 #![tactic(auto)]
 
-use libc::STDOUT_FILENO;
+use std::io;
 use word::pointer::POINTER_END;
 
-pub fn text(bytes: &[u8]) {
-    io::write_all(STDOUT_FILENO, bytes);
+pub fn text(rt: &impl Print, bytes: &[u8]) -> io::Result<()> {
+    rt.write_all(bytes)
 }
 
-pub fn line() {
-    io::write_all(STDOUT_FILENO, b"\n");
+pub fn line(rt: &impl Print) -> io::Result<()> {
+    rt.write_all(b"\n")
 }
 
 // The hex digit of a number's last four bits.
@@ -22,7 +22,7 @@ fn digit(n: u16) -> u8 {
 }
 
 // A word as a blank and four hex digits.
-pub fn hex(word: u16) {
+pub fn hex(rt: &impl Print, word: u16) -> io::Result<()> {
     let text = [
         b' ',
         digit(word / 4096),
@@ -30,18 +30,19 @@ pub fn hex(word: u16) {
         digit(word / 16),
         digit(word),
     ];
-    io::write_all(STDOUT_FILENO, &text);
+    rt.write_all(&text)
 }
 
 // So many words from a place on.
-pub fn words(run: &[u16], from: u32, count: u32) {
+pub fn words(rt: &impl Print, run: &[u16], from: u32, count: u32) -> io::Result<()> {
     let mut more = count % 65536;
     let mut at = from % POINTER_END;
     while 0 < more {
-        hex(word::memory::read(run, at));
+        hex(rt, word::memory::read(run, at))?;
         at = (at + 1) % POINTER_END;
         more = more - 1;
     }
+    Ok(())
 }
 
 // The dot or hash of a number's last bit.
@@ -53,7 +54,7 @@ fn dot(n: u16) -> u8 {
 }
 
 // A word as sixteen dots and hashes, bit 15 first.
-pub fn bits(word: u16) {
+pub fn bits(rt: &impl Print, word: u16) -> io::Result<()> {
     let mut text = [b'.'; 16];
     let mut rest = word;
     let mut at: usize = 16;
@@ -62,5 +63,5 @@ pub fn bits(word: u16) {
         text[at] = dot(rest);
         rest = rest / 2;
     }
-    io::write_all(STDOUT_FILENO, &text);
+    rt.write_all(&text)
 }

@@ -3,6 +3,8 @@
 // of RotateBits. The file stdout beside src/ holds what the manual says.
 #![tactic(auto)]
 
+use std::io;
+
 // The bytes of a row of the plane.
 const ROW_BYTES: u16 = 4;
 
@@ -80,38 +82,38 @@ fn set_up(x1: u16, y1: u16, along: u16, across: u16, octant: u16) -> [u16; file:
 }
 
 // Prints what the line's set-up is: the two controls, A's pointer, A's and B's modulos, C's pointer, the size.
-fn print_set_up(file: &[u16], size: u16) {
-    show_words::text(b"line");
-    show_words::words(file, file::CONTROL_0, 2);
-    show_words::words(file, file::POINTER_A, 2);
-    show_words::words(file, file::MODULO_A, 1);
-    show_words::words(file, file::MODULO_B, 1);
-    show_words::words(file, file::POINTER_C, 2);
-    show_words::hex(size);
+fn print_set_up(rt: &impl Print, file: &[u16], size: u16) -> io::Result<()> {
+    show_words::text(rt, b"line")?;
+    show_words::words(rt, file, file::CONTROL_0, 2)?;
+    show_words::words(rt, file, file::POINTER_A, 2)?;
+    show_words::words(rt, file, file::MODULO_A, 1)?;
+    show_words::words(rt, file, file::MODULO_B, 1)?;
+    show_words::words(rt, file, file::POINTER_C, 2)?;
+    show_words::hex(rt, size)
 }
 
 // Does the blit; prints a refusal, which nothing here expects, or the count of words stored, where A's and C's pointers
 // stand, and the zero flag.
-fn run(ram: &mut [u16], file: &mut [u16], size: u16) {
+fn run(rt: &impl Print, ram: &mut [u16], file: &mut [u16], size: u16) -> io::Result<()> {
     match blit::blit(ram, file, size) {
         blit::types::Answer::Done(stored, _) => {
-            show_words::text(b" stored");
-            show_words::hex((stored % 65536) as u16);
+            show_words::text(rt, b" stored")?;
+            show_words::hex(rt, (stored % 65536) as u16)?;
         }
         blit::types::Answer::Refused(_) => {
-            show_words::text(b" refused");
+            show_words::text(rt, b" refused")?;
         }
     }
-    show_words::text(b" left");
-    show_words::words(file, file::POINTER_A, 2);
-    show_words::words(file, file::POINTER_C, 2);
-    show_words::words(file, file::POINTER_D, 2);
-    show_words::text(b" zero");
-    show_words::words(file, file::FLAG, 1);
+    show_words::text(rt, b" left")?;
+    show_words::words(rt, file, file::POINTER_A, 2)?;
+    show_words::words(rt, file, file::POINTER_C, 2)?;
+    show_words::words(rt, file, file::POINTER_D, 2)?;
+    show_words::text(rt, b" zero")?;
+    show_words::words(rt, file, file::FLAG, 1)
 }
 
 // SimpleLine.
-fn simple_line(ram: &mut [u16], x1: u16, y1: u16, x2: u16, y2: u16) {
+fn simple_line(rt: &impl Print, ram: &mut [u16], x1: u16, y1: u16, x2: u16, y2: u16) -> io::Result<()> {
     let dx = distance(x1, x2) % 1024;
     let dy = distance(y1, y2) % 1024;
     let steep = dx < dy;
@@ -124,53 +126,54 @@ fn simple_line(ram: &mut [u16], x1: u16, y1: u16, x2: u16, y2: u16) {
     }
     let mut file = set_up(x1, y1, along, across, code);
     let size = (along % 1023) * 64 + 0x42;
-    print_set_up(&file, size);
-    run(ram, &mut file, size);
-    show_words::line();
+    print_set_up(rt, &file, size)?;
+    run(rt, ram, &mut file, size)?;
+    show_words::line(rt)
 }
 
 // Thirty-two rows of two words.
-fn picture(ram: &[u16]) {
+fn picture(rt: &impl Print, ram: &[u16]) -> io::Result<()> {
     let mut more: u32 = 32;
     let mut at: u32 = 0;
     while 0 < more {
-        show_words::bits(word::memory::read(ram, at));
-        show_words::bits(word::memory::read(ram, at + 1));
-        show_words::line();
+        show_words::bits(rt, word::memory::read(ram, at))?;
+        show_words::bits(rt, word::memory::read(ram, at + 1))?;
+        show_words::line(rt)?;
         at = (at + 2) % 64;
         more = more - 1;
     }
+    Ok(())
 }
 
 // One line in each octant, from the middle of the plane, by the manual's numbers 1 to 8.
-fn star() {
+fn star(rt: &impl Print) -> io::Result<()> {
     let mut ram = [0u16; 64];
-    simple_line(&mut ram, 16, 16, 30, 22);
-    simple_line(&mut ram, 16, 16, 22, 30);
-    simple_line(&mut ram, 15, 16, 9, 30);
-    simple_line(&mut ram, 15, 16, 1, 22);
-    simple_line(&mut ram, 15, 15, 1, 9);
-    simple_line(&mut ram, 15, 15, 9, 1);
-    simple_line(&mut ram, 16, 15, 22, 1);
-    simple_line(&mut ram, 16, 15, 30, 9);
-    picture(&ram);
+    simple_line(rt, &mut ram, 16, 16, 30, 22)?;
+    simple_line(rt, &mut ram, 16, 16, 22, 30)?;
+    simple_line(rt, &mut ram, 15, 16, 9, 30)?;
+    simple_line(rt, &mut ram, 15, 16, 1, 22)?;
+    simple_line(rt, &mut ram, 15, 15, 1, 9)?;
+    simple_line(rt, &mut ram, 15, 15, 9, 1)?;
+    simple_line(rt, &mut ram, 16, 15, 22, 1)?;
+    simple_line(rt, &mut ram, 16, 15, 30, 9)?;
+    picture(rt, &ram)
 }
 
 // The far ends of the plane, level, upright and aslant.
-fn frame() {
+fn frame(rt: &impl Print) -> io::Result<()> {
     let mut ram = [0u16; 64];
-    simple_line(&mut ram, 0, 0, 31, 0);
-    simple_line(&mut ram, 31, 0, 31, 31);
-    simple_line(&mut ram, 31, 31, 0, 31);
-    simple_line(&mut ram, 0, 31, 0, 0);
-    simple_line(&mut ram, 0, 0, 31, 31);
-    simple_line(&mut ram, 16, 16, 16, 16);
-    picture(&ram);
+    simple_line(rt, &mut ram, 0, 0, 31, 0)?;
+    simple_line(rt, &mut ram, 31, 0, 31, 31)?;
+    simple_line(rt, &mut ram, 31, 31, 0, 31)?;
+    simple_line(rt, &mut ram, 0, 31, 0, 0)?;
+    simple_line(rt, &mut ram, 0, 0, 31, 31)?;
+    simple_line(rt, &mut ram, 16, 16, 16, 16)?;
+    picture(rt, &ram)
 }
 
 // RotateBits: bit k from the left of sixteen words is set as the bits of one raster word say, the texture of a line that
 // goes down one word a dot.
-fn rotate_bits(raster: u16, k: u16, ram: &mut [u16]) {
+fn rotate_bits(rt: &impl Print, raster: u16, k: u16, ram: &mut [u16]) -> io::Result<()> {
     let mut file = [0u16; file::WORDS];
     file[file::CONTROL_0 as usize] = k % 16 * 4096 + 0x0BCA;
     file[file::CONTROL_1 as usize] = 0xF049;
@@ -183,19 +186,19 @@ fn rotate_bits(raster: u16, k: u16, ram: &mut [u16]) {
     file[file::MODULO_D as usize] = 2;
     file[file::SOURCE_A as usize] = 0x8000;
     file[file::SOURCE_B as usize] = raster;
-    show_words::text(b"rotate");
-    show_words::hex(raster);
-    run(ram, &mut file, 0x0402);
-    show_words::text(b":");
-    show_words::words(ram, 0, 16);
-    show_words::line();
+    show_words::text(rt, b"rotate")?;
+    show_words::hex(rt, raster)?;
+    run(rt, ram, &mut file, 0x0402)?;
+    show_words::text(rt, b":")?;
+    show_words::words(rt, ram, 0, 16)?;
+    show_words::line(rt)
 }
 
-fn main() {
-    star();
-    frame();
+fn main(rt: HostRuntime) -> io::Result<()> {
+    star(&rt)?;
+    frame(&rt)?;
     let mut zeros = [0u16; 16];
-    rotate_bits(0xA5C3, 3, &mut zeros);
+    rotate_bits(&rt, 0xA5C3, 3, &mut zeros)?;
     let mut ones = [0xFFFFu16; 16];
-    rotate_bits(0xA5C3, 3, &mut ones);
+    rotate_bits(&rt, 0xA5C3, 3, &mut ones)
 }

@@ -1,5 +1,5 @@
 -- W2's order and an earlier store: a word may be stored before the next one's fetches where none of them is at its place.
-use Rattle.word.proofs.Base.{◌≡◌, refl, ap, ◌∙◌, ℕ, zero, suc, ◌≤◌, arith, Bool, true, false, List, get_or-set_other}
+use Rattle.word.proofs.Base.{◌≡◌, refl, ap, ℕ, zero, suc, ◌≤◌, arith, Bool, true, false, List, get_or-set_other}
 use mathlib.Core.Logic.{◌≢◌}
 use Rattle.word.specs.declared.types.Pointer.{Pointer}
 use Rattle.word.specs.declared.types.Uses.{Uses}
@@ -14,7 +14,7 @@ use Rattle.area.specs.Flow.{State, state, nothing}
 use Rattle.area.specs.Fetch.{fetched, fetch}
 use Rattle.area.specs.Finish.{masked_a, result_word, final, finish}
 use Rattle.area.specs.Store.{wait, memory_with, count_with, store_pending}
-use Rattle.area.specs.Move.{move_on, row_end}
+use Rattle.area.specs.Move.{move_on}
 use Rattle.area.specs.Rows.{finished_word, stored_before, one_word, words, row_start, one_row}
 
 -- no used source fetches the pending place first

@@ -1,10 +1,9 @@
 -- Laws of words and rows: how a word is put together from its parts, and how many words are stored.
-use Rattle.word.proofs.Base.{◌≡◌, refl, ap, ◌∙◌, ℕ, zero, suc, ◌+◌, ◌-◌, ◌*◌, ◌<◌, ◌≤◌, arith, Bool, eqb, List, length}
+use Rattle.word.proofs.Base.{◌≡◌, ap, ◌∙◌, ℕ, zero, suc, ◌+◌, ◌-◌, ◌*◌, ◌<◌, ◌≤◌, arith, Bool, eqb, List, length}
 use Rattle.word.specs.Repeat.{repeated}
-use Rattle.word.proofs.RepeatLaws.{repeated-turn, repeated-keeps}
+use Rattle.word.proofs.RepeatLaws.{repeated-keeps}
 use Rattle.word.specs.declared.types.Direction.{Direction}
 use Rattle.word.specs.declared.types.Uses.{Uses}
-use Rattle.area.specs.declared.types.Pointers.{Pointers}
 use Rattle.area.specs.declared.types.Setup.{Setup}
 use Rattle.area.specs.declared.types.Flow.{Flow}
 use Rattle.area.specs.declared.types.Finished.{Finished}

@@ -1,5 +1,5 @@
 -- Words of 16 bits stay so through a blit: those of memory, of the data registers, and the one that waits to be stored.
-use Rattle.word.proofs.Base.{ℕ, ◌+◌, ◌<◌, arith, Bool, true, false, eqb, List, get_or}
+use Rattle.word.proofs.Base.{ℕ, ◌+◌, ◌<◌, arith, Bool, true, false, eqb, List}
 use Rattle.word.specs.declared.types.Pointer.{Pointer}
 use Rattle.word.specs.Word.{SixteenBits}
 use Rattle.word.proofs.WordLaws.{SixteenBits-of-set}

@@ -1,5 +1,5 @@
 -- Two answers that meet the promise are equal: the numbers tell the refusals apart, and no refusal has the number 0.
-use Rattle.word.proofs.Base.{◌≡◌, sym, ap, ◌∙◌, ℕ}
+use Rattle.word.proofs.Base.{◌≡◌, sym, ap, ◌∙◌}
 use Rattle.refusal.proofs.OneAnswerLaws.{refusal_number-is-unique, refusal_number-positive}
 use Rattle.blit.specs.declared.types.Answer.{Answer}
 use Rattle.blit.specs.declared.types.Answer.TheVariants.{Done, Refused}

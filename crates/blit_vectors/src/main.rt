@@ -190,7 +190,15 @@ fn hundred(rt: &impl Print) -> io::Result<()> {
 }
 
 // Words 1 to 8 with D over a source: a word is stored once the next word's sources are fetched, in the next row too.
-fn overlap(rt: &impl Print, con0: u16, con1: u16, from: u16, to: u16, modulo: u16, size: u16) -> io::Result<()> {
+fn overlap(
+    rt: &impl Print,
+    con0: u16,
+    con1: u16,
+    from: u16,
+    to: u16,
+    modulo: u16,
+    size: u16,
+) -> io::Result<()> {
     let mut ram = [1u16, 2, 3, 4, 5, 6, 7, 8];
     let mut file = registers(con0, con1, from, from, from, to);
     file[file::MODULO_A as usize] = modulo;

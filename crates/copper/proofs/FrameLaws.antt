@@ -1,6 +1,6 @@
 -- Laws of a frame: how it stops, and how it goes on after an instruction.
-use Rattle.word.proofs.Base.{◌≡◌, sym, ap, ◌∙◌, ℕ, zero, suc, ◌+◌, ◌-◌, ◌<◌, ◌≤◌, arith, Bool, true, false, not, eqb}
-use Rattle.word.proofs.Base.{leb, ne_eqb, eqb-false, le-leb, lt-leb, leb-true, not-false, List, length}
+use Rattle.word.proofs.Base.{◌≡◌, sym, ap, ◌∙◌, ℕ, zero, suc, ◌+◌, ◌-◌, ◌<◌, ◌≤◌, arith, Bool, true, false, not}
+use Rattle.word.proofs.Base.{ne_eqb, eqb-false, le-leb, lt-leb, List, length}
 use Rattle.word.specs.Choice.{given}
 use Rattle.file.specs.File.{accepted}
 use Rattle.beam.specs.Beam.{frame_end}

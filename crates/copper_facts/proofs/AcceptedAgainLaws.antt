@@ -1,10 +1,9 @@
 -- What an instruction and a frame leave is accepted again: a blit leaves what is accepted, a register keeps its bits,
 -- and nothing else changes memory or register file.
-use Rattle.word.proofs.Base.{◌≡◌, ℕ, zero, suc, eqb, List}
+use Rattle.word.proofs.Base.{ℕ, zero, suc, eqb}
 use Rattle.word.proofs.ChoiceLaws.{if-either}
 use Rattle.file.specs.File.{kept}
 use Rattle.file.proofs.FileLaws.{kept_again, accepted-of-set}
-use Rattle.blit.specs.AcceptedAgain.{Ready}
 use Rattle.blit.proofs.AcceptedAgain as blits
 use Rattle.instruction.specs.Effect.{Moment, moment, Turn, after_instruction, effect}
 use Rattle.instruction.proofs.EffectLaws.{effect-either}

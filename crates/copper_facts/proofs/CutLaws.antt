@@ -4,7 +4,6 @@ use Rattle.word.proofs.Base.{eq-eqb, ne_eqb, eqb-true, List, length}
 use Rattle.word.specs.Choice.{if◌then◌else◌, given}
 use Rattle.file.specs.File.{accepted}
 use Rattle.word.specs.Memory.{memory_size}
-use Rattle.blit.specs.AcceptedAgain.{Ready}
 use Rattle.instruction.specs.Effect.{Moment, moment, effect}
 use Rattle.copper.specs.Frame.{end_of_frame, used_up, refusal, Frame, stopped, over, onward, start_refusal, frame_from}
 use Rattle.copper_facts.specs.Course.{after}

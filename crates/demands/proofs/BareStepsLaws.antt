@@ -1,5 +1,5 @@
 -- Laws of steps without their places: a run of whole steps is its steps, one after the other, wherever it stands.
-use Rattle.word.proofs.Base.{◌≡◌, refl, sym, ap, ◌∙◌, ℕ, zero, suc, ◌+◌, ◌≤◌, zero-add, add-zero, arith, Bool, true}
+use Rattle.word.proofs.Base.{◌≡◌, refl, sym, ap, ◌∙◌, ℕ, zero, suc, ◌+◌, ◌≤◌, add-zero, arith, Bool, true}
 use Rattle.word.proofs.Base.{false, ◌&&◌, List, [], ◌∷◌, ◌++◌, length, drop, drop_of_length-le}
 use Rattle.job.specs.declared.types.Step.{Step}
 use Rattle.job.specs.declared.types.Read.{Read}

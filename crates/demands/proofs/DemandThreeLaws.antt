@@ -1,6 +1,6 @@
 -- Demand 3: step by step the folded job and the original leave the same machine, and what the folder knows agrees with it.
-use Rattle.word.proofs.Base.{◌≡◌, refl, sym, ap, subst, ◌∙◌, ℕ, zero, suc, ◌+◌, ◌≤◌, arith, Bool, true, false, not, eqb}
-use Rattle.word.proofs.Base.{eqb-true, le-leb, List, [], ◌∷◌, ◌++◌, length, get_or, set, length-set}
+use Rattle.word.proofs.Base.{◌≡◌, refl, sym, ap, subst, ◌∙◌, ℕ, zero, suc, ◌+◌, arith, Bool, true, false}
+use Rattle.word.proofs.Base.{List, [], ◌∷◌, ◌++◌, length, get_or, set, length-set}
 use lib.ListN.{replicate}
 use Rattle.word.specs.declared.types.Pointer.{Pointer}
 use Rattle.word.specs.Choice.{if◌then◌else◌, given}

@@ -1,6 +1,5 @@
 -- Laws of all dots done by their marks, and of what is left.
 use Rattle.word.proofs.Base.{◌≡◌, ap, ℕ, ◌+◌, ◌-◌, ◌%◌, ◌/◌, ◌<◌, ◌≤◌, arith, Bool, true, false, ◌&&◌, eqb, List, get_or, set}
-use Rattle.word.specs.Choice.{if◌then◌else◌}
 use Rattle.word.specs.Pointer.{pointer_end}
 use Rattle.word.proofs.RepeatLaws.{repeated-turn, repeated-done}
 use Rattle.file.specs.Places.{pointer_a, pointer_c, pointer_d}

@@ -19,7 +19,7 @@ use Rattle.settled.specs.Words.{stores_words, settled_words}
 use Rattle.settled.proofs.RunLaws.{stores_words-length}
 use Rattle.knowledge.specs.declared.types.Known.{Known}
 use Rattle.knowledge.specs.Knowledge.{numbers}
-use Rattle.learning.specs.Learn.{written, forgotten, moved_d}
+use Rattle.learning.specs.Learn.{written, moved_d}
 use Rattle.refusal.specs.Refusal.{step_refusal}
 use Rattle.settled.specs.declared.types.Fate.{Fate}
 use Rattle.settled.specs.Settled.{controls_known, only_d_used, sources_known, otherwise_settled, settled, kept_for_round}

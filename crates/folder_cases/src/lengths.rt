@@ -1,7 +1,6 @@
 // Lengths: of a settled blit of 64 words, of the job, of the output and of the folded job.
 use std::io;
 
-
 // "size 0040 (64 words) settled": the last five words are the pointer's and the flag's.
 fn most_words(rt: &impl Print) -> io::Result<()> {
     let job = [
@@ -33,10 +32,18 @@ fn out_lengths(rt: &impl Print) -> io::Result<()> {
         0x0042,
     ];
     let mut equal = [0xEEEEu16; 21];
-    crate::print::answer(rt, b"output of 21 words", folder::fold(16, &job, &mut equal))?;
+    crate::print::answer(
+        rt,
+        b"output of 21 words",
+        folder::fold(16, &job, &mut equal),
+    )?;
     crate::print::words(rt, b"  out", &equal)?;
     let mut short = [0xEEEEu16; 20];
-    crate::print::answer(rt, b"output of 20 words", folder::fold(16, &job, &mut short))?;
+    crate::print::answer(
+        rt,
+        b"output of 20 words",
+        folder::fold(16, &job, &mut short),
+    )?;
     crate::print::words(rt, b"  out", &short)?;
     let wrong = [0xC000u16, 0x8000, 0x0011, 0x0000];
     let mut none = [0xEEEEu16; 1];

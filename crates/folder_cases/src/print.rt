@@ -1,6 +1,6 @@
 // What a folding gives and leaves, printed.
-use std::io;
 use folder::types::Answer;
+use std::io;
 
 // A case's name, and the answer's number, place and length.
 pub fn answer(rt: &impl Print, name: &[u8], answer: Answer) -> io::Result<()> {

@@ -1,7 +1,6 @@
 -- Paper 01, "Jobs": a job as the list of its steps, in their order, each with "the word index" of its first word.
 -- What is refused stands in the list too, at its place, and ends it.
 use Rattle.std.specs.Prelude.{ℕ, zero, suc, ◌+◌, List, [], ◌∷◌}
-use Rattle.job.specs.declared.types.Step.{Step}
 use Rattle.job.specs.declared.types.Read.{Read}
 use Rattle.job.specs.Step.{operands, front}
 

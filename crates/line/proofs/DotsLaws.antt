@@ -1,6 +1,5 @@
 -- What all dots of a line keep, and how many they store.
 use Rattle.word.proofs.Base.{◌≡◌, refl, ℕ, zero, suc, ◌+◌, ◌%◌, ◌<◌, ◌≤◌, arith, Bool, true, false, not, List, length, set, length-set}
-use Rattle.word.specs.Choice.{if◌then◌else◌}
 use Rattle.word.specs.Word.{SixteenBits}
 use Rattle.word.specs.Repeat.{repeated}
 use Rattle.word.proofs.ChoiceLaws.{if-either}

@@ -1,6 +1,5 @@
 -- Laws of one dot: the dot after it, and the count.
-use Rattle.word.proofs.Base.{◌≡◌, refl, ap, ◌+◌, ◌-◌, ◌≤◌, arith}
-use Rattle.word.specs.Choice.{if◌then◌else◌}
+use Rattle.word.proofs.Base.{◌≡◌, refl, ap, ◌+◌, ◌≤◌, arith}
 use Rattle.word.proofs.ChoiceLaws.{if-either}
 use Rattle.line.specs.declared.types.Line.{Line}
 use Rattle.line.specs.Sing.{is_stored}

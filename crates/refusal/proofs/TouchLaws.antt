@@ -5,7 +5,7 @@ use mathlib.Core.Bool.{and-false, or_assoc}
 use Rattle.word.specs.declared.types.Direction.{Direction}
 use Rattle.word.specs.declared.types.Direction.TheVariants.{Ascending, Descending}
 use Rattle.word.specs.declared.types.Pointer.{Pointer}
-use Rattle.word.specs.Pointer.{pointer_end, moved, passed, next_row}
+use Rattle.word.specs.Pointer.{pointer_end, moved, next_row}
 use Rattle.word.specs.Inner.Even.{RowInside, RowsInside}
 use Rattle.word.proofs.EvenLaws.{RowsInside-first, RowsInside-turn}
 use Rattle.word.proofs.PointerLaws.{moved-lt, next_row-lt}

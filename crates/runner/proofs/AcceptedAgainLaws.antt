@@ -1,9 +1,8 @@
 -- What a step and a run leave is accepted again: a register keeps its bits, a store puts a word of the job into memory, a flag
 -- step sets the flag to 0 or 1, and a blit leaves what is accepted.
-use Rattle.word.proofs.Base.{◌≡◌, refl, ◌∙◌, ℕ, zero, suc, ◌+◌, ◌<◌, Bool, true, false, ◌&&◌, eqb, leb, List, [], ◌∷◌}
+use Rattle.word.proofs.Base.{refl, ◌∙◌, ℕ, zero, suc, ◌+◌, ◌<◌, false, ◌&&◌, eqb, leb, List, [], ◌∷◌}
 use Rattle.word.proofs.Base.{drop, length-set}
 use lib.Dec.{lit<}
-use Rattle.word.specs.Choice.{if◌then◌else◌}
 use Rattle.word.specs.Pointer.{pointer}
 use Rattle.word.specs.Word.{SixteenBits}
 use Rattle.word.proofs.ChoiceLaws.{if-either}

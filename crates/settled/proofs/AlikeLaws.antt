@@ -1,5 +1,5 @@
 -- Set-ups and flows that agree on what counts finish the same word: a source that doesn't count may hold anything.
-use Rattle.word.proofs.Base.{◌≡◌, refl, ap, ap₂, ◌∙◌, ℕ, zero, Bool, true, false, ◌&&◌, eqb}
+use Rattle.word.proofs.Base.{◌≡◌, refl, ap, ap₂, ◌∙◌, ℕ, Bool, true, false}
 use Rattle.word.specs.declared.types.Direction.{Direction}
 use Rattle.word.specs.declared.types.Fill.{Fill}
 use Rattle.word.specs.declared.types.Filled.{Filled}

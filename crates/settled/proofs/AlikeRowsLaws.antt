@@ -13,7 +13,7 @@ use Rattle.area.specs.With.{with_carry, with_stores}
 use Rattle.area.specs.Finish.{finish}
 use Rattle.area.specs.Store.{wait, count_with, store_pending}
 use Rattle.area.specs.Move.{stepped, move_on, turned, row_end}
-use Rattle.area.specs.Rows.{finished_word, stored_before, one_word, words, row_start, one_row, rows}
+use Rattle.area.specs.Rows.{finished_word, stored_before, one_word, words, row_start, one_row}
 use Rattle.stores.specs.Stores.{Store, store, row_stores, blit_stores}
 use Rattle.stores.proofs.OnlyDLaws.{OnlyD, finished_word-without-memory, one_word-of-empty, one_row-of-empty}
 use Rattle.settled.proofs.AlikeLaws.{AlikeSetup, AlikeFlow, final-alike, finish-alike}

@@ -1,5 +1,5 @@
 -- Laws of a settled blit's stores when they are run: they leave memory with each of them set in turn, and count as many words.
-use Rattle.word.proofs.Base.{◌≡◌, ap, ◌∙◌, ℕ, zero, suc, ◌+◌, ◌*◌, ◌<◌, arith, Bool, List, [], ◌∷◌, ◌++◌, length, set}
+use Rattle.word.proofs.Base.{◌≡◌, ap, ◌∙◌, ℕ, zero, suc, ◌+◌, ◌*◌, arith, Bool, List, [], ◌∷◌, ◌++◌, length, set}
 use Rattle.word.proofs.Base.{length-set, length-append}
 use mathlib.Core.List.{append_assoc}
 use Rattle.runner.specs.Run.{machine, run_from}

@@ -1,5 +1,5 @@
 -- Laws of a settled blit: each condition from its parts.
-use Rattle.word.proofs.Base.{◌≡◌, refl, sym, ap, ◌∙◌, ℕ, ◌+◌, ◌*◌, ◌%◌, Bool, true, false, ◌&&◌, ◌||◌, not, eqb, leb}
+use Rattle.word.proofs.Base.{◌≡◌, refl, sym, ap, ◌∙◌, ℕ, ◌+◌, ◌*◌, Bool, true, false, ◌&&◌, ◌||◌, not, eqb, leb}
 use Rattle.word.proofs.Base.{not-true, arith, List, get_or}
 use Rattle.word.specs.Choice.{if◌then◌else◌}
 use Rattle.word.specs.Size.{height, width}

@@ -1,5 +1,5 @@
 -- Laws of store steps: what the words of a store, a pointer and a flag do when they are run.
-use Rattle.word.proofs.Base.{◌≡◌, refl, ◌∙◌, ℕ, zero, suc, ◌+◌, ◌%◌, ◌<◌, add-zero, arith, Bool, true, false, ne_eqb}
+use Rattle.word.proofs.Base.{◌≡◌, refl, ℕ, zero, suc, ◌+◌, ◌%◌, ◌<◌, add-zero, arith, Bool, true, false, ne_eqb}
 use Rattle.word.proofs.Base.{lt-leb, List, ◌∷◌, ◌++◌, length, set}
 use mathlib.Core.Bool.{or-false}
 use Rattle.word.specs.declared.types.Pointer.{Pointer}

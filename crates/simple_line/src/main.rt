@@ -113,7 +113,14 @@ fn run(rt: &impl Print, ram: &mut [u16], file: &mut [u16], size: u16) -> io::Res
 }
 
 // SimpleLine.
-fn simple_line(rt: &impl Print, ram: &mut [u16], x1: u16, y1: u16, x2: u16, y2: u16) -> io::Result<()> {
+fn simple_line(
+    rt: &impl Print,
+    ram: &mut [u16],
+    x1: u16,
+    y1: u16,
+    x2: u16,
+    y2: u16,
+) -> io::Result<()> {
     let dx = distance(x1, x2) % 1024;
     let dy = distance(y1, y2) % 1024;
     let steep = dx < dy;

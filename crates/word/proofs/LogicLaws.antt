@@ -1,11 +1,11 @@
 -- Laws of the logic function: picking one of two words bit by bit, `y ^ (s & (y ^ x))`, and the tree of seven picks that computes it.
-use Rattle.word.proofs.Base.{◌≡◌, refl, sym, ap, ap₂, ◌∙◌, ℕ, zero, suc, ◌+◌, ◌*◌, ◌/◌, ◌%◌, ◌^◌, ◌<◌, arith}
+use Rattle.word.proofs.Base.{◌≡◌, refl, sym, ap, ℕ, zero, suc, ◌+◌, ◌*◌, ◌/◌, ◌%◌, ◌^◌, ◌<◌, arith}
 use Rattle.word.proofs.Base.{bit_and, bit_xor}
 use native.Mathlib.Nat.{div-one}
 use lib.Bits.{and_lt, xor_lt, xor_zero_r}
 use Rattle.word.specs.Word.{bit}
 use Rattle.word.specs.Logic.{logic}
-use Rattle.word.proofs.WordLaws.{bit-lt, bit-of-and, bit-of-xor, bit-of-spread, bit-of-of_bits, bits-are-enough, of_bits-lt, of_bits-is-unique, bit-cases}
+use Rattle.word.proofs.WordLaws.{bit-lt, bit-of-and, bit-of-xor, bit-of-spread, bit-of-of_bits, of_bits-lt, of_bits-is-unique, bit-cases}
 
 -- this where the bits of by are 1, other where they are 0
 unfoldable pub picked : (by this other : ℕ) → ℕ

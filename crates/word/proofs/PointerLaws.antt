@@ -4,7 +4,7 @@ use Rattle.word.specs.declared.types.Direction.{Direction}
 use Rattle.word.specs.declared.types.Direction.TheVariants.{Ascending, Descending}
 use Rattle.word.specs.declared.types.Pointer.{Pointer}
 use Rattle.word.specs.Repeat.{repeated}
-use Rattle.word.specs.Pointer.{pointer_end, pointer, up, down, plus, minus, moved, passed, next_row}
+use Rattle.word.specs.Pointer.{pointer_end, pointer, moved, passed, next_row}
 
 -- a word number may be bounded before it is moved
 pub sum-of-remainder : (word by : ℕ) → (word % pointer_end + by) % pointer_end ≡ (word + by) % pointer_end

@@ -1,6 +1,5 @@
 -- Laws of going round: each move's test, as the code has it, and the moves by their direction.
-use Rattle.word.proofs.Base.{◌≡◌, sym, ap, ◌∙◌, ℕ, ◌+◌, ◌-◌, ◌%◌, ◌<◌, ◌≤◌, dec_lt, arith, Bool, true, false, leb, ltb, le-leb, lt-leb}
-use Rattle.word.proofs.Base.{lt-ltb, le-ltb}
+use Rattle.word.proofs.Base.{◌≡◌, sym, ap, ◌∙◌, ℕ, ◌+◌, ◌-◌, ◌%◌, ◌<◌, ◌≤◌, dec_lt, arith, Bool, leb, ltb, le-leb, lt-leb}
 use Rattle.word.specs.declared.types.Direction.{Direction}
 use Rattle.word.specs.declared.types.Direction.TheVariants.{Ascending, Descending}
 use Rattle.word.specs.declared.types.Pointer.{Pointer}

@@ -1,5 +1,5 @@
 -- `apart::rows_at_once` meets its contract: each source leaves as many rows as the one before it, or fewer.
-use Rattle.word.proofs.Base.{◌≡◌, arith, Bool, true, false, ◌&&◌, not, not-false, rules}
+use Rattle.word.proofs.Base.{◌≡◌, arith, Bool, true, false, ◌&&◌, not, not-false}
 use Rattle.apart.proofs.ApartLaws.{rows-room, all_apart}
 use Rattle.apart.proofs.rows_at_once.Goals as goal
 

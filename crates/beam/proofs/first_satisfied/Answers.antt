@@ -1,7 +1,5 @@
 -- the answers that are left
-use Rattle.word.proofs.Base.{◌≡◌, ◌-◌, rules}
-use Rattle.beam.specs.Beam.{frame_end}
-use Rattle.beam.specs.Wait.{first_satisfied}
+use Rattle.word.proofs.Base.{rules}
 use Rattle.beam.proofs.SatisfiedLaws.{satisfied-told}
 use Rattle.beam.proofs.WaitLaws.{first_satisfied-at, first_satisfied-past, first_satisfied-turn}
 use Rattle.beam.proofs.first_satisfied.Goals as goal

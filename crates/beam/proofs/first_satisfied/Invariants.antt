@@ -1,9 +1,7 @@
 -- `beam::first_satisfied` meets its contract: from here on the first place is the one from the start on.
-use Rattle.word.proofs.Base.{◌≡◌, ◌-◌, rules}
+use Rattle.word.proofs.Base.{◌≡◌, ◌-◌}
 use Rattle.beam.specs.Beam.{frame_end}
 use Rattle.beam.specs.Wait.{first_satisfied}
-use Rattle.beam.proofs.SatisfiedLaws.{satisfied-told}
-use Rattle.beam.proofs.WaitLaws.{first_satisfied-at, first_satisfied-past, first_satisfied-turn}
 use Rattle.beam.proofs.first_satisfied.Given as goal
 
 abbrev pub invariant-loop-place : goal.invariant-loop-place

@@ -1,8 +1,5 @@
 -- the answers that are left
-use Rattle.word.proofs.Base.{◌≡◌, ◌+◌, ◌-◌, ◌*◌, ◌/◌, ◌%◌, ◌<◌, ◌≤◌, rules, bit_and}
-use Rattle.beam.specs.Beam.{frame_end}
-use Rattle.beam.specs.Satisfied.{mask}
-use Rattle.beam.specs.Wait.{first_satisfied}
+use Rattle.word.proofs.Base.{rules}
 use Rattle.beam.proofs.WaitLaws.{first_satisfied-past-line, first_satisfied-past-place, first_satisfied-on-line}
 use Rattle.beam.proofs.next_tried.Goals as goal
 

@@ -1,9 +1,8 @@
 -- `beam::next_tried` meets its contract: no place is passed where the comparison is satisfied.
-use Rattle.word.proofs.Base.{◌≡◌, ◌+◌, ◌-◌, ◌*◌, ◌/◌, ◌%◌, ◌<◌, ◌≤◌, rules, bit_and}
+use Rattle.word.proofs.Base.{◌≡◌, ◌+◌, ◌-◌, ◌*◌, ◌/◌, ◌%◌, ◌<◌, ◌≤◌, bit_and}
 use Rattle.beam.specs.Beam.{frame_end}
 use Rattle.beam.specs.Satisfied.{mask}
 use Rattle.beam.specs.Wait.{first_satisfied}
-use Rattle.beam.proofs.WaitLaws.{first_satisfied-past-line, first_satisfied-past-place, first_satisfied-on-line}
 use Rattle.beam.proofs.next_tried.Given as goal
 
 abbrev pub invariant-loop-position : goal.invariant-loop-position

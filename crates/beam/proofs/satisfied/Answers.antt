@@ -1,6 +1,5 @@
 -- `beam::satisfied` meets its contract: both sides are ANDed with the mask.
 use Rattle.beam.proofs.SatisfiedLaws.{satisfied-of-parts}
-use Rattle.word.proofs.Base.{rules}
 use Rattle.beam.proofs.satisfied.Goals as goal
 
 pub returns : goal.returns

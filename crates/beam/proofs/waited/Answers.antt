@@ -1,6 +1,5 @@
 -- `beam::waited` meets its contract: the places from six positions on are tried.
 use Rattle.beam.proofs.WaitLaws.{waited-of-first}
-use Rattle.word.proofs.Base.{rules}
 use Rattle.beam.proofs.waited.Goals as goal
 
 pub returns : goal.returns

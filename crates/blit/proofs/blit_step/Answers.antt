@@ -1,6 +1,5 @@
 -- `blit::blit_step` meets its contract: refused, or done as the plan says.
 use Rattle.blit.proofs.BlitLaws.{area-of-verdict, line-of-verdict, answered-of-area, answered-of-line, answered-when-refused, blit_step-of-answer}
-use Rattle.word.proofs.Base.{rules}
 use Rattle.blit.proofs.blit_step.Goals as goal
 
 pub area_done-requires : goal.area_done-requires

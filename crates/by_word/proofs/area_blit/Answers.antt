@@ -1,6 +1,5 @@
 -- `by_word::area_blit` meets its contract: all rows, then the store of the last word.
 use Rattle.area.proofs.RowsLaws.{rows-leave-room, area_blit-of-parts}
-use Rattle.word.proofs.Base.{rules}
 use Rattle.by_word.proofs.area_blit.Goals as goal
 
 pub store_pending-requires : goal.store_pending-requires

@@ -1,6 +1,5 @@
 -- `by_word::one_word` meets its contract: its five calls are the definition's parts; the sources' pointers move as they are fetched.
 use Rattle.area.proofs.RowsLaws.{finished-room, one_word-of-parts}
-use Rattle.word.proofs.Base.{rules}
 use Rattle.by_word.proofs.one_word.Goals as goal
 
 pub store_pending-stored-requires : goal.store_pending-stored-requires

@@ -1,9 +1,7 @@
 -- `by_word::rows` meets its contract: what is left from here gives what the whole gives.
-use Rattle.word.proofs.Base.{◌≡◌, ◌+◌, ◌*◌, ◌<◌, rules, length}
-use Rattle.word.proofs.RepeatLaws.{repeated-turn, repeated-done}
+use Rattle.word.proofs.Base.{◌≡◌, ◌+◌, ◌*◌, ◌<◌, length}
 use Rattle.area.specs.Flow.{state}
 use Rattle.area.specs.Rows.{rows}
-use Rattle.area.proofs.RowsLaws.{rows-room}
 use Rattle.by_word.proofs.rows.Given as goal
 
 abbrev pub invariant-loop-remaining : goal.invariant-loop-remaining

@@ -1,8 +1,6 @@
 -- the answers that are left
-use Rattle.word.proofs.Base.{◌≡◌, ◌+◌, ◌<◌, ◌≤◌, rules, length}
+use Rattle.word.proofs.Base.{rules}
 use Rattle.word.proofs.RepeatLaws.{repeated-turn, repeated-done}
-use Rattle.area.specs.Flow.{state}
-use Rattle.area.specs.Rows.{words}
 use Rattle.area.proofs.RowsLaws.{words-room}
 use Rattle.by_word.proofs.words.Goals as goal
 

@@ -1,9 +1,7 @@
 -- `by_word::words` meets its contract: what is left from here gives what the whole gives.
-use Rattle.word.proofs.Base.{◌≡◌, ◌+◌, ◌<◌, ◌≤◌, rules, length}
-use Rattle.word.proofs.RepeatLaws.{repeated-turn, repeated-done}
+use Rattle.word.proofs.Base.{◌≡◌, ◌+◌, ◌<◌, ◌≤◌, length}
 use Rattle.area.specs.Flow.{state}
 use Rattle.area.specs.Rows.{words}
-use Rattle.area.proofs.RowsLaws.{words-room}
 use Rattle.by_word.proofs.words.Given as goal
 
 abbrev pub invariant-loop-remaining : goal.invariant-loop-remaining

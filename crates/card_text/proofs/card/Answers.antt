@@ -1,7 +1,6 @@
 -- `card_text::card` meets its contract: a bad first line, a good card, another bad line.
 use Rattle.card_reading.proofs.ReadingLaws.{good-fits}
 use Rattle.card_text.proofs.CardLaws.{start-le, words-le, printed-when-ram-bad, printed-when-bad, printed-when-good}
-use Rattle.word.proofs.Base.{rules}
 use Rattle.card_text.proofs.card.Goals as goal
 
 pub bad_from-line-requires : goal.bad_from-line-requires

@@ -1,6 +1,5 @@
 -- `card_text::good` meets its contract: the job is the card's, on as many words as it asks for.
 use Rattle.card_text.proofs.CardLaws.{prefix-length, prefix-le, printed_run-of-job}
-use Rattle.word.proofs.Base.{rules}
 use Rattle.card_text.proofs.good.Goals as goal
 
 pub slice_bounds-run_on-end : goal.slice_bounds-run_on-end

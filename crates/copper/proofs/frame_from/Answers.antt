@@ -1,7 +1,6 @@
 -- `copper::frame_from` meets its contract: 1, then 2, then the instructions.
 use Rattle.word.proofs.MemoryLaws.{memory_size-when-taken}
 use Rattle.copper.proofs.FrameLaws.{frame_from-by-memory, frame_from-by-file, frame_from-onward}
-use Rattle.word.proofs.Base.{rules}
 use Rattle.copper.proofs.frame_from.Goals as goal
 
 pub returns-then-bad : goal.returns-then-bad

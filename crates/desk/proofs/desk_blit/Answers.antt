@@ -1,6 +1,5 @@
 -- `desk::desk_blit` meets its contract: it tells what the blit answers.
 use Rattle.desk.proofs.PlaceLaws.{blit-of-answer}
-use Rattle.word.proofs.Base.{rules}
 use Rattle.desk.proofs.desk_blit.Goals as goal
 
 pub returns : goal.returns

@@ -1,6 +1,5 @@
 -- `desk::desk_fold` meets its contract: it tells what the folding answers; its place and length are small.
 use Rattle.desk.proofs.PlaceLaws.{folding-place-lt, folding-long-lt, folding-of-answer}
-use Rattle.word.proofs.Base.{rules}
 use Rattle.desk.proofs.desk_fold.Goals as goal
 
 pub overflow_cast-place : goal.overflow_cast-place

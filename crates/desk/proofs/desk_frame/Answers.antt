@@ -1,6 +1,5 @@
 -- `desk::desk_frame` meets its contract: it tells what the frame answers.
 use Rattle.desk.proofs.PlaceLaws.{frame-of-answer}
-use Rattle.word.proofs.Base.{rules}
 use Rattle.desk.proofs.desk_frame.Goals as goal
 
 pub returns : goal.returns

@@ -1,6 +1,5 @@
 -- `desk::desk_run` meets its contract: it tells what the run answers; its place is small.
 use Rattle.desk.proofs.PlaceLaws.{run-place-lt, run-of-answer}
-use Rattle.word.proofs.Base.{rules}
 use Rattle.desk.proofs.desk_run.Goals as goal
 
 pub overflow_cast-place : goal.overflow_cast-place

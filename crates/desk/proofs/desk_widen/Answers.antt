@@ -1,6 +1,5 @@
 -- `desk::desk_widen` meets its contract: it tells what the widening answers.
 use Rattle.desk.proofs.PlaceLaws.{widening-of-answer}
-use Rattle.word.proofs.Base.{rules}
 use Rattle.desk.proofs.desk_widen.Goals as goal
 
 pub returns : goal.returns

@@ -1,5 +1,5 @@
 -- `engine::area_blit` meets its contract: by blocks or word by word, as the test says.
-use Rattle.word.proofs.Base.{arith, rules}
+use Rattle.word.proofs.Base.{arith}
 use Rattle.block.proofs.PlaceLaws.{some-rows}
 use Rattle.engine.proofs.EngineLaws.{words-le, known_of}
 use Rattle.engine.proofs.area_blit.Goals as goal

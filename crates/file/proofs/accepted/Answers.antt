@@ -1,6 +1,5 @@
 -- `file::accepted` meets its contract: the length, then the flag, the colours and the words before them.
 use Rattle.file.proofs.FileLaws.{accepted-of-length, accepted-of-parts}
-use Rattle.word.proofs.Base.{rules}
 use Rattle.file.proofs.accepted.Goals as goal
 
 pub returns-then-file-ne-WORDS : goal.returns-then-file-ne-WORDS

@@ -1,10 +1,8 @@
 -- `file::colours_keep` meets its contract: it is told so far whether every colour keeps its bits.
-use Rattle.word.proofs.Base.{◌≡◌, refl, ap, ℕ, ◌+◌, ◌-◌, ◌<◌, ◌≤◌, arith, Bool, ◌&&◌, eqb, rules, List, get_or, bit_and}
+use Rattle.word.proofs.Base.{◌≡◌, ℕ, ◌+◌, ◌-◌, ◌≤◌, Bool, List}
 use Rattle.word.specs.Choice.{every}
-use Rattle.word.proofs.ChoiceLaws.{every-turn, every-done}
 use Rattle.file.specs.Places.{colour_count, colour0}
-use Rattle.file.specs.File.{kept, kept_at}
-use Rattle.file.proofs.FileLaws.{kept_bits-of-colour}
+use Rattle.file.specs.File.{kept_at}
 use Rattle.file.proofs.colours_keep.Given as goal
 
 -- whether a colour keeps its bits

@@ -1,8 +1,7 @@
 -- `file::keeps` meets its contract: it is told so far whether every place keeps its bits.
-use Rattle.word.proofs.Base.{◌≡◌, refl, ap, ℕ, ◌+◌, ◌-◌, ◌≤◌, Bool, ◌&&◌, eqb, rules, List, get_or}
+use Rattle.word.proofs.Base.{◌≡◌, ◌-◌, ◌≤◌}
 use Rattle.word.specs.Choice.{every}
-use Rattle.word.proofs.ChoiceLaws.{every-turn, every-done}
-use Rattle.file.specs.File.{kept, kept_at}
+use Rattle.file.specs.File.{kept_at}
 use Rattle.file.proofs.keeps.Given as goal
 
 abbrev pub invariant-loop-at : goal.invariant-loop-at

@@ -1,5 +1,5 @@
 -- `file::kept` meets its contract: the value, of which the kept bits are left.
-use Rattle.word.proofs.Base.{◌≡◌, ℕ, rules, get_or, bit_and}
+use Rattle.word.proofs.Base.{◌≡◌, ℕ, get_or, bit_and}
 use Rattle.file.specs.File.{kept_bits, kept}
 use Rattle.file.proofs.kept.Goals as goal
 

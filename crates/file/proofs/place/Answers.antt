@@ -1,6 +1,5 @@
 -- `file::place` meets its contract: the colours' run first, then the tests go up through the others and the gaps between them.
 use Rattle.word.proofs.Base.{◌≡◌, ℕ, ◌+◌, ◌-◌, ◌/◌, ◌%◌, ◌<◌, ◌≤◌, arith, ◌&&◌, not, eqb, ltb, eq-eqb, ne_eqb, lt-ltb}
-use Rattle.word.proofs.Base.{rules}
 use Rattle.file.specs.File.{registers, place_in, place}
 use Rattle.file.specs.Places.{control0, modulo_c, source_c, copcon, colour_count, colour0, flag}
 use Rattle.file.proofs.PlaceLaws.{place-of-none, place-between, place-in-run}

@@ -1,5 +1,5 @@
 -- `file::pointer_at` meets its contract: the two halves, made one.
-use Rattle.word.proofs.Base.{refl, rules}
+use Rattle.word.proofs.Base.{refl}
 use Rattle.file.specs.Pointers.{pointer_at}
 use Rattle.file.proofs.pointer_at.Goals as goal
 

@@ -1,6 +1,5 @@
 -- `file::put_flag` meets its contract: 1 or 0.
 use Rattle.file.proofs.PointersLaws.{put_flag-when-zero, put_flag-when-some}
-use Rattle.word.proofs.Base.{rules}
 use Rattle.file.proofs.put_flag.Goals as goal
 
 pub returns-then-allzero : goal.returns-then-allzero

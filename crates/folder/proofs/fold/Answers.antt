@@ -1,7 +1,6 @@
 -- `folder::fold` meets its contract: the folded job is handed out only when it is done.
 use Rattle.job.proofs.LengthLaws.{job_length-when-short}
 use Rattle.folder.proofs.FoldingLaws.{folding-by-memory, folding-by-length, folding-by-refused, folding-by-done, room-when-done, run-when-done}
-use Rattle.word.proofs.Base.{rules}
 use Rattle.folder.proofs.fold.Goals as goal
 
 pub returns-then-memory_size : goal.returns-then-memory_size

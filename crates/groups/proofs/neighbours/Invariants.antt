@@ -1,8 +1,7 @@
 -- `groups::neighbours` meets its contract: those counted and those that lead from here are all that lead. The loop's
 -- test is named by its paths, so that arithmetic tells whether another place follows, however the test is written.
-use Rattle.word.proofs.Base.{◌≡◌, ◌+◌, ◌-◌, ◌<◌, ◌≤◌, arith, rules, take, drop}
+use Rattle.word.proofs.Base.{◌≡◌, ◌+◌, ◌-◌, ◌<◌, ◌≤◌, take, drop}
 use Rattle.groups.specs.Inner.Leading.{leading}
-use Rattle.groups.proofs.LeadingLaws.{leading-begin, leading-turn, leading-stop, leading_end}
 use Rattle.groups.proofs.neighbours.Given as goal
 
 abbrev pub invariant-loop-last : goal.invariant-loop-last

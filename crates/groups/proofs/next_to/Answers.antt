@@ -1,5 +1,5 @@
 -- `groups::next_to` meets its contract: arithmetic tells of both places whether they are neighbours.
-use Rattle.word.proofs.Base.{◌≡◌, sym, ℕ, ◌+◌, arith, true, false, eqb, eq-eqb, ne_eqb, rules}
+use Rattle.word.proofs.Base.{◌≡◌, sym, ℕ, ◌+◌, arith, true, false, eqb, eq-eqb, ne_eqb}
 use Rattle.groups.proofs.next_to.Goals as goal
 
 next-to-when-next : (before place : ℕ) → before + 1 ≡ place → true ≡ eqb (before + 1) place

@@ -1,5 +1,4 @@
 -- `groups::put_head` meets its contract, word by word.
-use Rattle.word.proofs.Base.{rules}
 use Rattle.groups.proofs.PutLaws.{put-head-of-parts}
 use Rattle.groups.proofs.put_head.Goals as goal
 

@@ -1,5 +1,4 @@
 -- `groups::put_several` meets its contract: a step of several values is a group.
-use Rattle.word.proofs.Base.{rules}
 use Rattle.groups.proofs.PutLaws.{put-group-when-many, put-group-end-when-many}
 use Rattle.groups.proofs.put_several.Goals as goal
 

@@ -1,8 +1,5 @@
 -- the answers that are left
-use Rattle.word.proofs.Base.{◌≡◌, ◌+◌, ◌-◌, ◌*◌, ◌<◌, ◌≤◌, rules, length}
-use Rattle.word.specs.Laid.{laid}
-use Rattle.groups.specs.Words.{stores_words}
-use Rattle.groups.specs.Inner.Paired.{paired}
+use Rattle.word.proofs.Base.{◌-◌, rules}
 use Rattle.groups.proofs.PairedLaws.{put-stores-begin, put-stores-end-begin}
 use Rattle.groups.proofs.PairedLaws.{put-stores-turn, put-stores-end-turn, put-stores-room-turn}
 use Rattle.groups.proofs.PairedLaws.{put-stores-done, put-stores-end-done}

@@ -1,11 +1,8 @@
 -- `groups::put_stores` meets its contract: what remains from here gives what the whole gives.
-use Rattle.word.proofs.Base.{◌≡◌, ◌+◌, ◌-◌, ◌*◌, ◌<◌, ◌≤◌, rules, length}
+use Rattle.word.proofs.Base.{◌≡◌, ◌+◌, ◌-◌, ◌*◌, ◌<◌, ◌≤◌, length}
 use Rattle.word.specs.Laid.{laid}
 use Rattle.groups.specs.Words.{stores_words}
 use Rattle.groups.specs.Inner.Paired.{paired}
-use Rattle.groups.proofs.PairedLaws.{put-stores-begin, put-stores-end-begin}
-use Rattle.groups.proofs.PairedLaws.{put-stores-turn, put-stores-end-turn, put-stores-room-turn}
-use Rattle.groups.proofs.PairedLaws.{put-stores-done, put-stores-end-done}
 use Rattle.groups.proofs.put_stores.Given as goal
 
 abbrev pub invariant-loop-from : goal.invariant-loop-from

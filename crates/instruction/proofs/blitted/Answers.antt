@@ -1,6 +1,5 @@
 -- `instruction::blitted` meets its contract: the MOVE answers what its blit answers.
 use Rattle.instruction.proofs.EffectLaws.{blitted-when-done, blitted-when-refused}
-use Rattle.word.proofs.Base.{rules}
 use Rattle.instruction.proofs.blitted.Goals as goal
 
 pub returns-in-Done : goal.returns-in-Done

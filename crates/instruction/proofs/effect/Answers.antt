@@ -1,5 +1,5 @@
 -- `instruction::effect` meets its contract: 23 comes first, then the instruction that stands there.
-use Rattle.word.proofs.Base.{arith, rules}
+use Rattle.word.proofs.Base.{arith}
 use Rattle.instruction.proofs.EffectLaws.{effect-when-outside, effect-when-inside}
 use Rattle.instruction.proofs.effect.Goals as goal
 

@@ -1,6 +1,5 @@
 -- `instruction::instruction_effect` meets its contract: each kind has its own effect.
 use Rattle.instruction.proofs.EffectLaws.{instruction_effect-of-move, instruction_effect-of-wait, instruction_effect-of-skip}
-use Rattle.word.proofs.Base.{rules}
 use Rattle.instruction.proofs.instruction_effect.Goals as goal
 
 pub returns-in-Move : goal.returns-in-Move

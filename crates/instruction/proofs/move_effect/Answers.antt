@@ -1,6 +1,5 @@
 -- `instruction::move_effect` meets its contract: 21, then 22, then the blit or the register.
 use Rattle.instruction.proofs.EffectLaws.{instruction_effect-when-forbidden, instruction_effect-when-not-modelled, instruction_effect-of-size, instruction_effect-of-register}
-use Rattle.word.proofs.Base.{rules}
 use Rattle.instruction.proofs.move_effect.Goals as goal
 
 pub returns-then-not-may : goal.returns-then-not-may

@@ -1,6 +1,5 @@
 -- `instruction::skipped` meets its contract: one test decides.
 use Rattle.instruction.proofs.EffectLaws.{skipped-when-satisfied, skipped-when-not}
-use Rattle.word.proofs.Base.{rules}
 use Rattle.instruction.proofs.skipped.Goals as goal
 
 pub returns-then-satisfied : goal.returns-then-satisfied

@@ -1,6 +1,5 @@
 -- `learning::forget_pointer` meets its contract, used or not.
 use Rattle.learning.proofs.LearnLaws.{forget_pointer-when-used, forget_pointer-when-unused}
-use Rattle.word.proofs.Base.{rules}
 use Rattle.learning.proofs.forget_pointer.Goals as goal
 
 pub returns-then-used : goal.returns-then-used

@@ -1,6 +1,5 @@
 -- `learning::forget_source` meets its contract, used or not.
 use Rattle.learning.proofs.LearnLaws.{forget_source-when-used, forget_source-when-unused}
-use Rattle.word.proofs.Base.{rules}
 use Rattle.learning.proofs.forget_source.Goals as goal
 
 pub returns-then-used : goal.returns-then-used

@@ -1,6 +1,5 @@
 -- `learning::may_use` meets its contract: the channels of a known BLTCON0, else all.
 use Rattle.learning.proofs.LearnLaws.{may_use-when-known, may_use-when-unknown}
-use Rattle.word.proofs.Base.{rules}
 use Rattle.learning.proofs.may_use.Goals as goal
 
 pub returns-in-Is : goal.returns-in-Is

@@ -1,6 +1,5 @@
 -- `learning::written` meets its contract: the kept bits.
 use Rattle.learning.proofs.LearnLaws.{written-of-parts}
-use Rattle.word.proofs.Base.{rules}
 use Rattle.learning.proofs.written.Goals as goal
 
 pub returns : goal.returns

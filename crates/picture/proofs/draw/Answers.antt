@@ -1,5 +1,5 @@
 -- `picture::draw` meets its contract: the planes make the pixels' colour numbers, which are written as colours.
-use Rattle.word.proofs.Base.{refl, rules}
+use Rattle.word.proofs.Base.{refl}
 use Rattle.playfield.specs.Inner.Numbers.{room}
 use Rattle.playfield.proofs.NumbersLaws.{zeros-small}
 use Rattle.playfield.proofs.PlanesLaws.{numbered-small}

@@ -1,6 +1,5 @@
 -- the answers that are left
-use Rattle.word.proofs.Base.{◌≡◌, ◌-◌, ◌≤◌, rules, arith}
-use Rattle.playfield.specs.Inner.Numbers.{words_pixel, Grown}
+use Rattle.word.proofs.Base.{◌≡◌, rules, arith}
 use Rattle.playfield.proofs.NumbersLaws.{grown-none}
 use Rattle.playfield.proofs.PlanesLaws.{words_pixel-none, words_pixel-lt, grown-small, plane-turn}
 use Rattle.playfield.proofs.lay_plane.Goals as goal

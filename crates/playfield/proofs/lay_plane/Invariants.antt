@@ -1,8 +1,6 @@
 -- `playfield::lay_plane` meets its contract: each turn lays one word more.
-use Rattle.word.proofs.Base.{◌≡◌, ◌-◌, ◌≤◌, rules, arith}
+use Rattle.word.proofs.Base.{◌-◌, ◌≤◌}
 use Rattle.playfield.specs.Inner.Numbers.{words_pixel, Grown}
-use Rattle.playfield.proofs.NumbersLaws.{grown-none}
-use Rattle.playfield.proofs.PlanesLaws.{words_pixel-none, words_pixel-lt, grown-small, plane-turn}
 use Rattle.playfield.proofs.lay_plane.Given as goal
 
 abbrev pub invariant-loop-word : goal.invariant-loop-word

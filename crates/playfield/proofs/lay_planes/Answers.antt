@@ -1,7 +1,5 @@
 -- the answers that are left
-use Rattle.word.proofs.Base.{◌≡◌, ◌-◌, ◌≤◌, arith, rules, length}
-use Rattle.playfield.specs.Playfield.{playfield}
-use Rattle.playfield.specs.Inner.Numbers.{Numbered}
+use Rattle.word.proofs.Base.{◌≡◌, arith, rules, length}
 use Rattle.playfield.proofs.PlanesLaws.{numbered-none, numbered-turn}
 use Rattle.playfield.proofs.PlanesLaws.{drawable-inside, drawable-delay, drawable-weight, drawable-small}
 use Rattle.playfield.proofs.lay_planes.Goals as goal

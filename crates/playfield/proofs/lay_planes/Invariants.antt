@@ -1,9 +1,7 @@
 -- `playfield::lay_planes` meets its contract: each turn lays one plane more, whose pixels are the numbers' next bit.
-use Rattle.word.proofs.Base.{◌≡◌, ◌-◌, ◌≤◌, arith, rules, length}
+use Rattle.word.proofs.Base.{◌-◌, ◌≤◌, length}
 use Rattle.playfield.specs.Playfield.{playfield}
 use Rattle.playfield.specs.Inner.Numbers.{Numbered}
-use Rattle.playfield.proofs.PlanesLaws.{numbered-none, numbered-turn}
-use Rattle.playfield.proofs.PlanesLaws.{drawable-inside, drawable-delay, drawable-weight, drawable-small}
 use Rattle.playfield.proofs.lay_planes.Given as goal
 
 abbrev pub invariant-loop-place : goal.invariant-loop-place

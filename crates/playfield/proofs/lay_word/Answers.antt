@@ -1,6 +1,5 @@
 -- the answers that are left
-use Rattle.word.proofs.Base.{◌≡◌, refl, ◌-◌, ◌≤◌, arith, rules}
-use Rattle.playfield.specs.Inner.Numbers.{word_pixel, Grown}
+use Rattle.word.proofs.Base.{◌≡◌, refl, arith, rules}
 use Rattle.playfield.proofs.NumbersLaws.{word_pixel-none, grown-none, word_sum, word-turn}
 use Rattle.playfield.proofs.lay_word.Goals as goal
 
@@ -9,10 +8,10 @@ loop-pixel-init c = (search rules, grown-none _ _ _ (search rules) (word_pixel-n
 
 pub overflow_add-numbers : goal.overflow_add-numbers
 overflow_add-numbers c = omega (
-      arith,
-      word_sum _ _ _ _ _ _ c.loop-pixel.invariant.1 _ 31 _
-          c.pixel_place-at.ensures c.requires.3 c.share.ensures,
-    )
+  arith,
+  word_sum _ _ _ _ _ _ c.loop-pixel.invariant.1 _ 31 _
+      c.pixel_place-at.ensures c.requires.3 c.share.ensures,
+)
 
 pub loop-pixel-preserved : goal.loop-pixel-preserved
 loop-pixel-preserved c = (

@@ -1,7 +1,6 @@
 -- `playfield::lay_word` meets its contract: each turn lays one bit more.
-use Rattle.word.proofs.Base.{◌≡◌, refl, ◌-◌, ◌≤◌, arith, rules}
+use Rattle.word.proofs.Base.{◌-◌, ◌≤◌}
 use Rattle.playfield.specs.Inner.Numbers.{word_pixel, Grown}
-use Rattle.playfield.proofs.NumbersLaws.{word_pixel-none, grown-none, word_sum, word-turn}
 use Rattle.playfield.proofs.lay_word.Given as goal
 
 abbrev pub invariant-loop-pixel : goal.invariant-loop-pixel

@@ -1,5 +1,5 @@
 -- `playfield::mask` meets its contract: a shift of one makes a power of two.
-use Rattle.word.proofs.Base.{arith, rules}
+use Rattle.word.proofs.Base.{arith}
 use Rattle.playfield.proofs.NumbersLaws.{power}
 use Rattle.playfield.proofs.mask.Goals as goal
 

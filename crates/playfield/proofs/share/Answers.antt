@@ -1,5 +1,5 @@
 -- `playfield::share` meets its contract: a word masked to one bit is nought where that bit is.
-use Rattle.word.proofs.Base.{◌≡◌, sym, ap, ◌∙◌, ℕ, ◌+◌, ◌-◌, ◌*◌, ◌^◌, one-add, arith, rules, bit_and}
+use Rattle.word.proofs.Base.{◌≡◌, sym, ap, ◌∙◌, ℕ, ◌+◌, ◌-◌, ◌*◌, ◌^◌, one-add, arith, bit_and}
 use lib.Bits.{and_high}
 use lib.Pow.{pow_pos}
 use native.Mathlib.Nat.{pow-succ'}

@@ -1,5 +1,5 @@
 -- `playfield::weight` meets its contract: a shift of one makes a power of two.
-use Rattle.word.proofs.Base.{arith, rules}
+use Rattle.word.proofs.Base.{arith}
 use Rattle.playfield.proofs.NumbersLaws.{power}
 use Rattle.playfield.proofs.weight.Goals as goal
 

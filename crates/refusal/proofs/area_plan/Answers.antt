@@ -1,5 +1,5 @@
 -- `refusal::area_plan` meets its contract, field by field.
-use Rattle.word.proofs.Base.{refl, arith, rules}
+use Rattle.word.proofs.Base.{refl, arith}
 use Rattle.word.proofs.SizeLaws.{height-le, width-le}
 use Rattle.refusal.proofs.area_plan.Goals as goal
 

@@ -1,5 +1,5 @@
 -- `refusal::both_fills` meets its contract: the two bits.
-use Rattle.word.proofs.Base.{refl, rules}
+use Rattle.word.proofs.Base.{refl}
 use Rattle.refusal.specs.Refusal.{both_fills}
 use Rattle.refusal.proofs.both_fills.Goals as goal
 

@@ -1,5 +1,5 @@
 -- `refusal::fill_upward` meets its contract: the three bits.
-use Rattle.word.proofs.Base.{refl, rules}
+use Rattle.word.proofs.Base.{refl}
 use Rattle.refusal.specs.Refusal.{fill_upward}
 use Rattle.refusal.proofs.fill_upward.Goals as goal
 

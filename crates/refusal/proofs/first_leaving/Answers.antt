@@ -1,6 +1,6 @@
 -- `refusal::first_leaving` meets its contract: the channels one after the other, the first that leaves decides.
 use Rattle.refusal.proofs.RefusalLaws.{leaving-by-a, leaving-by-b, leaving-by-c, leaving-by-d, leaving-by-none}
-use Rattle.word.proofs.Base.{refl, rules}
+use Rattle.word.proofs.Base.{refl}
 use Rattle.refusal.proofs.first_leaving.Goals as goal
 
 pub returns-then-channel_leaves : goal.returns-then-channel_leaves

@@ -1,5 +1,5 @@
 -- `refusal::leaving` meets its contract: no channel leaves memory that no pointer does.
-use Rattle.word.proofs.Base.{refl, rules}
+use Rattle.word.proofs.Base.{refl}
 use Rattle.refusal.proofs.RefusalLaws.{leaving-at-end}
 use Rattle.refusal.proofs.leaving.Goals as goal
 

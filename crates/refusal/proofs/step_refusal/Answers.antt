@@ -1,5 +1,4 @@
 -- `refusal::step_refusal` meets its contract: by the line bit, a line's rules or an area blit's.
-use Rattle.word.proofs.Base.{rules}
 use Rattle.refusal.proofs.RefusalLaws.{refused-by-line, refused-by-area, handed-by-line, handed-by-area}
 use Rattle.refusal.proofs.step_refusal.Goals as goal
 

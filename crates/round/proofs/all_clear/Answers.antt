@@ -1,5 +1,4 @@
 -- `round::all_clear` meets its contract: it says yes only where each channel's look does.
-use Rattle.word.proofs.Base.{rules, not-false}
 use Rattle.word.proofs.EvenLaws.{nothing-promised}
 use Rattle.round.proofs.AreaLaws.{area_round-of-none}
 use Rattle.round.proofs.all_clear.Goals as goal

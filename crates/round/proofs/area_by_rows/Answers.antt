@@ -1,5 +1,4 @@
 -- `round::area_by_rows` meets its contract: the channels in their order, the first that goes round decides.
-use Rattle.word.proofs.Base.{rules}
 use Rattle.round.proofs.AreaLaws.{area_round-when-a, area_round-when-b, area_round-when-c, area_round-when-last}
 use Rattle.round.proofs.area_by_rows.Goals as goal
 

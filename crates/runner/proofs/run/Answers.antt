@@ -1,7 +1,6 @@
 -- `runner::run` meets its contract: the tests before the first step are the rules of the list, in the list's order.
 use Rattle.runner.proofs.RunLaws.{run-by-memory, run-by-file, run-by-length, run-by-steps}
 use Rattle.job.proofs.LengthLaws.{job_length-when-short}
-use Rattle.word.proofs.Base.{rules}
 use Rattle.runner.proofs.run.Goals as goal
 
 pub returns-then-memory_size : goal.returns-then-memory_size

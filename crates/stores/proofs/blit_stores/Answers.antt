@@ -1,11 +1,8 @@
 -- the answers that are left
-use Rattle.word.proofs.Base.{◌≡◌, ◌+◌, ◌*◌, ◌<◌, ◌≤◌, rules, [], length}
-use Rattle.word.specs.Laid.{laid}
+use Rattle.word.proofs.Base.{rules}
 use Rattle.word.proofs.RepeatLaws.{repeated-turn, repeated-done}
-use Rattle.area.specs.Flow.{state}
-use Rattle.area.specs.Rows.{rows}
 use Rattle.stores.specs.Stores as specs
-use Rattle.stores.specs.Stores.{Store, blit_stores}
+use Rattle.stores.specs.Stores.{Store}
 use Rattle.area.proofs.RowsLaws.{rows-room}
 use Rattle.stores.proofs.LaidLaws.{blit-turn, blit-done}
 use Rattle.stores.proofs.blit_stores.Goals as goal

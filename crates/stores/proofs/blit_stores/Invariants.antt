@@ -1,14 +1,11 @@
 -- `stores::blit_stores` meets its contract: what remains of the rows from here gives what the whole gives.
 -- The facts of a row are named by their paths: the structs hold more records than a search looks into.
-use Rattle.word.proofs.Base.{◌≡◌, ◌+◌, ◌*◌, ◌<◌, ◌≤◌, rules, [], length}
+use Rattle.word.proofs.Base.{◌≡◌, ◌+◌, ◌*◌, ◌<◌, ◌≤◌, [], length}
 use Rattle.word.specs.Laid.{laid}
-use Rattle.word.proofs.RepeatLaws.{repeated-turn, repeated-done}
 use Rattle.area.specs.Flow.{state}
 use Rattle.area.specs.Rows.{rows}
 use Rattle.stores.specs.Stores as specs
-use Rattle.stores.specs.Stores.{Store, blit_stores}
-use Rattle.area.proofs.RowsLaws.{rows-room}
-use Rattle.stores.proofs.LaidLaws.{blit-turn, blit-done}
+use Rattle.stores.specs.Stores.{blit_stores}
 use Rattle.stores.proofs.blit_stores.Given as goal
 
 abbrev pub invariant-loop-remaining : goal.invariant-loop-remaining

@@ -1,5 +1,5 @@
 -- `stores::finish` meets its contract, field by field.
-use Rattle.word.proofs.Base.{refl, rules}
+use Rattle.word.proofs.Base.{refl}
 use Rattle.area.specs.Finish.{final, finish}
 use Rattle.stores.proofs.finish.Goals as goal
 

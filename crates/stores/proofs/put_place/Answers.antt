@@ -1,5 +1,5 @@
 -- `stores::put_place` meets its contract: past the end nothing is set.
-use Rattle.word.proofs.Base.{sym, rules, set_out}
+use Rattle.word.proofs.Base.{sym, set_out}
 use Rattle.stores.proofs.put_place.Goals as goal
 
 pub returns-else-i-places : goal.returns-else-i-places

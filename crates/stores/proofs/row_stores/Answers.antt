@@ -1,12 +1,9 @@
 -- the answers that are left
-use Rattle.word.proofs.Base.{◌≡◌, ◌+◌, ◌<◌, ◌≤◌, rules, [], length}
-use Rattle.word.specs.Laid.{laid}
+use Rattle.word.proofs.Base.{rules}
 use Rattle.word.proofs.RepeatLaws.{repeated-turn, repeated-done}
-use Rattle.area.specs.Flow.{state}
-use Rattle.area.specs.Rows.{words}
 use Rattle.area.proofs.RowsLaws.{words-room}
 use Rattle.stores.specs.Stores as specs
-use Rattle.stores.specs.Stores.{Store, row_stores}
+use Rattle.stores.specs.Stores.{Store}
 use Rattle.stores.proofs.LaidLaws.{row-turn, row_done}
 use Rattle.stores.proofs.row_stores.Goals as goal
 

@@ -1,14 +1,11 @@
 -- `stores::row_stores` meets its contract: what remains of the row from here gives what the whole gives.
 -- The facts of a step are named by their paths: the structs hold more records than a search looks into.
-use Rattle.word.proofs.Base.{◌≡◌, ◌+◌, ◌<◌, ◌≤◌, rules, [], length}
+use Rattle.word.proofs.Base.{◌≡◌, ◌+◌, ◌<◌, ◌≤◌, [], length}
 use Rattle.word.specs.Laid.{laid}
-use Rattle.word.proofs.RepeatLaws.{repeated-turn, repeated-done}
 use Rattle.area.specs.Flow.{state}
 use Rattle.area.specs.Rows.{words}
-use Rattle.area.proofs.RowsLaws.{words-room}
 use Rattle.stores.specs.Stores as specs
-use Rattle.stores.specs.Stores.{Store, row_stores}
-use Rattle.stores.proofs.LaidLaws.{row-turn, row_done}
+use Rattle.stores.specs.Stores.{row_stores}
 use Rattle.stores.proofs.row_stores.Given as goal
 
 abbrev pub invariant-loop-remaining : goal.invariant-loop-remaining

@@ -1,7 +1,5 @@
 -- the answers that are left
-use Rattle.word.proofs.Base.{◌≡◌, ◌<◌, rules}
-use Rattle.word.specs.Repeat.{repeated}
-use Rattle.word.specs.Pointer.{pointer_end, next_row}
+use Rattle.word.proofs.Base.{rules}
 use Rattle.word.proofs.RepeatLaws.{repeated-turn, repeated-done}
 use Rattle.stores.proofs.rows_on.Goals as goal
 

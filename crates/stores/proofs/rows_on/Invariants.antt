@@ -1,8 +1,7 @@
 -- `stores::rows_on` meets its contract: what remains of the rows from here goes to the same end.
-use Rattle.word.proofs.Base.{◌≡◌, ◌<◌, rules}
+use Rattle.word.proofs.Base.{◌≡◌, ◌<◌}
 use Rattle.word.specs.Repeat.{repeated}
 use Rattle.word.specs.Pointer.{pointer_end, next_row}
-use Rattle.word.proofs.RepeatLaws.{repeated-turn, repeated-done}
 use Rattle.stores.proofs.rows_on.Given as goal
 
 abbrev pub invariant-loop-remaining : goal.invariant-loop-remaining

@@ -1,9 +1,5 @@
 -- the answers that are left
-use Rattle.word.proofs.Base.{◌≡◌, ◌-◌, ◌≤◌, rules, length, drop}
-use Rattle.word.specs.Laid.{laid}
-use Rattle.file.specs.Places.{file_length}
-use Rattle.widen.specs.Old.{old_length}
-use Rattle.widen.specs.Widen.{widened}
+use Rattle.word.proofs.Base.{◌-◌, rules}
 use Rattle.widen.proofs.WidenLaws.{widened-turn, widened-done}
 use Rattle.widen.proofs.lay.Goals as goal
 

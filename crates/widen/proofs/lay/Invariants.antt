@@ -1,10 +1,9 @@
 -- `widen::lay` meets its contract: the words from here on give what all give.
-use Rattle.word.proofs.Base.{◌≡◌, ◌-◌, ◌≤◌, rules, length, drop}
+use Rattle.word.proofs.Base.{◌≡◌, ◌-◌, ◌≤◌, length, drop}
 use Rattle.word.specs.Laid.{laid}
 use Rattle.file.specs.Places.{file_length}
 use Rattle.widen.specs.Old.{old_length}
 use Rattle.widen.specs.Widen.{widened}
-use Rattle.widen.proofs.WidenLaws.{widened-turn, widened-done}
 use Rattle.widen.proofs.lay.Given as goal
 
 abbrev pub invariant-loop-place : goal.invariant-loop-place

@@ -1,5 +1,5 @@
 -- `widen::lay_word` meets its contract: the word is the new file's.
-use Rattle.word.proofs.Base.{◌≡◌, ℕ, rules, List, get_or, set}
+use Rattle.word.proofs.Base.{◌≡◌, ℕ, List, get_or, set}
 use Rattle.widen.specs.Widen.{widened}
 use Rattle.widen.proofs.lay_word.Goals as goal
 

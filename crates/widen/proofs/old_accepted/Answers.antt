@@ -1,6 +1,5 @@
 -- `widen::old_accepted` meets its contract: the length, then the first 19 words and the flag.
 use Rattle.widen.proofs.OldLaws.{old_accepted-of-length, old_accepted-of-kept}
-use Rattle.word.proofs.Base.{rules}
 use Rattle.widen.proofs.old_accepted.Goals as goal
 
 pub returns-then-old-ne20 : goal.returns-then-old-ne20

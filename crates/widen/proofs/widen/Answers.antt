@@ -1,7 +1,6 @@
 -- `widen::widen` meets its contract: the old file, then the target's length, each refused before anything is written.
 use Rattle.widen.proofs.OldLaws.{old_accepted-length-told}
 use Rattle.widen.proofs.WidenLaws.{widening-of-old-file, widening-of-target-length, widening-when-done}
-use Rattle.word.proofs.Base.{rules}
 use Rattle.widen.proofs.widen.Goals as goal
 
 pub returns-then-not-old_accepted : goal.returns-then-not-old_accepted

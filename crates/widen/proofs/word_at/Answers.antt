@@ -1,6 +1,5 @@
 -- `widen::word_at` meets its contract: the first 19 words, the flag, and 0 between them.
 use Rattle.widen.proofs.WidenLaws.{widened-of-blitter, widened-of-flag, widened-of-screen}
-use Rattle.word.proofs.Base.{rules}
 use Rattle.widen.proofs.word_at.Goals as goal
 
 pub returns-then-place-lt19 : goal.returns-then-place-lt19

@@ -1,5 +1,5 @@
 -- `apart::span::around` meets its contract.
-use Rattle.word.proofs.Base.{sym, rules}
+use Rattle.word.proofs.Base.{sym}
 use Rattle.block.proofs.EachLaws.{never}
 use Rattle.apart.proofs.span.around.Goals as goal
 

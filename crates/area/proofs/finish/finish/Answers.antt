@@ -1,12 +1,12 @@
 -- `area::finish::finish` meets its contract, field by field.
-use Rattle.word.proofs.Base.{refl, rules}
+use Rattle.word.proofs.Base.{refl}
 use Rattle.area.specs.Finish.{final, finish}
 use Rattle.area.proofs.finish.finish.Goals as goal
 
 pub returns : goal.returns
 unfolding finish final
 returns c = rw (
-      c.filled-filled.ensures,
-      c.result.ensures,
-      c.masked_a-masked.ensures,
-    ) refl
+  c.filled-filled.ensures,
+  c.result.ensures,
+  c.masked_a-masked.ensures,
+) refl

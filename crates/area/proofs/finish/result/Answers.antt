@@ -1,5 +1,5 @@
 -- `area::finish::result_word` meets its contract: the shifts' and the logic function's, one in the other.
-use Rattle.word.proofs.Base.{◌≡◌, refl, ℕ, rules}
+use Rattle.word.proofs.Base.{◌≡◌, refl, ℕ}
 use Rattle.word.specs.Shift.{shifted}
 use Rattle.word.specs.Logic.{logic}
 use Rattle.area.specs.declared.types.Flow.{Flow}

@@ -1,5 +1,5 @@
 -- `area::flow::sources` meets its contract, field by field.
-use Rattle.word.proofs.Base.{refl, rules}
+use Rattle.word.proofs.Base.{refl}
 use Rattle.area.specs.Flow.{sources}
 use Rattle.area.proofs.flow.sources.Goals as goal
 

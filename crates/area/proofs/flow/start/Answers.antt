@@ -1,5 +1,5 @@
 -- `area::flow::start` meets its contract: the flow from the file's pointers.
-use Rattle.word.proofs.Base.{refl, rules}
+use Rattle.word.proofs.Base.{refl}
 use Rattle.area.specs.Flow.{start}
 use Rattle.area.proofs.flow.start.Goals as goal
 

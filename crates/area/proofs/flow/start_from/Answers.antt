@@ -1,5 +1,5 @@
 -- `area::flow::start_from` meets its contract, field by field.
-use Rattle.word.proofs.Base.{refl, rules}
+use Rattle.word.proofs.Base.{refl}
 use Rattle.area.proofs.flow.start_from.Goals as goal
 
 pub returns : goal.returns

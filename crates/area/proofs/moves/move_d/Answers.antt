@@ -1,5 +1,5 @@
 -- `area::moves::move_d` meets its contract: D's pointer alone has moved.
-use Rattle.word.proofs.Base.{refl, rules}
+use Rattle.word.proofs.Base.{refl}
 use Rattle.area.proofs.moves.move_d.Goals as goal
 
 pub returns : goal.returns

@@ -1,6 +1,5 @@
 -- `area::setup::direction` meets its contract: the test is the bit's.
 use Rattle.area.proofs.SetupLaws.{direction-when-down, direction-when-up}
-use Rattle.word.proofs.Base.{rules}
 use Rattle.area.proofs.setup.direction.Goals as goal
 
 pub returns-then-descending : goal.returns-then-descending

@@ -1,6 +1,5 @@
 -- `area::setup::fill` meets its contract: the tests are the bits', in the definition's order.
 use Rattle.area.proofs.SetupLaws.{fill-when-exclusive, fill-when-inclusive, fill-when-off}
-use Rattle.word.proofs.Base.{rules}
 use Rattle.area.proofs.setup.fill.Goals as goal
 
 pub returns-then-exclusive_fill : goal.returns-then-exclusive_fill

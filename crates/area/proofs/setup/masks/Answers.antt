@@ -1,5 +1,5 @@
 -- `area::setup::masks` meets its contract, field by field.
-use Rattle.word.proofs.Base.{refl, rules}
+use Rattle.word.proofs.Base.{refl}
 use Rattle.area.specs.Setup.{masks}
 use Rattle.area.proofs.setup.masks.Goals as goal
 

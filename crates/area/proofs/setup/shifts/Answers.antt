@@ -1,5 +1,5 @@
 -- `area::setup::shifts` meets its contract, field by field.
-use Rattle.word.proofs.Base.{refl, rules}
+use Rattle.word.proofs.Base.{refl}
 use Rattle.area.specs.Setup.{shifts}
 use Rattle.area.proofs.setup.shifts.Goals as goal
 

@@ -1,7 +1,6 @@
 -- `blit::done::area_done` meets its contract: what all rows leave is written back.
 use Rattle.round.proofs.RangeLaws.{area-in-range}
 use Rattle.blit.proofs.BlitLaws.{area_done-of-parts}
-use Rattle.word.proofs.Base.{rules}
 use Rattle.blit.proofs.done.area_done.Goals as goal
 
 pub area_round-round-requires : goal.area_round-round-requires

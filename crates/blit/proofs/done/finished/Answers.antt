@@ -1,7 +1,6 @@
 -- `blit::done::finished` meets its contract: all rows by the plan. The facts are named, for `search` reads too few of them.
 use Rattle.blit.proofs.BlitLaws.{plan-shifts-a, plan-shifts-b, start-a, start-b, start-c, start-d, start-nothing, start-room, finished-of-parts}
 use Rattle.refusal.proofs.RefusalLaws.{plan-some-words, plan-few-words, plan-some-rows, plan-few-rows}
-use Rattle.word.proofs.Base.{rules}
 use Rattle.blit.proofs.done.finished.Goals as goal
 
 pub area_blit-requires : goal.area_blit-requires

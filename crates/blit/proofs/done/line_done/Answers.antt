@@ -2,7 +2,6 @@
 use Rattle.refusal.proofs.RefusalLaws.{first-lt, first-shift-lt, first-bit-lt}
 use Rattle.round.proofs.RangeLaws.{line-in-range}
 use Rattle.blit.proofs.BlitLaws.{course-room, line_done-of-parts}
-use Rattle.word.proofs.Base.{rules}
 use Rattle.blit.proofs.done.line_done.Goals as goal
 
 pub line_blit-drawn-requires : goal.line_blit-drawn-requires

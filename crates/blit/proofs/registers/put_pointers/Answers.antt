@@ -1,5 +1,5 @@
 -- `blit::registers::put_pointers` meets its contract: channel after channel.
-use Rattle.word.proofs.Base.{◌≡◌, refl, ℕ, rules, List}
+use Rattle.word.proofs.Base.{◌≡◌, refl, ℕ, List}
 use Rattle.file.specs.Places.{pointer_a, pointer_b, pointer_c, pointer_d}
 use Rattle.word.specs.declared.types.Uses.{Uses}
 use Rattle.area.specs.declared.types.Pointers.{Pointers}

@@ -1,5 +1,5 @@
 -- `blit::registers::put_sources` meets its contract: source after source.
-use Rattle.word.proofs.Base.{◌≡◌, refl, ℕ, rules, List}
+use Rattle.word.proofs.Base.{◌≡◌, refl, ℕ, List}
 use Rattle.file.specs.Places.{source_a, source_b, source_c}
 use Rattle.word.specs.declared.types.Uses.{Uses}
 use Rattle.area.specs.declared.types.Sources.{Sources}

@@ -1,7 +1,5 @@
 -- the answers that are left
-use Rattle.word.proofs.Base.{◌≡◌, ◌-◌, ◌≤◌, arith, rules, length}
-use Rattle.block.specs.Inner.Each.{Laid}
-use Rattle.block.specs.Inner.Place.{fetched_in}
+use Rattle.word.proofs.Base.{◌-◌, arith, rules}
 use Rattle.block.proofs.EachLaws.{laid_none, laid_done}
 use Rattle.block.proofs.PlaceLaws.{place-reaches, place_inside, fetch-turn}
 use Rattle.block.proofs.fetch.row.Goals as goal

@@ -1,9 +1,7 @@
 -- `block::fetch::row` meets its contract: each turn fetches one word more.
-use Rattle.word.proofs.Base.{◌≡◌, ◌-◌, ◌≤◌, arith, rules, length}
+use Rattle.word.proofs.Base.{◌≡◌, ◌-◌, ◌≤◌, length}
 use Rattle.block.specs.Inner.Each.{Laid}
 use Rattle.block.specs.Inner.Place.{fetched_in}
-use Rattle.block.proofs.EachLaws.{laid_none, laid_done}
-use Rattle.block.proofs.PlaceLaws.{place-reaches, place_inside, fetch-turn}
 use Rattle.block.proofs.fetch.row.Given as goal
 
 abbrev pub invariant-loop-i : goal.invariant-loop-i

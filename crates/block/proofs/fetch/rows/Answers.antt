@@ -1,9 +1,7 @@
 -- the answers that are left
-use Rattle.word.proofs.Base.{◌≡◌, refl, ◌-◌, arith, rules, length}
-use Rattle.block.specs.Inner.Each.{Each}
-use Rattle.block.specs.Inner.Place.{fetched_at}
+use Rattle.word.proofs.Base.{refl, ◌-◌, arith, rules}
 use Rattle.block.proofs.EachLaws.{each_none, reached-fits, each_fewer, reached-done}
-use Rattle.block.proofs.PlaceLaws.{Walks, walks-none, walks-inside, walks_turn, fetch-rows-turn}
+use Rattle.block.proofs.PlaceLaws.{walks-none, walks-inside, walks_turn, fetch-rows-turn}
 use Rattle.block.proofs.fetch.rows.Goals as goal
 
 pub loop-number-init : goal.loop-number-init

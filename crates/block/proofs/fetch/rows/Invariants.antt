@@ -1,9 +1,8 @@
 -- `block::fetch::rows` meets its contract, row by row.
-use Rattle.word.proofs.Base.{◌≡◌, refl, ◌-◌, arith, rules, length}
+use Rattle.word.proofs.Base.{◌≡◌, ◌-◌, length}
 use Rattle.block.specs.Inner.Each.{Each}
 use Rattle.block.specs.Inner.Place.{fetched_at}
-use Rattle.block.proofs.EachLaws.{each_none, reached-fits, each_fewer, reached-done}
-use Rattle.block.proofs.PlaceLaws.{Walks, walks-none, walks-inside, walks_turn, fetch-rows-turn}
+use Rattle.block.proofs.PlaceLaws.{Walks}
 use Rattle.block.proofs.fetch.rows.Given as goal
 
 abbrev pub invariant-loop-number : goal.invariant-loop-number

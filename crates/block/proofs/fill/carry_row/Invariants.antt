@@ -1,7 +1,6 @@
 -- `block::fill::carry_row` meets its contract: what turns a word over is the carry that comes to it.
-use Rattle.word.proofs.Base.{refl, ◌-◌, ◌≤◌, arith, rules}
+use Rattle.word.proofs.Base.{◌-◌, ◌≤◌}
 use Rattle.block.specs.Inner.Carry.{RowFilled}
-use Rattle.block.proofs.FillLaws.{row-filled-none, row-filled-turn, row-filled-done}
 use Rattle.block.proofs.fill.carry_row.Given as goal
 
 abbrev pub invariant-loop-i : goal.invariant-loop-i

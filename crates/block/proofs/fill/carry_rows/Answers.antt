@@ -1,7 +1,6 @@
 -- the answers that are left
-use Rattle.word.proofs.Base.{◌-◌, ◌*◌, arith, rules}
-use Rattle.block.specs.Inner.Carry.{RowsFilled}
-use Rattle.block.proofs.EachLaws.{Reached, reached-none, reached-fits, reached-turn, reached-done}
+use Rattle.word.proofs.Base.{◌-◌, arith, rules}
+use Rattle.block.proofs.EachLaws.{reached-none, reached-fits, reached-turn, reached-done}
 use Rattle.block.proofs.FillLaws.{rows-filled-none, rows-filled-turn}
 use Rattle.block.proofs.fill.carry_rows.Goals as goal
 

@@ -1,8 +1,7 @@
 -- `block::fill::carry_rows` meets its contract, row by row.
-use Rattle.word.proofs.Base.{◌-◌, ◌*◌, arith, rules}
+use Rattle.word.proofs.Base.{◌-◌, ◌*◌}
 use Rattle.block.specs.Inner.Carry.{RowsFilled}
-use Rattle.block.proofs.EachLaws.{Reached, reached-none, reached-fits, reached-turn, reached-done}
-use Rattle.block.proofs.FillLaws.{rows-filled-none, rows-filled-turn}
+use Rattle.block.proofs.EachLaws.{Reached}
 use Rattle.block.proofs.fill.carry_rows.Given as goal
 
 abbrev pub invariant-loop-row : goal.invariant-loop-row

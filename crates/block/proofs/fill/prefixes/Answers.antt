@@ -3,7 +3,7 @@ use Rattle.word.proofs.Base.{ap, ◌-◌, rules}
 use Rattle.word.specs.declared.types.Filled.{Filled}
 use Rattle.word.specs.Fill.{filled}
 use Rattle.block.specs.Inner.Each.{at, prefix_at}
-use Rattle.block.proofs.EachLaws.{SetTo, set-none, set-turn, set-done}
+use Rattle.block.proofs.EachLaws.{set-none, set-turn, set-done}
 use Rattle.block.proofs.fill.prefixes.Goals as goal
 
 pub loop-i-init : goal.loop-i-init

@@ -1,9 +1,7 @@
 -- `block::fill::prefixes` meets its contract: each turn fills one word more.
-use Rattle.word.proofs.Base.{ap, ◌-◌, rules}
-use Rattle.word.specs.declared.types.Filled.{Filled}
-use Rattle.word.specs.Fill.{filled}
+use Rattle.word.proofs.Base.{◌-◌}
 use Rattle.block.specs.Inner.Each.{at, prefix_at}
-use Rattle.block.proofs.EachLaws.{SetTo, set-none, set-turn, set-done}
+use Rattle.block.proofs.EachLaws.{SetTo}
 use Rattle.block.proofs.fill.prefixes.Given as goal
 
 abbrev pub invariant-loop-i : goal.invariant-loop-i

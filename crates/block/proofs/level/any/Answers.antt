@@ -1,6 +1,5 @@
 -- the answers that are left
-use Rattle.word.proofs.Base.{◌≡◌, ◌-◌, ◌≤◌, eqb, rules}
-use Rattle.block.specs.Inner.Each.{nought, at}
+use Rattle.word.proofs.Base.{◌-◌, rules}
 use Rattle.block.proofs.EachLaws.{nought-none, nought-turn, nought-done}
 use Rattle.block.proofs.level.any.Goals as goal
 

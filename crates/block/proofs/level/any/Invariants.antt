@@ -1,7 +1,6 @@
 -- `block::level::any` meets its contract: the OR of words is nought where each is.
-use Rattle.word.proofs.Base.{◌≡◌, ◌-◌, ◌≤◌, eqb, rules}
+use Rattle.word.proofs.Base.{◌≡◌, ◌-◌, ◌≤◌, eqb}
 use Rattle.block.specs.Inner.Each.{nought, at}
-use Rattle.block.proofs.EachLaws.{nought-none, nought-turn, nought-done}
 use Rattle.block.proofs.level.any.Given as goal
 
 abbrev pub invariant-loop-i : goal.invariant-loop-i

@@ -1,7 +1,7 @@
 -- `block::level::level` meets its contract: each turn lays the word once more.
-use Rattle.word.proofs.Base.{refl, ◌-◌, rules}
+use Rattle.word.proofs.Base.{◌-◌}
 use Rattle.block.specs.Inner.Each.{level_at}
-use Rattle.block.proofs.EachLaws.{SetTo, set-none, set-turn, set-done}
+use Rattle.block.proofs.EachLaws.{SetTo}
 use Rattle.block.proofs.level.level.Given as goal
 
 abbrev pub invariant-loop-i : goal.invariant-loop-i

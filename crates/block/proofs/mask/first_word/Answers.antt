@@ -1,5 +1,5 @@
 -- `block::mask::first_word` meets its contract: what a slice of words holds are words.
-use Rattle.word.proofs.Base.{arith, rules}
+use Rattle.word.proofs.Base.{arith}
 use Rattle.block.proofs.mask.first_word.Goals as goal
 
 pub returns : goal.returns

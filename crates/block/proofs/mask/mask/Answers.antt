@@ -1,8 +1,6 @@
 -- the answers that are left
-use Rattle.word.proofs.Base.{◌≡◌, ◌-◌, arith, rules, length}
-use Rattle.quiet.specs.Words.{masked_at}
-use Rattle.block.specs.Inner.Each.{at, Each, Kept}
-use Rattle.block.proofs.EachLaws.{each_none, kept-all, each_fewer, Reached, reached-none, reached-fits, reached-turn, reached-done}
+use Rattle.word.proofs.Base.{◌-◌, arith, rules}
+use Rattle.block.proofs.EachLaws.{each_none, kept-all, each_fewer, reached-none, reached-fits, reached-turn, reached-done}
 use Rattle.block.proofs.MaskLaws.{masked-all-ones, mask-turn}
 use Rattle.block.proofs.mask.mask.Goals as goal
 

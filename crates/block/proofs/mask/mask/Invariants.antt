@@ -1,9 +1,8 @@
 -- `block::mask::mask` meets its contract: masks of all ones leave every word, and others change two of a row.
-use Rattle.word.proofs.Base.{◌≡◌, ◌-◌, arith, rules, length}
+use Rattle.word.proofs.Base.{◌≡◌, ◌-◌, length}
 use Rattle.quiet.specs.Words.{masked_at}
 use Rattle.block.specs.Inner.Each.{at, Each, Kept}
-use Rattle.block.proofs.EachLaws.{each_none, kept-all, each_fewer, Reached, reached-none, reached-fits, reached-turn, reached-done}
-use Rattle.block.proofs.MaskLaws.{masked-all-ones, mask-turn}
+use Rattle.block.proofs.EachLaws.{Reached}
 use Rattle.block.proofs.mask.mask.Given as goal
 
 abbrev pub invariant-loop-row : goal.invariant-loop-row

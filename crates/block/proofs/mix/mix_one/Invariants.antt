@@ -1,7 +1,7 @@
 -- `block::mix::mix_one` meets its contract: each turn turns one word more.
-use Rattle.word.proofs.Base.{refl, ◌-◌, rules}
+use Rattle.word.proofs.Base.{◌-◌}
 use Rattle.block.specs.Inner.Each.{at, turned_at}
-use Rattle.block.proofs.EachLaws.{SetTo, set-none, set-turn, set-done}
+use Rattle.block.proofs.EachLaws.{SetTo}
 use Rattle.block.proofs.mix.mix_one.Given as goal
 
 abbrev pub invariant-loop-i : goal.invariant-loop-i

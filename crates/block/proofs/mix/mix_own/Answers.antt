@@ -1,7 +1,7 @@
 -- the answers that are left
 use Rattle.word.proofs.Base.{◌-◌, rules}
 use Rattle.block.specs.Inner.Each.{at, turned_at}
-use Rattle.block.proofs.EachLaws.{PutTo, set-done, put-none, put-turn}
+use Rattle.block.proofs.EachLaws.{set-done, put-none, put-turn}
 use Rattle.block.proofs.mix.mix_own.Goals as goal
 
 pub loop-i-init : goal.loop-i-init

@@ -1,7 +1,7 @@
 -- `block::mix::mix_own` meets its contract: each turn turns one word more, in its place.
-use Rattle.word.proofs.Base.{◌-◌, rules}
+use Rattle.word.proofs.Base.{◌-◌}
 use Rattle.block.specs.Inner.Each.{at, turned_at}
-use Rattle.block.proofs.EachLaws.{PutTo, set-done, put-none, put-turn}
+use Rattle.block.proofs.EachLaws.{PutTo}
 use Rattle.block.proofs.mix.mix_own.Given as goal
 
 abbrev pub invariant-loop-i : goal.invariant-loop-i

@@ -2,7 +2,7 @@
 use Rattle.word.proofs.Base.{◌∙◌, ◌-◌, rules}
 use Rattle.block.specs.Inner.Each.{at}
 use Rattle.block.specs.Inner.Terms.{joined_at}
-use Rattle.block.proofs.EachLaws.{PutTo, set-done, put-none, put-turn}
+use Rattle.block.proofs.EachLaws.{set-done, put-none, put-turn}
 use Rattle.block.proofs.mix.mix_three.Goals as goal
 
 pub loop-i-init : goal.loop-i-init

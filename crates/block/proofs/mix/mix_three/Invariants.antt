@@ -1,8 +1,8 @@
 -- `block::mix::mix_three` meets its contract: each turn mixes one word more, in its place.
-use Rattle.word.proofs.Base.{◌∙◌, ◌-◌, rules}
+use Rattle.word.proofs.Base.{◌-◌}
 use Rattle.block.specs.Inner.Each.{at}
 use Rattle.block.specs.Inner.Terms.{joined_at}
-use Rattle.block.proofs.EachLaws.{PutTo, set-done, put-none, put-turn}
+use Rattle.block.proofs.EachLaws.{PutTo}
 use Rattle.block.proofs.mix.mix_three.Given as goal
 
 abbrev pub invariant-loop-i : goal.invariant-loop-i

@@ -1,5 +1,4 @@
 -- `block::needs::needs` meets its contract, source by source.
-use Rattle.word.proofs.Base.{rules}
 use Rattle.block.proofs.needs.needs.Goals as goal
 
 pub returns : goal.returns

@@ -1,5 +1,5 @@
 -- `block::place::together` meets its contract, upward and downward.
-use Rattle.word.proofs.Base.{◌+◌, eqb, eqb-true, leb-true, rules}
+use Rattle.word.proofs.Base.{◌+◌, eqb, eqb-true, leb-true}
 use Rattle.word.specs.Pointer.{pointer_end}
 use Rattle.word.proofs.ChoiceLaws.{and_left, and_right}
 use Rattle.block.specs.Inner.Place.{Gapless}

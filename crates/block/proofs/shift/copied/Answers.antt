@@ -1,7 +1,7 @@
 -- the answers that are left
 use Rattle.word.proofs.Base.{refl, ◌-◌, rules}
 use Rattle.block.specs.Inner.Each.{at}
-use Rattle.block.proofs.EachLaws.{SetTo, set-none, set-turn, set-done}
+use Rattle.block.proofs.EachLaws.{set-none, set-turn, set-done}
 use Rattle.block.proofs.shift.copied.Goals as goal
 
 pub loop-i-init : goal.loop-i-init

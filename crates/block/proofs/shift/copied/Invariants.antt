@@ -1,7 +1,7 @@
 -- `block::shift::copied` meets its contract: each turn copies one word more.
-use Rattle.word.proofs.Base.{refl, ◌-◌, rules}
+use Rattle.word.proofs.Base.{◌-◌}
 use Rattle.block.specs.Inner.Each.{at}
-use Rattle.block.proofs.EachLaws.{SetTo, set-none, set-turn, set-done}
+use Rattle.block.proofs.EachLaws.{SetTo}
 use Rattle.block.proofs.shift.copied.Given as goal
 
 abbrev pub invariant-loop-i : goal.invariant-loop-i

@@ -1,8 +1,8 @@
 -- the answers that are left
-use Rattle.word.proofs.Base.{sym, ap, ◌∙◌, ◌+◌, ◌-◌, add-one, not, rules}
+use Rattle.word.proofs.Base.{sym, ◌∙◌, ◌-◌, add-one, rules}
 use Rattle.quiet.specs.Words.{word_before, shifted_at}
 use Rattle.block.specs.Inner.Each.{at}
-use Rattle.block.proofs.EachLaws.{never, each-copied, SetTo, set-none, set-turn, set-done}
+use Rattle.block.proofs.EachLaws.{never, each-copied, set-none, set-turn, set-done}
 use Rattle.block.proofs.shift.shift.Goals as goal
 
 pub returns-then-not-need : goal.returns-then-not-need

@@ -1,9 +1,9 @@
 -- `block::shift::shift` meets its contract: by nought the words themselves, else the first word with the one before the
 -- block, each other with the one before it.
-use Rattle.word.proofs.Base.{sym, ap, ◌∙◌, ◌+◌, ◌-◌, add-one, not, rules}
-use Rattle.quiet.specs.Words.{word_before, shifted_at}
+use Rattle.word.proofs.Base.{◌+◌, ◌-◌}
+use Rattle.quiet.specs.Words.{shifted_at}
 use Rattle.block.specs.Inner.Each.{at}
-use Rattle.block.proofs.EachLaws.{never, each-copied, SetTo, set-none, set-turn, set-done}
+use Rattle.block.proofs.EachLaws.{SetTo}
 use Rattle.block.proofs.shift.shift.Given as goal
 
 abbrev pub invariant-loop-i : goal.invariant-loop-i

@@ -1,5 +1,5 @@
 -- `block::store::narrow_rows` meets its contract: the width is one, two or three.
-use Rattle.word.proofs.Base.{◌≡◌, arith, rules}
+use Rattle.word.proofs.Base.{◌≡◌, arith}
 use Rattle.block.proofs.PlaceLaws.{lies-when}
 use Rattle.block.proofs.store.narrow_rows.Goals as goal
 

@@ -1,8 +1,5 @@
 -- the answers that are left
-use Rattle.word.proofs.Base.{◌≡◌, ◌-◌, ◌≤◌, arith, rules, length}
-use Rattle.quiet.specs.Stream.{laid_at}
-use Rattle.block.specs.Inner.Each.{from_at}
-use Rattle.block.specs.Inner.Place.{place_in}
+use Rattle.word.proofs.Base.{◌-◌, arith, rules}
 use Rattle.block.proofs.PlaceLaws.{place-reaches, place_inside, laid_at-none, store-turn, laid_at-done}
 use Rattle.block.proofs.store.row.Goals as goal
 

@@ -1,9 +1,8 @@
 -- `block::store::row` meets its contract: each turn stores one word more.
-use Rattle.word.proofs.Base.{◌≡◌, ◌-◌, ◌≤◌, arith, rules, length}
+use Rattle.word.proofs.Base.{◌≡◌, ◌-◌, ◌≤◌, length}
 use Rattle.quiet.specs.Stream.{laid_at}
 use Rattle.block.specs.Inner.Each.{from_at}
 use Rattle.block.specs.Inner.Place.{place_in}
-use Rattle.block.proofs.PlaceLaws.{place-reaches, place_inside, laid_at-none, store-turn, laid_at-done}
 use Rattle.block.proofs.store.row.Given as goal
 
 abbrev pub invariant-loop-i : goal.invariant-loop-i

@@ -1,10 +1,7 @@
 -- the answers that are left
-use Rattle.word.proofs.Base.{◌≡◌, ◌-◌, arith, rules, length}
-use Rattle.quiet.specs.Stream.{laid_at}
-use Rattle.block.specs.Inner.Each.{at}
-use Rattle.block.specs.Inner.Place.{place_at}
+use Rattle.word.proofs.Base.{◌-◌, arith, rules}
 use Rattle.block.proofs.EachLaws.{reached-fits, reached-done}
-use Rattle.block.proofs.PlaceLaws.{Walks, walks-none, walks-inside, walks_turn, laid_at-none, store-rows-turn, laid_at-done}
+use Rattle.block.proofs.PlaceLaws.{walks-none, walks-inside, walks_turn, laid_at-none, store-rows-turn, laid_at-done}
 use Rattle.block.proofs.store.rows.Goals as goal
 
 pub loop-number-init : goal.loop-number-init

@@ -1,10 +1,9 @@
 -- `block::store::rows` meets its contract, row by row.
-use Rattle.word.proofs.Base.{◌≡◌, ◌-◌, arith, rules, length}
+use Rattle.word.proofs.Base.{◌≡◌, ◌-◌, length}
 use Rattle.quiet.specs.Stream.{laid_at}
 use Rattle.block.specs.Inner.Each.{at}
 use Rattle.block.specs.Inner.Place.{place_at}
-use Rattle.block.proofs.EachLaws.{reached-fits, reached-done}
-use Rattle.block.proofs.PlaceLaws.{Walks, walks-none, walks-inside, walks_turn, laid_at-none, store-rows-turn, laid_at-done}
+use Rattle.block.proofs.PlaceLaws.{Walks}
 use Rattle.block.proofs.store.rows.Given as goal
 
 abbrev pub invariant-loop-number : goal.invariant-loop-number

@@ -1,11 +1,7 @@
 -- the answers that are left
-use Rattle.word.proofs.Base.{◌-◌, ◌≤◌, arith, rules, length}
-use Rattle.area.specs.Flow.{state}
-use Rattle.area.specs.Rows.{area_blit}
-use Rattle.blocks.specs.Inner.Block.{Arrays}
-use Rattle.blocks.specs.Inner.Repeats.{Repeating}
+use Rattle.word.proofs.Base.{◌-◌, arith}
 use Rattle.blocks.proofs.RepeatsLaws.{arrays-of, repeating-on, ready_of}
-use Rattle.blocks.proofs.RunningLaws.{Running, running-starts, block-fits, running-on, running-done}
+use Rattle.blocks.proofs.RunningLaws.{running-starts, block-fits, running-on, running-done}
 use Rattle.blocks.proofs.all.block_by_block.Goals as goal
 
 pub loop-row-init : goal.loop-row-init

@@ -1,11 +1,10 @@
 -- `blocks::all::block_by_block` meets its contract, block by block. The facts are named, for `search` reads too few.
-use Rattle.word.proofs.Base.{◌-◌, ◌≤◌, arith, rules, length}
+use Rattle.word.proofs.Base.{◌-◌, ◌≤◌, length}
 use Rattle.area.specs.Flow.{state}
 use Rattle.area.specs.Rows.{area_blit}
 use Rattle.blocks.specs.Inner.Block.{Arrays}
 use Rattle.blocks.specs.Inner.Repeats.{Repeating}
-use Rattle.blocks.proofs.RepeatsLaws.{arrays-of, repeating-on, ready_of}
-use Rattle.blocks.proofs.RunningLaws.{Running, running-starts, block-fits, running-on, running-done}
+use Rattle.blocks.proofs.RunningLaws.{Running}
 use Rattle.blocks.proofs.all.block_by_block.Given as goal
 
 abbrev pub invariant-loop-row : goal.invariant-loop-row

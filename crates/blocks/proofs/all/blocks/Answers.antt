@@ -1,5 +1,5 @@
 -- `blocks::all::blocks` meets its contract: the arrays of the sources at rest are laid, then the blocks run.
-use Rattle.word.proofs.Base.{refl, rules}
+use Rattle.word.proofs.Base.{refl}
 use Rattle.blocks.proofs.all.blocks.Goals as goal
 
 pub block_by_block-requires : goal.block_by_block-requires

@@ -1,5 +1,5 @@
 -- `blocks::one::counted` meets its contract: each word is counted if D is used.
-use Rattle.word.proofs.Base.{arith, rules}
+use Rattle.word.proofs.Base.{arith}
 use Rattle.blocks.proofs.one.counted.Goals as goal
 
 pub returns-then-used : goal.returns-then-used

@@ -1,5 +1,5 @@
 -- `blocks::one::last_of` meets its contract.
-use Rattle.word.proofs.Base.{sym, ◌∙◌, rules}
+use Rattle.word.proofs.Base.{sym, ◌∙◌}
 use Rattle.blocks.proofs.one.last_of.Goals as goal
 
 pub last_word-requires : goal.last_word-requires

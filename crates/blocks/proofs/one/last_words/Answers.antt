@@ -1,5 +1,4 @@
 -- `blocks::one::last_words` meets its contract: in a row of one word the last is the first.
-use Rattle.word.proofs.Base.{rules}
 use Rattle.blocks.proofs.BlockLaws.{last-masked}
 use Rattle.blocks.proofs.one.last_words.Goals as goal
 

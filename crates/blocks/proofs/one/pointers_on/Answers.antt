@@ -1,5 +1,5 @@
 -- `blocks::one::pointers_on` meets its contract, channel by channel.
-use Rattle.word.proofs.Base.{refl, rules}
+use Rattle.word.proofs.Base.{refl}
 use Rattle.blocks.proofs.one.pointers_on.Goals as goal
 
 pub returns : goal.returns

@@ -1,5 +1,5 @@
 -- `blocks::one::source` meets its contract.
-use Rattle.word.proofs.Base.{refl, rules}
+use Rattle.word.proofs.Base.{refl}
 use Rattle.blocks.proofs.one.source.Goals as goal
 
 pub returns : goal.returns

@@ -1,5 +1,5 @@
 -- `blocks::one::sources` meets its contract, source by source.
-use Rattle.word.proofs.Base.{sym, ◌∙◌, ◌||◌, rules}
+use Rattle.word.proofs.Base.{sym, ◌∙◌, ◌||◌}
 use Rattle.word.proofs.ChoiceLaws.{or_left, or_right}
 use Rattle.blocks.proofs.SuppliedLaws.{given-kept, given-as}
 use Rattle.blocks.proofs.BlockLaws.{sized, asked, last_row}
@@ -34,10 +34,10 @@ last_of-requires-then-ignored-2 c = rw c.source-from_c.ensures.0 (last_row c.req
 
 pub returns-then-ignored : goal.returns-then-ignored
 returns-then-ignored c = record {
-      a = given-as _ (rw (sym c.last_of.ensures, c.source-from_a.ensures.0, c.requires.0) at c.supplied_a-a.ensures);
-      b = given-as _ (rw (sym c.last_of-then-ignored.ensures, c.source-from_b.ensures.0, c.requires.0) at c.supplied-b.ensures);
-      c = given-as _ (rw (sym c.last_of-then-ignored-2.ensures, c.source-from_c.ensures.0, c.requires.0) at c.supplied-c.ensures);
-    }
+  a = given-as _ (rw (sym c.last_of.ensures, c.source-from_a.ensures.0, c.requires.0) at c.supplied_a-a.ensures);
+  b = given-as _ (rw (sym c.last_of-then-ignored.ensures, c.source-from_b.ensures.0, c.requires.0) at c.supplied-b.ensures);
+  c = given-as _ (rw (sym c.last_of-then-ignored-2.ensures, c.source-from_c.ensures.0, c.requires.0) at c.supplied-c.ensures);
+}
 
 pub returns : goal.returns
 returns c = let two = or_left _ _ c.if-ignored.false in

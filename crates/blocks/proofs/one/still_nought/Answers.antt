@@ -1,5 +1,4 @@
 -- `blocks::one::still_nought` meets its contract: nought before, and nought here.
-use Rattle.word.proofs.Base.{rules}
 use Rattle.blocks.proofs.one.still_nought.Goals as goal
 
 pub returns-then-allzero : goal.returns-then-allzero

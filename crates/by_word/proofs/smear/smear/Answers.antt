@@ -1,5 +1,5 @@
 -- `by_word::smear::smear` meets its contract: its words are those that A finds.
-use Rattle.word.proofs.Base.{refl, mul-le-mul, arith, rules}
+use Rattle.word.proofs.Base.{refl, mul-le-mul, arith}
 use native.Mathlib.Nat.{mul-le-mul_left}
 use Rattle.by_word.proofs.SmearLaws.{smear-is}
 use Rattle.by_word.proofs.smear.smear.Goals as goal

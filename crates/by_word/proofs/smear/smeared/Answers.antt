@@ -1,6 +1,6 @@
 -- the answers that are left
-use Rattle.word.proofs.Base.{◌≡◌, ◌+◌, ◌-◌, ◌≤◌, arith, rules, length}
-use Rattle.by_word.specs.Inner.Smear.{smeared_word, SmearedBy}
+use Rattle.word.proofs.Base.{◌-◌, arith, rules}
+use Rattle.by_word.specs.Inner.Smear.{smeared_word}
 use Rattle.by_word.proofs.SmearLaws.{smeared-none, smeared-turn, smeared-done}
 use Rattle.by_word.proofs.smear.smeared.Goals as goal
 

@@ -1,7 +1,6 @@
 -- `by_word::smear::smeared` meets its contract: each turn fetches a word, makes it and stores it.
-use Rattle.word.proofs.Base.{◌≡◌, ◌+◌, ◌-◌, ◌≤◌, arith, rules, length}
+use Rattle.word.proofs.Base.{◌≡◌, ◌-◌, ◌≤◌, length}
 use Rattle.by_word.specs.Inner.Smear.{smeared_word, SmearedBy}
-use Rattle.by_word.proofs.SmearLaws.{smeared-none, smeared-turn, smeared-done}
 use Rattle.by_word.proofs.smear.smeared.Given as goal
 
 abbrev pub invariant-loop-i : goal.invariant-loop-i

@@ -1,5 +1,5 @@
 -- `by_word::smear::smears` meets its contract, test by test.
-use Rattle.word.proofs.Base.{sym, mul-le-mul, arith, rules}
+use Rattle.word.proofs.Base.{sym, mul-le-mul, arith}
 use Rattle.block.proofs.EachLaws.{never}
 use Rattle.by_word.proofs.SmearLaws.{smearing-of}
 use Rattle.by_word.proofs.smear.smears.Goals as goal

@@ -1,6 +1,5 @@
 -- the answers that are left
-use Rattle.word.proofs.Base.{◌≡◌, ◌-◌, ◌≤◌, not-true, not-false, rules, length}
-use Rattle.card_reading.specs.Reading.{bad_from}
+use Rattle.word.proofs.Base.{not-true, not-false, rules}
 use Rattle.card_reading.proofs.ReadingLaws.{key_line-fits, bad_from-turn, bad_from-when-bad, bad_from-when-ended, bad_from-when-more}
 use Rattle.card_reading.proofs.lines.bad_from.Goals as goal
 

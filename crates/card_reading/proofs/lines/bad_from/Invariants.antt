@@ -1,7 +1,6 @@
 -- `card_reading::lines::bad_from` meets its contract: the first bad line from here on is the first of all.
-use Rattle.word.proofs.Base.{◌≡◌, ◌-◌, ◌≤◌, not-true, not-false, rules, length}
+use Rattle.word.proofs.Base.{◌≡◌, ◌-◌, ◌≤◌, length}
 use Rattle.card_reading.specs.Reading.{bad_from}
-use Rattle.card_reading.proofs.ReadingLaws.{key_line-fits, bad_from-turn, bad_from-when-bad, bad_from-when-ended, bad_from-when-more}
 use Rattle.card_reading.proofs.lines.bad_from.Given as goal
 
 abbrev pub invariant-loop-key : goal.invariant-loop-key

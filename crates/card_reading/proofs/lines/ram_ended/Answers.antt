@@ -1,6 +1,5 @@
 -- `card_reading::lines::ram_ended` meets its contract: a number from 1 on, and the newline.
 use Rattle.card_reading.proofs.RamLaws.{ram_ended-when-none, ram_ended-at-end, ram_ended-when-newline, ram_ended-when-other}
-use Rattle.word.proofs.Base.{rules}
 use Rattle.card_reading.proofs.lines.ram_ended.Goals as goal
 
 pub returns-then-words-eq0 : goal.returns-then-words-eq0

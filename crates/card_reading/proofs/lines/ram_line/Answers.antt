@@ -1,6 +1,5 @@
 -- the answers that are left
-use Rattle.word.proofs.Base.{◌≡◌, ◌+◌, ◌-◌, ◌≤◌, not-true, not-false, rules, length, drop}
-use Rattle.card_reading.specs.RamLine.{digits, spelled, ram_words, ram_end}
+use Rattle.word.proofs.Base.{not-true, not-false, rules}
 use Rattle.card_reading.proofs.RamLaws.{digits-when-other, spelled-turn, digits-turn, digits-at-end, ram_read-when-keyless, ram_read-when-zero, ram_read-when-large, ram_read-when-ended}
 use Rattle.card_reading.proofs.TextLaws.{decimal_digit-holds}
 use Rattle.card_reading.proofs.lines.ram_line.Goals as goal

@@ -1,8 +1,6 @@
 -- `card_reading::lines::ram_line` meets its contract: the digits from here on give what all give; a number that is too large stays so.
-use Rattle.word.proofs.Base.{◌≡◌, ◌+◌, ◌-◌, ◌≤◌, not-true, not-false, rules, length, drop}
+use Rattle.word.proofs.Base.{◌≡◌, ◌+◌, ◌-◌, ◌≤◌, length, drop}
 use Rattle.card_reading.specs.RamLine.{digits, spelled, ram_words, ram_end}
-use Rattle.card_reading.proofs.RamLaws.{digits-when-other, spelled-turn, digits-turn, digits-at-end, ram_read-when-keyless, ram_read-when-zero, ram_read-when-large, ram_read-when-ended}
-use Rattle.card_reading.proofs.TextLaws.{decimal_digit-holds}
 use Rattle.card_reading.proofs.lines.ram_line.Given as goal
 
 abbrev pub invariant-loop-at : goal.invariant-loop-at

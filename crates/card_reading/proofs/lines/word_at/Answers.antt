@@ -1,6 +1,5 @@
 -- `card_reading::lines::word_at` meets its contract: digit by digit.
 use Rattle.card_reading.proofs.ReadingLaws.{word_at-of-parts}
-use Rattle.word.proofs.Base.{rules}
 use Rattle.card_reading.proofs.lines.word_at.Goals as goal
 
 pub returns : goal.returns

@@ -1,5 +1,5 @@
 -- `card_reading::text::byte` meets its contract: past the end the list holds 0.
-use Rattle.word.proofs.Base.{sym, rules, List·get_or-eq-default}
+use Rattle.word.proofs.Base.{sym, List·get_or-eq-default}
 use Rattle.card_reading.proofs.text.byte.Goals as goal
 
 pub returns : goal.returns

@@ -1,7 +1,5 @@
 -- the answers that are left
-use Rattle.word.proofs.Base.{◌≡◌, ◌-◌, ◌*◌, ◌≤◌, rules, length, drop}
-use Rattle.word.specs.Laid.{laid}
-use Rattle.card_reading.specs.Job.{write_order, writes}
+use Rattle.word.proofs.Base.{rules}
 use Rattle.card_reading.proofs.JobLaws.{writes-turn, writes-done}
 use Rattle.card_reading.proofs.writes.job.Goals as goal
 

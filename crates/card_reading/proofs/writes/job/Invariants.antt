@@ -1,8 +1,7 @@
 -- `card_reading::writes::job` meets its contract: the writes from here on give what all give.
-use Rattle.word.proofs.Base.{◌≡◌, ◌-◌, ◌*◌, ◌≤◌, rules, length, drop}
+use Rattle.word.proofs.Base.{◌≡◌, ◌-◌, ◌*◌, ◌≤◌, length, drop}
 use Rattle.word.specs.Laid.{laid}
 use Rattle.card_reading.specs.Job.{write_order, writes}
-use Rattle.card_reading.proofs.JobLaws.{writes-turn, writes-done}
 use Rattle.card_reading.proofs.writes.job.Given as goal
 
 abbrev pub invariant-loop-step : goal.invariant-loop-step

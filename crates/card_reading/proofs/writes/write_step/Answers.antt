@@ -1,6 +1,5 @@
 -- `card_reading::writes::write_step` meets its contract: an offset, then a value.
 use Rattle.card_reading.proofs.JobLaws.{writes-of-step}
-use Rattle.word.proofs.Base.{rules}
 use Rattle.card_reading.proofs.writes.write_step.Goals as goal
 
 pub returns : goal.returns

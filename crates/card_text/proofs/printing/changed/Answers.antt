@@ -1,7 +1,5 @@
 -- the answers that are left
-use Rattle.word.proofs.Base.{◌≡◌, ◌+◌, ◌-◌, ◌*◌, ◌≤◌, rules, length, drop}
-use Rattle.card_text.specs.Printing.{changed}
-use Rattle.card_text.specs.Card.{written, writing}
+use Rattle.word.proofs.Base.{◌-◌, rules}
 use Rattle.card_text.proofs.PrintingLaws.{changed-turn, changed-done}
 use Rattle.card_text.proofs.printing.changed.Goals as goal
 

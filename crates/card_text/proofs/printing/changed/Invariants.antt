@@ -1,8 +1,7 @@
 -- `card_text::printing::changed` meets its contract: the lines from here on give what the whole gives.
-use Rattle.word.proofs.Base.{◌≡◌, ◌+◌, ◌-◌, ◌*◌, ◌≤◌, rules, length, drop}
+use Rattle.word.proofs.Base.{◌≡◌, ◌+◌, ◌-◌, ◌*◌, ◌≤◌, length, drop}
 use Rattle.card_text.specs.Printing.{changed}
 use Rattle.card_text.specs.Card.{written, writing}
-use Rattle.card_text.proofs.PrintingLaws.{changed-turn, changed-done}
 use Rattle.card_text.proofs.printing.changed.Given as goal
 
 abbrev pub invariant-loop-place : goal.invariant-loop-place

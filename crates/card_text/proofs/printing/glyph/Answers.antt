@@ -1,6 +1,5 @@
 -- `card_text::printing::glyph` meets its contract: a decimal digit or a letter.
 use Rattle.card_text.proofs.PrintingLaws.{glyph-when-decimal, glyph-when-letter}
-use Rattle.word.proofs.Base.{rules}
 use Rattle.card_text.proofs.printing.glyph.Goals as goal
 
 pub returns-then-digit-le9 : goal.returns-then-digit-le9

@@ -1,6 +1,5 @@
 -- `card_text::printing::print_run` meets its contract: four lines, then the changed words.
 use Rattle.card_text.proofs.PrintingLaws.{printed_run-of-pieces}
-use Rattle.word.proofs.Base.{rules}
 use Rattle.card_text.proofs.printing.print_run.Goals as goal
 
 pub returns : goal.returns

@@ -1,6 +1,5 @@
 -- the answers that are left
-use Rattle.word.proofs.Base.{◌≡◌, ◌+◌, ◌-◌, ◌≤◌, rules, length, drop}
-use Rattle.card_text.specs.Card.{written, writing}
+use Rattle.word.proofs.Base.{◌-◌, rules}
 use Rattle.card_text.proofs.WritingLaws.{writing-turn, writing-done}
 use Rattle.card_text.proofs.printing.put_text.Goals as goal
 

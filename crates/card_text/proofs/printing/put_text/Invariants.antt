@@ -1,7 +1,6 @@
 -- `card_text::printing::put_text` meets its contract: what is left from here gives what the whole gives.
-use Rattle.word.proofs.Base.{◌≡◌, ◌+◌, ◌-◌, ◌≤◌, rules, length, drop}
+use Rattle.word.proofs.Base.{◌≡◌, ◌+◌, ◌-◌, ◌≤◌, length, drop}
 use Rattle.card_text.specs.Card.{written, writing}
-use Rattle.card_text.proofs.WritingLaws.{writing-turn, writing-done}
 use Rattle.card_text.proofs.printing.put_text.Given as goal
 
 abbrev pub invariant-loop-from : goal.invariant-loop-from

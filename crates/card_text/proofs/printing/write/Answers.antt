@@ -1,5 +1,5 @@
 -- `card_text::printing::write` meets its contract: past the end nothing is set.
-use Rattle.word.proofs.Base.{sym, rules, set_out}
+use Rattle.word.proofs.Base.{sym, set_out}
 use Rattle.card_text.proofs.printing.write.Goals as goal
 
 pub returns-else-at-out : goal.returns-else-at-out

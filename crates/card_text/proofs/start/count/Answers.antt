@@ -1,7 +1,5 @@
 -- the answers that are left
-use Rattle.word.proofs.Base.{◌≡◌, ◌-◌, ◌≤◌, rules, length}
-use Rattle.word.specs.Laid.{laid}
-use Rattle.card_text.specs.Run.{counted}
+use Rattle.word.proofs.Base.{◌-◌, rules}
 use Rattle.card_text.proofs.RunLaws.{counted_start, counted-turn, counted-done}
 use Rattle.card_text.proofs.start.count.Goals as goal
 

@@ -1,8 +1,7 @@
 -- `card_text::start::count` meets its contract: the words from here on give what all give.
-use Rattle.word.proofs.Base.{◌≡◌, ◌-◌, ◌≤◌, rules, length}
+use Rattle.word.proofs.Base.{◌≡◌, ◌-◌, ◌≤◌, length}
 use Rattle.word.specs.Laid.{laid}
 use Rattle.card_text.specs.Run.{counted}
-use Rattle.card_text.proofs.RunLaws.{counted_start, counted-turn, counted-done}
 use Rattle.card_text.proofs.start.count.Given as goal
 
 abbrev pub invariant-loop-at : goal.invariant-loop-at

@@ -1,7 +1,5 @@
 -- the answers that are left
-use Rattle.word.proofs.Base.{◌≡◌, ◌-◌, ◌≤◌, rules, length}
-use Rattle.instruction.specs.Effect.{moment}
-use Rattle.copper.specs.Frame.{onward}
+use Rattle.word.proofs.Base.{◌-◌, rules}
 use Rattle.copper.proofs.FrameLaws.{onward-at-start, onward-at-end, onward-at-last, onward-turn, onward-of-refused}
 use Rattle.copper.proofs.onward.onward.Goals as goal
 

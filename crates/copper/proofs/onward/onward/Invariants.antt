@@ -1,8 +1,7 @@
 -- `copper::onward::onward` meets its contract: what is left from here gives what the whole gives.
-use Rattle.word.proofs.Base.{◌≡◌, ◌-◌, ◌≤◌, rules, length}
+use Rattle.word.proofs.Base.{◌≡◌, ◌-◌, ◌≤◌, length}
 use Rattle.instruction.specs.Effect.{moment}
 use Rattle.copper.specs.Frame.{onward}
-use Rattle.copper.proofs.FrameLaws.{onward-at-start, onward-at-end, onward-at-last, onward-turn, onward-of-refused}
 use Rattle.copper.proofs.onward.onward.Given as goal
 
 abbrev pub invariant-loop-place : goal.invariant-loop-place

@@ -1,5 +1,5 @@
 -- `depends::table::entry` meets its contract: antt computes the rule at all 256 functions, and finds the table's entries.
-use Rattle.word.proofs.Base.{◌%◌, arith, rules}
+use Rattle.word.proofs.Base.{◌%◌, arith}
 use Rattle.depends.specs.Depends.{changes, counts, entry}
 use Rattle.depends.proofs.TableLaws.{values-at}
 use Rattle.depends.proofs.table.entry.Goals as goal

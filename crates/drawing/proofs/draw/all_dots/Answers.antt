@@ -1,7 +1,5 @@
 -- the answers that are left
-use Rattle.word.proofs.Base.{◌≡◌, ◌+◌, ◌≤◌, rules, length}
-use Rattle.line.specs.Line.{state, line_blit}
-use Rattle.line.specs.Inner.Walk.{drawn_of}
+use Rattle.word.proofs.Base.{rules}
 use Rattle.drawing.proofs.DrawLaws.{line_blit-turn, line_blit-done, one_dot-room}
 use Rattle.drawing.proofs.draw.all_dots.Goals as goal
 

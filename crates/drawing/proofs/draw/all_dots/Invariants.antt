@@ -1,8 +1,7 @@
 -- `drawing::draw::all_dots` meets its contract: what remains of the dots from here gives what the whole gives.
-use Rattle.word.proofs.Base.{◌≡◌, ◌+◌, ◌≤◌, rules, length}
+use Rattle.word.proofs.Base.{◌≡◌, ◌+◌, ◌≤◌, length}
 use Rattle.line.specs.Line.{state, line_blit}
 use Rattle.line.specs.Inner.Walk.{drawn_of}
-use Rattle.drawing.proofs.DrawLaws.{line_blit-turn, line_blit-done, one_dot-room}
 use Rattle.drawing.proofs.draw.all_dots.Given as goal
 
 abbrev pub invariant-loop-remaining : goal.invariant-loop-remaining

@@ -1,6 +1,6 @@
 -- `drawing::draw::dot_stored` meets its contract: stored and counted, or not.
 use Rattle.drawing.proofs.DrawLaws.{dot_stored-when-stored, dot_stored-when-not}
-use Rattle.word.proofs.Base.{refl, rules}
+use Rattle.word.proofs.Base.{refl}
 use Rattle.drawing.proofs.draw.dot_stored.Goals as goal
 
 pub returns-then-is_stored : goal.returns-then-is_stored

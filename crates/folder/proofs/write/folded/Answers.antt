@@ -1,8 +1,7 @@
 -- the answers that are left
-use Rattle.word.proofs.Base.{◌-◌, rules, length}
+use Rattle.word.proofs.Base.{◌-◌, rules}
 use Rattle.job.proofs.StepLaws.{read-falls}
-use Rattle.knowledge.specs.Knowledge.{listed}
-use Rattle.folder.proofs.FoldedLaws.{Stands, stands-start, stands-turn, turn-fits, room-to-put, step-inside, folded-at-end, folded-of-end, folded-of-fault}
+use Rattle.folder.proofs.FoldedLaws.{stands-start, stands-turn, turn-fits, room-to-put, step-inside, folded-at-end, folded-of-end, folded-of-fault}
 use Rattle.folder.proofs.write.folded.Goals as goal
 
 pub loop-from-init : goal.loop-from-init

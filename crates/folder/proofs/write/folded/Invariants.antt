@@ -1,9 +1,8 @@
 -- `folder::write::folded` meets its contract: what is left of the job from here gives what the whole gives.
 -- The facts of a step are named by their paths: the structs hold more records than a search looks into.
-use Rattle.word.proofs.Base.{◌-◌, rules, length}
-use Rattle.job.proofs.StepLaws.{read-falls}
+use Rattle.word.proofs.Base.{◌-◌, length}
 use Rattle.knowledge.specs.Knowledge.{listed}
-use Rattle.folder.proofs.FoldedLaws.{Stands, stands-start, stands-turn, turn-fits, room-to-put, step-inside, folded-at-end, folded-of-end, folded-of-fault}
+use Rattle.folder.proofs.FoldedLaws.{Stands}
 use Rattle.folder.proofs.write.folded.Given as goal
 
 abbrev pub invariant-loop-from : goal.invariant-loop-from

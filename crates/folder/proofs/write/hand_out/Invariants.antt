@@ -1,7 +1,6 @@
 -- `folder::write::hand_out` meets its contract: the words passed are the run's, the others stand as they were.
-use Rattle.word.proofs.Base.{◌≡◌, ℕ, ◌+◌, ◌-◌, ◌<◌, ◌≤◌, zero-add, add-one, arith, rules, List, ◌++◌, length, get_or, set}
+use Rattle.word.proofs.Base.{◌≡◌, ◌+◌, ◌-◌, ◌≤◌, ◌++◌, length}
 use Rattle.word.proofs.Base.{take, drop}
-use lib.Seq.{paste-suc}
 use Rattle.folder.proofs.write.hand_out.Given as goal
 
 abbrev pub invariant-loop-at : goal.invariant-loop-at

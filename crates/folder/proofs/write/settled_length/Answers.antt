@@ -1,7 +1,6 @@
 -- `folder::write::settled_length` meets its contract: the numbers fit.
 use Rattle.word.proofs.SizeLaws.{words-fit}
 use Rattle.folder.proofs.PutLaws.{settled-length-fits, settled-length-fits-all, settled-length-of-parts}
-use Rattle.word.proofs.Base.{rules}
 use Rattle.folder.proofs.write.settled_length.Goals as goal
 
 pub overflow_mul-result : goal.overflow_mul-result

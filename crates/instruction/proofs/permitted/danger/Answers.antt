@@ -1,6 +1,5 @@
 -- `instruction::permitted::danger` meets its contract: it looks at bit 1 of COPCON.
 use Rattle.instruction.proofs.PermittedLaws.{danger-of-word}
-use Rattle.word.proofs.Base.{rules}
 use Rattle.instruction.proofs.permitted.danger.Goals as goal
 
 pub returns : goal.returns

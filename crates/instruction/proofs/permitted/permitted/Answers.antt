@@ -1,6 +1,5 @@
 -- `instruction::permitted::permitted` meets its contract: the tests are the definition's.
 use Rattle.instruction.proofs.PermittedLaws.{permitted-from-080, permitted-below-040, permitted-of-danger}
-use Rattle.word.proofs.Base.{rules}
 use Rattle.instruction.proofs.permitted.permitted.Goals as goal
 
 pub returns-then-offset-ge128 : goal.returns-then-offset-ge128

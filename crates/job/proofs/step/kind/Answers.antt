@@ -1,6 +1,5 @@
 -- `job::step::kind` meets its contract: each test is a line of the definition, in its order; words below 8000 are passed at once.
 use Rattle.job.proofs.KindLaws.{kind-when-register, kind-when-size, kind-when-low, kind-when-store, kind-when-clear, kind-when-set, kind-when-high}
-use Rattle.word.proofs.Base.{rules}
 use Rattle.job.proofs.step.kind.Goals as goal
 
 pub returns-then-place-lt-FLAG : goal.returns-then-place-lt-FLAG

@@ -1,6 +1,5 @@
 -- `job::step::step_at` meets its contract: past the end there is no word, and elsewhere the first word's kind decides.
 use Rattle.job.proofs.StepLaws.{step_at-at-end, step_at-of-kind, step_at-of-flag, step_at-of-nothing}
-use Rattle.word.proofs.Base.{rules}
 use Rattle.job.proofs.step.step_at.Goals as goal
 
 pub returns-then-job-at : goal.returns-then-job-at

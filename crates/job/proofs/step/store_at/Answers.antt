@@ -1,6 +1,6 @@
 -- `job::step::store_at` meets its contract: the low half and the value follow, or the job ends; only then is the low half tried.
 use Rattle.job.proofs.StepLaws.{begun-of-store, begun-of-odd, begun-of-store-cut}
-use Rattle.word.proofs.Base.{arith, rules}
+use Rattle.word.proofs.Base.{arith}
 use Rattle.job.proofs.step.store_at.Goals as goal
 
 pub returns-then-words-lt3 : goal.returns-then-words-lt3

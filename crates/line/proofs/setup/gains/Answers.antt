@@ -1,5 +1,5 @@
 -- `line::setup::gains` meets its contract, field by field.
-use Rattle.word.proofs.Base.{refl, rules}
+use Rattle.word.proofs.Base.{refl}
 use Rattle.line.proofs.setup.gains.Goals as goal
 
 pub returns : goal.returns

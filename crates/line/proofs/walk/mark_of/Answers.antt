@@ -1,5 +1,5 @@
 -- `line::walk::mark_of` meets its contract, field by field.
-use Rattle.word.proofs.Base.{refl, rules}
+use Rattle.word.proofs.Base.{refl}
 use Rattle.line.proofs.walk.mark_of.Goals as goal
 
 pub returns : goal.returns

@@ -1,6 +1,5 @@
 -- `line::walk::steps` meets its contract: the always move alone, and both moves.
 use Rattle.line.proofs.WalkLaws.{steps-of-parts}
-use Rattle.word.proofs.Base.{rules}
 use Rattle.line.proofs.walk.steps.Goals as goal
 
 pub returns : goal.returns

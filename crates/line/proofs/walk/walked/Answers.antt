@@ -1,6 +1,5 @@
 -- `line::walk::walked` meets its contract, field by field.
 use Rattle.line.proofs.WalkLaws.{walked-of-parts}
-use Rattle.word.proofs.Base.{rules}
 use Rattle.line.proofs.walk.walked.Goals as goal
 
 pub returns : goal.returns

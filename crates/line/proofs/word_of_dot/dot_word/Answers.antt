@@ -1,6 +1,5 @@
 -- `line::word_of_dot::dot_word` meets its contract: A, the texture and C by the logic function.
 use Rattle.line.proofs.WalkLaws.{dot_word-when-set, dot_word-when-clear}
-use Rattle.word.proofs.Base.{rules}
 use Rattle.line.proofs.word_of_dot.dot_word.Goals as goal
 
 pub returns-then-is_set : goal.returns-then-is_set

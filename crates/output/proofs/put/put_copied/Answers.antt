@@ -1,6 +1,5 @@
 -- the answers that are left
-use Rattle.word.proofs.Base.{◌≡◌, ◌+◌, ◌<◌, ◌≤◌, rules, length, take, drop}
-use Rattle.word.specs.Laid.{laid}
+use Rattle.word.proofs.Base.{rules}
 use Rattle.output.proofs.PutLaws.{copied-turn, copied-done}
 use Rattle.output.proofs.put.put_copied.Goals as goal
 

@@ -1,7 +1,6 @@
 -- `output::put::put_copied` meets its contract: what is left to copy from here gives what the whole gives.
-use Rattle.word.proofs.Base.{◌≡◌, ◌+◌, ◌<◌, ◌≤◌, rules, length, take, drop}
+use Rattle.word.proofs.Base.{◌≡◌, ◌+◌, ◌<◌, ◌≤◌, length, take, drop}
 use Rattle.word.specs.Laid.{laid}
-use Rattle.output.proofs.PutLaws.{copied-turn, copied-done}
 use Rattle.output.proofs.put.put_copied.Given as goal
 
 abbrev pub invariant-loop-remaining : goal.invariant-loop-remaining

@@ -1,6 +1,5 @@
 -- `output::put::put_pointer` meets its contract, word by word.
 use Rattle.output.proofs.PutLaws.{put-pointer-of-parts}
-use Rattle.word.proofs.Base.{rules}
 use Rattle.output.proofs.put.put_pointer.Goals as goal
 
 pub returns : goal.returns

@@ -1,6 +1,5 @@
 -- `output::put::put_store` meets its contract, word by word.
 use Rattle.output.proofs.PutLaws.{put-store-of-parts}
-use Rattle.word.proofs.Base.{rules}
 use Rattle.output.proofs.put.put_store.Goals as goal
 
 pub returns : goal.returns

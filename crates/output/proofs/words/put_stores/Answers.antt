@@ -1,7 +1,5 @@
 -- the answers that are left
-use Rattle.word.proofs.Base.{◌≡◌, ◌+◌, ◌-◌, ◌*◌, ◌<◌, ◌≤◌, rules, length}
-use Rattle.word.specs.Laid.{laid}
-use Rattle.output.specs.Inner.Paired.{paired_words}
+use Rattle.word.proofs.Base.{◌-◌, rules}
 use Rattle.output.proofs.StoresLaws.{paired-begin, room-begin, paired-turn, paired-done}
 use Rattle.output.proofs.words.put_stores.Goals as goal
 

@@ -1,8 +1,7 @@
 -- `output::words::put_stores` meets its contract: what remains from here gives what the whole gives.
-use Rattle.word.proofs.Base.{◌≡◌, ◌+◌, ◌-◌, ◌*◌, ◌<◌, ◌≤◌, rules, length}
+use Rattle.word.proofs.Base.{◌≡◌, ◌+◌, ◌-◌, ◌*◌, ◌<◌, ◌≤◌, length}
 use Rattle.word.specs.Laid.{laid}
 use Rattle.output.specs.Inner.Paired.{paired_words}
-use Rattle.output.proofs.StoresLaws.{paired-begin, room-begin, paired-turn, paired-done}
 use Rattle.output.proofs.words.put_stores.Given as goal
 
 abbrev pub invariant-loop-from : goal.invariant-loop-from

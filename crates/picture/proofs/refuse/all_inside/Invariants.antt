@@ -1,7 +1,6 @@
 -- `picture::refuse::all_inside` meets its contract: it is told so far whether every plane lies in memory.
-use Rattle.word.proofs.Base.{◌≡◌, refl, ap, ℕ, ◌+◌, ◌-◌, ◌≤◌, Bool, ◌&&◌, leb, rules, List, length, get_or}
+use Rattle.word.proofs.Base.{◌≡◌, ◌-◌, ◌≤◌, length}
 use Rattle.word.specs.Choice.{every}
-use Rattle.word.proofs.ChoiceLaws.{every-turn, every-done}
 use Rattle.picture.specs.Refusal.{inside}
 use Rattle.picture.proofs.refuse.all_inside.Given as goal
 

@@ -1,5 +1,5 @@
 -- `picture::refuse::bad_playfield` meets its contract: the four tests in the definition's order.
-use Rattle.word.proofs.Base.{◌≡◌, ℕ, Bool, ◌||◌, ltb, List, length, rules}
+use Rattle.word.proofs.Base.{◌≡◌, ℕ, Bool, ◌||◌, ltb, List, length}
 use Rattle.word.proofs.ChoiceLaws.{beyond-is-not-within}
 use Rattle.playfield.specs.Playfield.{most_planes, most_words, most_delay, playfield}
 use Rattle.picture.specs.Refusal.{bad, bad_playfield}

@@ -1,6 +1,5 @@
 -- the answers that are left
-use Rattle.word.proofs.Base.{◌≡◌, ◌-◌, ◌*◌, ◌≤◌, arith, rules, length}
-use Rattle.picture.specs.Inner.Painted.{painted, number_colour}
+use Rattle.word.proofs.Base.{◌-◌, arith, rules}
 use Rattle.picture.proofs.PaintedLaws.{painted-none, painted-done, words-turn, words-as-long}
 use Rattle.picture.proofs.show.show.Goals as goal
 

@@ -1,7 +1,6 @@
 -- `picture::show::show` meets its contract: each turn writes the pixels of one word more.
-use Rattle.word.proofs.Base.{◌≡◌, ◌-◌, ◌*◌, ◌≤◌, arith, rules, length}
+use Rattle.word.proofs.Base.{◌≡◌, ◌-◌, ◌*◌, ◌≤◌, length}
 use Rattle.picture.specs.Inner.Painted.{painted, number_colour}
-use Rattle.picture.proofs.PaintedLaws.{painted-none, painted-done, words-turn, words-as-long}
 use Rattle.picture.proofs.show.show.Given as goal
 
 abbrev pub invariant-loop-word : goal.invariant-loop-word

@@ -1,7 +1,6 @@
 -- `picture::show::show_word` meets its contract: each turn writes one pixel more.
-use Rattle.word.proofs.Base.{◌≡◌, ◌+◌, ◌-◌, ◌≤◌, arith, rules, length}
+use Rattle.word.proofs.Base.{◌≡◌, ◌-◌, ◌≤◌, length}
 use Rattle.picture.specs.Inner.Painted.{painted, number_colour}
-use Rattle.picture.proofs.PaintedLaws.{painted-none, painted-turn, painted-done}
 use Rattle.picture.proofs.show.show_word.Given as goal
 
 abbrev pub invariant-loop-pixel : goal.invariant-loop-pixel

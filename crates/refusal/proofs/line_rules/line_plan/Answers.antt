@@ -1,5 +1,5 @@
 -- `refusal::line_rules::line_plan` meets its contract, field by field.
-use Rattle.word.proofs.Base.{refl, arith, rules}
+use Rattle.word.proofs.Base.{refl, arith}
 use Rattle.word.proofs.SizeLaws.{height-le}
 use Rattle.refusal.proofs.line_rules.line_plan.Goals as goal
 

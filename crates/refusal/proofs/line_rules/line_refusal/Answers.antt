@@ -1,6 +1,6 @@
 -- `refusal::line_rules::line_refusal` meets its contract: each test is a rule of the list, in the list's order.
 use Rattle.refusal.proofs.RefusalLaws.{line-by-form, line-by-pointers, line-by-leaving, line-by-none, first-lt, first-shift-lt, first-bit-lt, handed-of-line}
-use Rattle.word.proofs.Base.{refl, rules}
+use Rattle.word.proofs.Base.{refl}
 use Rattle.refusal.proofs.line_rules.line_refusal.Goals as goal
 
 pub returns-then-other_form : goal.returns-then-other_form

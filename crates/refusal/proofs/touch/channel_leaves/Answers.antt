@@ -1,6 +1,5 @@
 -- `refusal::touch::channel_leaves` meets its contract: unused, or with rows that all lie inside, it stays inside.
 use Rattle.refusal.proofs.TouchLaws.{channel_leaves-when-used, channel_leaves-when-inside, channel_leaves-when-unused}
-use Rattle.word.proofs.Base.{rules}
 use Rattle.refusal.proofs.touch.channel_leaves.Goals as goal
 
 pub returns-then-evenly_inside : goal.returns-then-evenly_inside

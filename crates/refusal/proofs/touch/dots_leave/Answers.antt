@@ -1,6 +1,5 @@
 -- the answers that are left
-use Rattle.word.proofs.Base.{rules}
-use Rattle.refusal.proofs.LineTouchLaws.{Same, same-at-first, same-when-leaves, same_turn, same-done}
+use Rattle.refusal.proofs.LineTouchLaws.{same-at-first, same-when-leaves, same_turn, same-done}
 use Rattle.refusal.proofs.touch.dots_leave.Goals as goal
 
 pub loop-remaining-init : goal.loop-remaining-init

@@ -1,6 +1,5 @@
 -- `refusal::touch::dots_leave` meets its contract: the dots passed stay inside, and the first that leaves decides.
-use Rattle.word.proofs.Base.{rules}
-use Rattle.refusal.proofs.LineTouchLaws.{Same, same-at-first, same-when-leaves, same_turn, same-done}
+use Rattle.refusal.proofs.LineTouchLaws.{Same}
 use Rattle.refusal.proofs.touch.dots_leave.Given as goal
 
 abbrev pub invariant-loop-remaining : goal.invariant-loop-remaining

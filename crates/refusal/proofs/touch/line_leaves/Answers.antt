@@ -1,6 +1,5 @@
 -- `refusal::touch::line_leaves` meets its contract: no dot leaves memory that no pointer does; else the marks tell.
 use Rattle.refusal.proofs.LineTouchLaws.{line_touches-stay, line_touches-of-mark}
-use Rattle.word.proofs.Base.{rules}
 use Rattle.refusal.proofs.touch.line_leaves.Goals as goal
 
 pub returns-then-n : goal.returns-then-n

@@ -1,6 +1,5 @@
 -- `refusal::touch::row_leaves` meets its contract: a row's two ends tell for the row.
 use Rattle.refusal.proofs.RowTouchLaws.{leaves-when-ascending, leaves-when-first-above, leaves-when-first-below}
-use Rattle.word.proofs.Base.{rules}
 use Rattle.refusal.proofs.touch.row_leaves.Goals as goal
 
 pub returns-then-n-pointer : goal.returns-then-n-pointer

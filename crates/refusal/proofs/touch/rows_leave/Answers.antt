@@ -1,7 +1,5 @@
 -- the answers that are left
-use Rattle.word.proofs.Base.{◌≡◌, ◌<◌, rules}
-use Rattle.word.specs.Pointer.{pointer_end}
-use Rattle.refusal.specs.Touch.{touches, leaves}
+use Rattle.word.proofs.Base.{rules}
 use Rattle.refusal.proofs.TouchLaws.{touches-when-row-leaves, touches-turn, touches-done}
 use Rattle.refusal.proofs.touch.rows_leave.Goals as goal
 

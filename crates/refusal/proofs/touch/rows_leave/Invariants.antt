@@ -1,8 +1,7 @@
 -- `refusal::touch::rows_leave` meets its contract: the rows passed stay inside, and the first that leaves decides.
-use Rattle.word.proofs.Base.{◌≡◌, ◌<◌, rules}
+use Rattle.word.proofs.Base.{◌≡◌, ◌<◌}
 use Rattle.word.specs.Pointer.{pointer_end}
 use Rattle.refusal.specs.Touch.{touches, leaves}
-use Rattle.refusal.proofs.TouchLaws.{touches-when-row-leaves, touches-turn, touches-done}
 use Rattle.refusal.proofs.touch.rows_leave.Given as goal
 
 abbrev pub invariant-loop-remaining : goal.invariant-loop-remaining

@@ -1,5 +1,4 @@
 -- `round::channel::channel_clear` meets its contract: an unused channel doesn't count, and a clear one doesn't go round.
-use Rattle.word.proofs.Base.{rules}
 use Rattle.round.proofs.ChannelLaws.{channel_round-when-unused, channel_round-when-clear}
 use Rattle.round.proofs.channel.channel_clear.Goals as goal
 

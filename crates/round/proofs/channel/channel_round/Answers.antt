@@ -1,5 +1,5 @@
 -- `round::channel::channel_round` meets its contract: an unused channel doesn't count.
-use Rattle.word.proofs.Base.{sym, rules}
+use Rattle.word.proofs.Base.{sym}
 use Rattle.round.proofs.ChannelLaws.{channel_round-when-unused, channel_round-when-used}
 use Rattle.round.proofs.channel.channel_round.Goals as goal
 

@@ -1,8 +1,5 @@
 -- the answers that are left
-use Rattle.word.proofs.Base.{◌≡◌, ◌<◌, ◌≤◌, rules}
-use Rattle.word.specs.Pointer.{pointer_end}
-use Rattle.round.specs.Between.{went_round}
-use Rattle.round.specs.Channel.{channel_moves}
+use Rattle.word.proofs.Base.{rules}
 use Rattle.round.proofs.ChannelLaws.{rows-when-steps, rows-when-gap, rows-turn, gap-lt, rows-done}
 use Rattle.round.proofs.channel.rows_round.Goals as goal
 

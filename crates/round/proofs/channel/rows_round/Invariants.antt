@@ -1,9 +1,8 @@
 -- `round::channel::rows_round` meets its contract: the rows that remain tell what all tell.
-use Rattle.word.proofs.Base.{◌≡◌, ◌<◌, ◌≤◌, rules}
+use Rattle.word.proofs.Base.{◌≡◌, ◌<◌, ◌≤◌}
 use Rattle.word.specs.Pointer.{pointer_end}
 use Rattle.round.specs.Between.{went_round}
 use Rattle.round.specs.Channel.{channel_moves}
-use Rattle.round.proofs.ChannelLaws.{rows-when-steps, rows-when-gap, rows-turn, gap-lt, rows-done}
 use Rattle.round.proofs.channel.rows_round.Given as goal
 
 abbrev pub invariant-loop-remaining : goal.invariant-loop-remaining

@@ -1,5 +1,4 @@
 -- `round::course::always_round` meets its contract: with SUD it is horizontal.
-use Rattle.word.proofs.Base.{rules}
 use Rattle.round.proofs.DotLaws.{always_moves-when-horizontal, always_moves-when-vertical}
 use Rattle.round.proofs.course.always_round.Goals as goal
 

@@ -1,5 +1,4 @@
 -- `round::course::course_round` meets its contract: a line that can't come to an end stays, any other goes dot by dot.
-use Rattle.word.proofs.Base.{rules}
 use Rattle.round.proofs.LineLaws.{mark-fits}
 use Rattle.round.proofs.ReachLaws.{line-when-clear}
 use Rattle.round.proofs.course.course_round.Goals as goal

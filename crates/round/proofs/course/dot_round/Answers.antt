@@ -1,5 +1,4 @@
 -- `round::course::dot_round` meets its contract: the always move alone, or both, one after the other.
-use Rattle.word.proofs.Base.{rules}
 use Rattle.round.proofs.DotLaws.{dot_moves-when-set, dot_moves-when-sometimes, dot_moves-when-always}
 use Rattle.round.proofs.course.dot_round.Goals as goal
 

@@ -1,8 +1,5 @@
 -- the answers that are left
-use Rattle.word.proofs.Base.{◌≡◌, ◌<◌, ◌≤◌, rules}
-use Rattle.line.specs.Inner.Walk.{pixel_end, dot_of}
-use Rattle.round.specs.Between.{went_round}
-use Rattle.round.specs.Line.{line_moves}
+use Rattle.word.proofs.Base.{rules}
 use Rattle.round.proofs.LineLaws.{dots-when-round, dots-turn, dots-done, walked-lt}
 use Rattle.round.proofs.course.dots_round.Goals as goal
 

@@ -1,9 +1,8 @@
 -- `round::course::dots_round` meets its contract: the dots that remain tell what all tell.
-use Rattle.word.proofs.Base.{◌≡◌, ◌<◌, ◌≤◌, rules}
+use Rattle.word.proofs.Base.{◌≡◌, ◌<◌, ◌≤◌}
 use Rattle.line.specs.Inner.Walk.{pixel_end, dot_of}
 use Rattle.round.specs.Between.{went_round}
 use Rattle.round.specs.Line.{line_moves}
-use Rattle.round.proofs.LineLaws.{dots-when-round, dots-turn, dots-done, walked-lt}
 use Rattle.round.proofs.course.dots_round.Given as goal
 
 abbrev pub invariant-loop-remaining : goal.invariant-loop-remaining

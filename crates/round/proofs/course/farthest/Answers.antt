@@ -1,5 +1,4 @@
 -- `round::course::farthest` meets its contract: a product of what has bounds.
-use Rattle.word.proofs.Base.{rules}
 use Rattle.round.proofs.ReachLaws.{farthest-is, farthest-le, farthest-fits}
 use Rattle.round.proofs.course.farthest.Goals as goal
 

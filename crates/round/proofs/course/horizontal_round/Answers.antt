@@ -1,5 +1,4 @@
 -- `round::course::horizontal_round` meets its contract: left of the first pixel, right of the last.
-use Rattle.word.proofs.Base.{rules}
 use Rattle.round.proofs.DotLaws.{horizontal_moves-when-left, horizontal_moves-when-right}
 use Rattle.round.proofs.course.horizontal_round.Goals as goal
 

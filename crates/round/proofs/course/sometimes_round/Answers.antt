@@ -1,5 +1,4 @@
 -- `round::course::sometimes_round` meets its contract: with SUD it is vertical.
-use Rattle.word.proofs.Base.{rules}
 use Rattle.round.proofs.DotLaws.{sometimes_moves-when-vertical, sometimes_moves-when-horizontal}
 use Rattle.round.proofs.course.sometimes_round.Goals as goal
 

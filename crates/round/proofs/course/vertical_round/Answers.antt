@@ -1,5 +1,4 @@
 -- `round::course::vertical_round` meets its contract: down adds a row, up takes it away.
-use Rattle.word.proofs.Base.{rules}
 use Rattle.round.proofs.DotLaws.{vertical_moves-when-up, vertical_moves-when-down}
 use Rattle.round.proofs.course.vertical_round.Goals as goal
 

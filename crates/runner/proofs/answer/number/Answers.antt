@@ -1,5 +1,4 @@
 -- `runner::answer::number` meets its contract: 0 where the run is done, otherwise the number of the reason.
-use Rattle.word.proofs.Base.{rules}
 use Rattle.runner.proofs.RunLaws.{answer_number-of-refused}
 use Rattle.runner.proofs.answer.number.Goals as goal
 

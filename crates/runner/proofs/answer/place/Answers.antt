@@ -1,5 +1,4 @@
 -- `runner::answer::place` meets its contract: 0 where the run is done, otherwise the place of the refused step.
-use Rattle.word.proofs.Base.{rules}
 use Rattle.runner.proofs.RunLaws.{answer_place-of-refused}
 use Rattle.runner.proofs.answer.place.Goals as goal
 

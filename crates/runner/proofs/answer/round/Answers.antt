@@ -1,5 +1,4 @@
 -- `runner::answer::round` meets its contract: the yes, of the steps before the refused one too.
-use Rattle.word.proofs.Base.{rules}
 use Rattle.runner.proofs.RunLaws.{answer_round-of-refused}
 use Rattle.runner.proofs.answer.round.Goals as goal
 

@@ -1,5 +1,4 @@
 -- `runner::answer::stored` meets its contract: the count, of the steps before the refused one too.
-use Rattle.word.proofs.Base.{rules}
 use Rattle.runner.proofs.RunLaws.{answer_stored-of-refused}
 use Rattle.runner.proofs.answer.stored.Goals as goal
 

@@ -1,6 +1,5 @@
 -- `runner::step::size_step` meets its contract: the step answers what the blit answers.
 use Rattle.runner.proofs.EffectLaws.{blit_step-when-done, blit_step-when-refused}
-use Rattle.word.proofs.Base.{rules}
 use Rattle.runner.proofs.step.size_step.Goals as goal
 
 pub returns-in-Done : goal.returns-in-Done

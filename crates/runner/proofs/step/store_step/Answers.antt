@@ -1,6 +1,5 @@
 -- `runner::step::store_step` meets its contract: the one test is the definition's.
 use Rattle.runner.proofs.EffectLaws.{step_effect-when-outside, step_effect-when-inside}
-use Rattle.word.proofs.Base.{rules}
 use Rattle.runner.proofs.step.store_step.Goals as goal
 
 pub returns-then-ram-to : goal.returns-then-ram-to

@@ -1,6 +1,5 @@
 -- `runner::step::take` meets its contract: each kind of step has its own function.
 use Rattle.runner.proofs.EffectLaws.{step_effect-of-kind, step_effect-of-size}
-use Rattle.word.proofs.Base.{rules}
 use Rattle.runner.proofs.step.take.Goals as goal
 
 pub returns-in-Register : goal.returns-in-Register

@@ -1,7 +1,6 @@
 -- the answers that are left
-use Rattle.word.proofs.Base.{◌≡◌, ◌-◌, ◌*◌, ◌≤◌, false, rules, length}
-use Rattle.runner.specs.Run.{machine, run_from}
-use Rattle.runner.proofs.RunLaws.{run_at, run_at-at-end, run_at-of-end, run_at-of-fault, run_at-turn, run_at-of-refused, stored-le, stored-fits}
+use Rattle.word.proofs.Base.{◌-◌, rules}
+use Rattle.runner.proofs.RunLaws.{run_at-at-end, run_at-of-end, run_at-of-fault, run_at-turn, run_at-of-refused, stored-le, stored-fits}
 use Rattle.job.proofs.StepLaws.{read-falls, read-inside}
 use Rattle.runner.proofs.steps.run_steps.Goals as goal
 

@@ -1,8 +1,7 @@
 -- `runner::steps::run_steps` meets its contract: what is left of the job from here gives what the whole gives.
-use Rattle.word.proofs.Base.{◌≡◌, ◌-◌, ◌*◌, ◌≤◌, false, rules, length}
+use Rattle.word.proofs.Base.{◌≡◌, ◌-◌, ◌*◌, ◌≤◌, false, length}
 use Rattle.runner.specs.Run.{machine, run_from}
-use Rattle.runner.proofs.RunLaws.{run_at, run_at-at-end, run_at-of-end, run_at-of-fault, run_at-turn, run_at-of-refused, stored-le, stored-fits}
-use Rattle.job.proofs.StepLaws.{read-falls, read-inside}
+use Rattle.runner.proofs.RunLaws.{run_at}
 use Rattle.runner.proofs.steps.run_steps.Given as goal
 
 abbrev pub invariant-loop-at : goal.invariant-loop-at

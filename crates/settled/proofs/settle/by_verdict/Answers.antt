@@ -1,7 +1,6 @@
 -- `settled::settle::by_verdict` meets its contract: no refusal has the number 0, and a lawful blit goes by its plan.
 use Rattle.blit.proofs.BlitLaws.{plan-of-verdict}
 use Rattle.settled.proofs.SettledLaws.{kept-when-refused, fate-when-lawful}
-use Rattle.word.proofs.Base.{rules}
 use Rattle.settled.proofs.settle.by_verdict.Goals as goal
 
 pub goes_round-requires : goal.goes_round-requires

@@ -1,6 +1,5 @@
 -- `settled::settle::controls_known` meets its contract: the five registers.
 use Rattle.settled.proofs.SettledLaws.{controls_known-of-parts}
-use Rattle.word.proofs.Base.{rules}
 use Rattle.settled.proofs.settle.controls_known.Goals as goal
 
 pub returns : goal.returns

@@ -1,6 +1,6 @@
 -- `settled::settle::fate` meets its contract: a condition that fails keeps it; where the cheap ones hold, the verdict tells.
 use Rattle.settled.proofs.SettledLaws.{fate-when-large, fate-when-unknown, fate-when-fetching, fate-when-sourceless, fate-when-known}
-use Rattle.word.proofs.Base.{not-true, not-false, rules}
+use Rattle.word.proofs.Base.{not-true, not-false}
 use Rattle.settled.proofs.settle.fate.Goals as goal
 
 pub returns-then-not-small : goal.returns-then-not-small

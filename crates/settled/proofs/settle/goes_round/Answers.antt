@@ -1,6 +1,5 @@
 -- `settled::settle::goes_round` meets its contract: the plan is an area's or a line's, as the file's line bit says.
 use Rattle.round.proofs.RoundLaws.{planned-area-in-range, goes_round-of-area, planned-line-in-range, goes_round-of-line}
-use Rattle.word.proofs.Base.{rules}
 use Rattle.settled.proofs.settle.goes_round.Goals as goal
 
 pub area_by_rows-requires : goal.area_by_rows-requires

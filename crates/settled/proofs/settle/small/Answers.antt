@@ -1,7 +1,6 @@
 -- `settled::settle::small` meets its contract: the product of height and width, which fits.
 use Rattle.word.proofs.SizeLaws.{words-fit}
 use Rattle.settled.proofs.SettledLaws.{small-of-parts}
-use Rattle.word.proofs.Base.{rules}
 use Rattle.settled.proofs.settle.small.Goals as goal
 
 pub overflow_mul-result : goal.overflow_mul-result

@@ -1,6 +1,5 @@
 -- `word::even::span_inside` meets its contract: a row's far end tells, ascending at the highest start, descending at the lowest.
 use Rattle.word.proofs.EvenLaws.{SpanInside-when-ascending, SpanInside-when-descending, nothing-promised}
-use Rattle.word.proofs.Base.{rules}
 use Rattle.word.proofs.even.span_inside.Goals as goal
 
 pub returns-then-n-highest : goal.returns-then-n-highest

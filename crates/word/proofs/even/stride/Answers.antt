@@ -1,5 +1,5 @@
 -- `word::even::stride` meets its contract: the next row of one that starts at the start of memory.
-use Rattle.word.proofs.Base.{ap, rules}
+use Rattle.word.proofs.Base.{ap}
 use Rattle.word.specs.declared.types.Pointer.{Pointer}
 use Rattle.word.proofs.even.stride.Goals as goal
 

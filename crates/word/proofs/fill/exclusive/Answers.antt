@@ -1,5 +1,5 @@
 -- `word::fill::exclusive` meets its contract: its four doublings are the prefix of `FillLaws`.
-use Rattle.word.proofs.Base.{arith, rules}
+use Rattle.word.proofs.Base.{arith}
 use Rattle.word.proofs.FillLaws.{prefix, exclusive-is-prefix}
 use Rattle.word.proofs.fill.exclusive.Goals as goal
 

@@ -1,5 +1,5 @@
 -- `word::logic::logic` meets its contract: its seven picks are the tree of `LogicLaws`.
-use Rattle.word.proofs.Base.{arith, rules}
+use Rattle.word.proofs.Base.{arith}
 use Rattle.word.proofs.LogicLaws.{picked, logic-is-tree}
 use Rattle.word.proofs.logic.logic.Goals as goal
 

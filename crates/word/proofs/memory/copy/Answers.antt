@@ -1,6 +1,5 @@
 -- the answers that are left
-use Rattle.word.proofs.Base.{◌≡◌, rules, length, take, drop}
-use Rattle.word.specs.Laid.{laid}
+use Rattle.word.proofs.Base.{rules}
 use Rattle.word.proofs.LaidLaws.{copied-turn, copied_all, copied-to-the-end, copied-to-the-brim}
 use Rattle.word.proofs.memory.copy.Goals as goal
 

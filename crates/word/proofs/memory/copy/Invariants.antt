@@ -1,7 +1,6 @@
 -- `word::memory::copy` meets its contract: what is left to copy from here gives what the whole gives.
-use Rattle.word.proofs.Base.{◌≡◌, rules, length, take, drop}
+use Rattle.word.proofs.Base.{◌≡◌, length, take, drop}
 use Rattle.word.specs.Laid.{laid}
-use Rattle.word.proofs.LaidLaws.{copied-turn, copied_all, copied-to-the-end, copied-to-the-brim}
 use Rattle.word.proofs.memory.copy.Given as goal
 
 abbrev pub invariant-loop-remaining : goal.invariant-loop-remaining

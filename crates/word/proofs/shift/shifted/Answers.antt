@@ -1,6 +1,5 @@
 -- `word::shift::shifted` meets its contract, direction by direction.
 use Rattle.word.proofs.ShiftLaws.{shifted-when-ascending, shifted-when-descending}
-use Rattle.word.proofs.Base.{rules}
 use Rattle.word.proofs.shift.shifted.Goals as goal
 
 pub returns-in-Ascending : goal.returns-in-Ascending

@@ -1,6 +1,5 @@
 -- `Knowledge::numbers` meets its contract: the numbers part by part.
 use Rattle.knowledge.proofs.KnowledgeLaws.{numbers-of-parts}
-use borrow.Author.Rules.{rules}
 use Rattle.knowledge.proofs.types.Knowledge.numbers.Goals as goal
 
 pub returns : goal.returns

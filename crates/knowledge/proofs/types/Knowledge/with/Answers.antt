@@ -12,7 +12,6 @@ use Rattle.knowledge.specs.declared.types.Sources.{Sources}
 use Rattle.knowledge.specs.declared.types.Knowledge.{Knowledge}
 use Rattle.knowledge.specs.Knowledge.{controls, pointers, modulos, sources, listed}
 use Rattle.knowledge.proofs.PartLaws.{set-in-part, set-in-last}
-use borrow.Author.Rules.{rules}
 use Rattle.knowledge.proofs.types.Knowledge.with.Goals as goal
 
 listed-with-controls : (self : Knowledge) (after : Controls) (place : ℕ) (known : Known)

@@ -1,6 +1,5 @@
 -- `Known::number` meets its contract, case by case.
 use Rattle.knowledge.proofs.KnownLaws.{number-when-is, number-when-unknown}
-use borrow.Author.Rules.{rules}
 use Rattle.knowledge.proofs.types.Known.number.Goals as goal
 
 pub returns-in-Is : goal.returns-in-Is

@@ -9,7 +9,6 @@ use Rattle.knowledge.specs.declared.types.Halves.{Halves}
 use Rattle.knowledge.specs.declared.types.Pointers.{Pointers}
 use Rattle.knowledge.specs.Knowledge.{halves, pointers}
 use Rattle.knowledge.proofs.PartLaws.{set-in-part, set-past-end}
-use borrow.Author.Rules.{rules}
 use Rattle.knowledge.proofs.types.Pointers.with.Goals as goal
 
 pointers-with-c : (self : Pointers) (after : Halves) (place : ℕ) (known : Known)

@@ -1,6 +1,6 @@
 -- `Pointer::down` meets its contract: a bounded word number moves as any other.
 use Rattle.word.proofs.RoundLaws.{move-of-parts}
-use Rattle.word.proofs.Base.{refl, rules}
+use Rattle.word.proofs.Base.{refl}
 use Rattle.word.proofs.types.Pointer.down.Goals as goal
 
 pub returns : goal.returns

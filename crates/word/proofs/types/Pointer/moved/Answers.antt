@@ -1,6 +1,5 @@
 -- `Pointer::moved` meets its contract, direction by direction.
 use Rattle.word.proofs.RoundLaws.{word_move-when-ascending, word_move-when-descending}
-use Rattle.word.proofs.Base.{rules}
 use Rattle.word.proofs.types.Pointer.moved.Goals as goal
 
 pub returns-in-Ascending : goal.returns-in-Ascending

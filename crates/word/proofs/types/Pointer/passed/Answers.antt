@@ -1,6 +1,5 @@
 -- `Pointer::passed` meets its contract, direction by direction.
 use Rattle.word.proofs.RoundLaws.{modulo_move-when-ascending, modulo_move-when-descending}
-use Rattle.word.proofs.Base.{rules}
 use Rattle.word.proofs.types.Pointer.passed.Goals as goal
 
 pub returns-in-Ascending : goal.returns-in-Ascending

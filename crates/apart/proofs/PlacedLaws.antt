@@ -1,9 +1,9 @@
 -- Laws of places: the pointers' own moves, and the sums.
+use Rattle.std.specs.Prelude.{if◌then◌else◌}
 use Rattle.word.proofs.Base.{◌≡◌, refl, sym, ap, ◌∙◌, ℕ, zero, suc, ◌+◌, ◌-◌, ◌*◌, ◌/◌, ◌%◌, ◌<◌, ◌≤◌, mod-lt, add-one}
 use Rattle.word.proofs.Base.{arith, Bool, true, false}
 use native.Mathlib.Nat.{div-lt_iff_lt-mul}
 use Rattle.word.specs.declared.types.Direction.TheVariants.{Ascending, Descending}
-use Rattle.word.specs.Choice.{if◌then◌else◌}
 use Rattle.word.specs.Repeat.{repeated}
 use Rattle.word.specs.Pointer.{pointer_end, moved, passed, next_row}
 use Rattle.word.specs.Inner.Even.{RowInside}

@@ -1,6 +1,6 @@
 -- Every word is counted if D is used: a blit's count is its words, or none.
+use Rattle.std.specs.Prelude.{if◌then◌else◌}
 use Rattle.word.proofs.Base.{◌≡◌, refl, sym, ap, ◌∙◌, ℕ, zero, suc, ◌+◌, ◌*◌, suc-mul, arith, Bool, true, false}
-use Rattle.word.specs.Choice.{if◌then◌else◌}
 use Rattle.word.specs.Repeat.{repeated}
 use Rattle.area.specs.declared.types.Setup.{Setup}
 use Rattle.area.specs.Flow.{State}

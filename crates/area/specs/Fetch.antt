@@ -1,9 +1,8 @@
 -- Paper 01, "The area blit": "A used source fetches at its pointer; a source not in use gives its data register each
 -- time."
 -- "The data register of each used source holds the last word it fetched, unmasked."
-use Rattle.std.specs.Prelude.{ℕ, Bool, List, get_or}
+use Rattle.std.specs.Prelude.{ℕ, Bool, List, get_or, if◌then◌else◌}
 use Rattle.word.specs.declared.types.Pointer.{Pointer}
-use Rattle.word.specs.Choice.{if◌then◌else◌}
 use Rattle.word.specs.declared.types.Uses.{Uses}
 use Rattle.area.specs.declared.types.Flow.{Flow}
 use Rattle.area.specs.With.{with_sources}

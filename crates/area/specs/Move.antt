@@ -1,8 +1,7 @@
 -- Paper 01, "The area blit": the moves of the pointers after a word and at a row's end. "Unused pointers stay."
-use Rattle.std.specs.Prelude.{ℕ, Bool}
+use Rattle.std.specs.Prelude.{ℕ, Bool, if◌then◌else◌}
 use Rattle.word.specs.declared.types.Direction.{Direction}
 use Rattle.word.specs.declared.types.Pointer.{Pointer}
-use Rattle.word.specs.Choice.{if◌then◌else◌}
 use Rattle.word.specs.Pointer.{moved, passed}
 use Rattle.word.specs.declared.types.Uses.{Uses}
 use Rattle.area.specs.declared.types.Modulos.{Modulos}

@@ -1,10 +1,9 @@
 -- Paper 01, "The area blit": what a blit doesn't change, by the control registers, the masks and the modulos.
-use Rattle.std.specs.Prelude.{ℕ, List, get_or}
+use Rattle.std.specs.Prelude.{ℕ, List, get_or, if◌then◌else◌}
 use Rattle.word.specs.declared.types.Direction.{Direction}
 use Rattle.word.specs.declared.types.Direction.TheVariants.{Ascending, Descending}
 use Rattle.word.specs.declared.types.Fill.{Fill}
 use Rattle.word.specs.declared.types.Fill.TheVariants.{Off, Inclusive, Exclusive}
-use Rattle.word.specs.Choice.{if◌then◌else◌}
 use Rattle.word.specs.Control.{shift, uses, function, exclusive_fill, inclusive_fill, carry_in, descending}
 use Rattle.word.specs.Pointer.{half}
 use Rattle.file.specs.File.{con0, con1}

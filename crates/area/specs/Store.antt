@@ -1,6 +1,5 @@
 -- Paper 02, W2: the final word waits, if D is used, for the place of D's pointer; it is stored and counted later.
-use Rattle.std.specs.Prelude.{ℕ, ◌+◌, Bool, List, set}
-use Rattle.word.specs.Choice.{if◌then◌else◌}
+use Rattle.std.specs.Prelude.{ℕ, ◌+◌, Bool, List, set, if◌then◌else◌}
 use Rattle.area.specs.declared.types.Pending.{Pending}
 use Rattle.area.specs.declared.types.Flow.{Flow}
 use Rattle.area.specs.Flow.{State, state, nothing}

@@ -1,6 +1,5 @@
 -- Paper 01, "Copper": "WAIT six or to the first place after that where it is satisfied".
-use Rattle.std.specs.Prelude.{ℕ, zero, suc, ◌+◌, ◌-◌}
-use Rattle.word.specs.Choice.{if◌then◌else◌}
+use Rattle.std.specs.Prelude.{ℕ, zero, suc, ◌+◌, ◌-◌, if◌then◌else◌}
 use Rattle.beam.specs.Beam.{frame_end}
 use Rattle.beam.specs.Satisfied.{satisfied}
 

@@ -1,4 +1,5 @@
 -- Laws of the blit: what it writes back, and how it is put together from its parts.
+use Rattle.std.specs.Prelude.{if◌then◌else◌}
 use Rattle.word.proofs.Base.{◌≡◌, refl, ap, ℕ, ◌+◌, ◌*◌, ◌<◌, ◌≤◌, arith, Bool, true, false, eqb, eqb-true, ne_eqb, List, length}
 use Rattle.word.proofs.Base.{length-set}
 use native.Mathlib.Nat.{mul-one, mul-zero}
@@ -6,7 +7,6 @@ use Rattle.word.specs.declared.types.Pointer.{Pointer}
 use Rattle.word.specs.declared.types.Uses.{Uses}
 use Rattle.word.specs.Pointer.{pointer_end}
 use Rattle.word.specs.Size.{height, width}
-use Rattle.word.specs.Choice.{if◌then◌else◌}
 use Rattle.word.proofs.SizeLaws.{height-le, words-le}
 use Rattle.area.specs.declared.types.Flow.{Flow}
 use Rattle.refusal.specs.declared.types.Refusal.{Refusal}

@@ -1,8 +1,8 @@
 -- A blit changes no register but those of used channels and the flag: each is put at its own place.
+use Rattle.std.specs.Prelude.{if◌then◌else◌}
 use Rattle.word.proofs.Base.{◌≡◌, refl, sym, ◌∙◌, ℕ, ◌+◌, arith, Bool, true, false, ◌||◌, eqb, eqb-true, eqb-false, List, [], ◌∷◌, ◌++◌}
 use Rattle.word.proofs.Base.{length, get_or, set, get_or-set_other}
 use Rattle.word.specs.declared.types.Pointer.{Pointer}
-use Rattle.word.specs.Choice.{if◌then◌else◌}
 use Rattle.word.specs.Pointer.{high, low}
 use Rattle.word.proofs.ChoiceLaws.{or_left, or_right}
 use Rattle.file.specs.Places.{pointer_a, pointer_b, pointer_c, pointer_d, source_a, source_b, source_c, flag}

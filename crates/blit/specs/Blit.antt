@@ -1,8 +1,7 @@
 -- Paper 01, "Jobs": "The blit called alone, with memory, register file and size, gives [its number] .. and the count"; and
 -- paper 02, W12: a yes "exactly when some used channel (in a line, C) went round between two of its accesses in a blit
 -- that was done".
-use Rattle.std.specs.Prelude.{ℕ, Bool, false, List, eqb, length}
-use Rattle.word.specs.Choice.{if◌then◌else◌}
+use Rattle.std.specs.Prelude.{ℕ, Bool, false, List, eqb, length, if◌then◌else◌}
 use Rattle.word.specs.Size.{height, width}
 use Rattle.blit.specs.declared.types.Answer.{Answer}
 use Rattle.blit.specs.declared.types.Answer.TheVariants.{Done, Refused}

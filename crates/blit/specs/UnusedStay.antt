@@ -1,7 +1,6 @@
 -- "Unused pointers stay", and so do unused data registers, controls, masks and modulos: a blit changes no other
 -- register.
-use Rattle.std.specs.Prelude.{ℕ, ◌+◌, ◌≡◌, Bool, false, List, [], ◌∷◌, ◌++◌, get_or}
-use Rattle.word.specs.Choice.{if◌then◌else◌}
+use Rattle.std.specs.Prelude.{ℕ, ◌+◌, ◌≡◌, Bool, false, List, [], ◌∷◌, ◌++◌, get_or, if◌then◌else◌}
 use Rattle.file.specs.Places.{pointer_a, pointer_b, pointer_c, pointer_d, source_a, source_b, source_c, flag}
 use Rattle.word.specs.declared.types.Uses.{Uses}
 use Rattle.area.specs.Setup.{setup}

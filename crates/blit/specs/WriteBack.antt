@@ -1,7 +1,6 @@
 -- Paper 01, "The area blit": what a blit writes back to the register file.
-use Rattle.std.specs.Prelude.{ℕ, Bool, List, set}
+use Rattle.std.specs.Prelude.{ℕ, Bool, List, set, if◌then◌else◌}
 use Rattle.word.specs.declared.types.Pointer.{Pointer}
-use Rattle.word.specs.Choice.{if◌then◌else◌}
 use Rattle.file.specs.Places.{pointer_a, pointer_b, pointer_c, pointer_d, source_a, source_b, source_c}
 use Rattle.file.specs.Pointers.{with_pointer, put_flag}
 use Rattle.word.specs.declared.types.Uses.{Uses}

@@ -1,11 +1,11 @@
 -- Laws of the fill of a block's rows: a carry turns a prefix over, and either way of filling goes by the carries.
+use Rattle.std.specs.Prelude.{if◌then◌else◌}
 use Rattle.word.proofs.Base.{◌≡◌, refl, sym, ap, ◌∙◌, ℕ, zero, suc, ◌+◌, ◌-◌, ◌*◌, ◌/◌, ◌%◌, ◌<◌, ◌≤◌, add-zero}
 use Rattle.word.proofs.Base.{add-suc, add-one, arith, Bool, true, false, eqb, List, length, get_or, set, length-set, bit_xor}
 use native.Mathlib.Nat.{add_assoc}
 use lib.Bits.{xor_zero_r}
 use Rattle.word.specs.declared.types.Fill.{Fill}
 use Rattle.word.specs.declared.types.Fill.TheVariants.{Off, Inclusive, Exclusive}
-use Rattle.word.specs.Choice.{if◌then◌else◌}
 use Rattle.word.specs.Fill.{carry, exclusive, filled}
 use Rattle.word.proofs.FillLaws.{doubled, prefix, exclusive-is-prefix, carry-lt, carry-is-top-bit, inclusive-is-or}
 use Rattle.quiet.specs.Words.{word_before, carry_to, filled_at}

@@ -1,7 +1,8 @@
 -- One block is a blit of its rows: its words are those of the quiet blit.
+use Rattle.std.specs.Prelude.{if◌then◌else◌}
 use Rattle.word.proofs.Base.{◌≡◌, refl, sym, ap, ◌∙◌, ℕ, zero, suc, ◌+◌, ◌-◌, ◌*◌, ◌<◌, ◌≤◌, mul-le-mul_right, sub-one, arith, Bool, true}
 use Rattle.word.proofs.Base.{◌%◌, dec_lt, ◌&&◌, not, false, eqb, eq-eqb, ne_eqb, List, get_or}
-use Rattle.word.specs.Choice.{if◌then◌else◌, every}
+use Rattle.word.specs.Choice.{every}
 use Rattle.word.specs.Mask.{masked}
 use Rattle.word.proofs.ChoiceLaws.{and_left}
 use Rattle.area.specs.Flow.{state}

@@ -1,6 +1,5 @@
 // One block: its sources, its final words, their stores, and the flow after it.
-ghost use Rattle.std.specs.Prelude.{◌≡◌, true, ◌&&◌, not, ◌+◌, ◌*◌, ◌<◌, ◌≤◌, length};
-ghost use Rattle.word.specs.Choice.{if◌then◌else◌};
+ghost use Rattle.std.specs.Prelude.{◌≡◌, true, ◌&&◌, not, ◌+◌, ◌*◌, ◌<◌, ◌≤◌, length, if◌then◌else◌};
 ghost use Rattle.area.specs.Flow.{state};
 ghost use Rattle.area.specs.Rows.{area_blit};
 ghost use Rattle.quiet.specs.Stream.{laid_at};

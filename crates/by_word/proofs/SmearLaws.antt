@@ -1,4 +1,5 @@
 -- Laws of a smear: its words are those of the blit, each found when A comes to it.
+use Rattle.std.specs.Prelude.{if◌then◌else◌}
 use Rattle.word.proofs.Base.{◌≡◌, refl, sym, ap, ◌∙◌, ℕ, zero, suc, ◌+◌, ◌-◌, ◌*◌, ◌%◌, ◌<◌, ◌≤◌, add-one, sub-one, dec_lt, arith}
 use Rattle.word.proofs.Base.{Bool, true, false, ◌&&◌, eqb, List, get_or, set, get_or-set_other}
 use Rattle.word.proofs.Base.{suc-mul, mul-le-mul, mul-le-mul_right, ◌||◌, not, ltb, eqb-true, eqb-false, not-false}
@@ -16,7 +17,7 @@ use Rattle.word.specs.Pointer.{pointer_end}
 use Rattle.word.specs.Shift.{shifted}
 use Rattle.word.specs.Inner.Even.{RowInside}
 use Rattle.word.proofs.MaskLaws.{masked-by-ones}
-use Rattle.word.specs.Choice.{if◌then◌else◌, every}
+use Rattle.word.specs.Choice.{every}
 use Rattle.word.proofs.ChoiceLaws.{if-when-true, or_left, or_right, every-turn}
 use Rattle.area.specs.declared.types.Setup.{Setup}
 use Rattle.area.specs.declared.types.Flow.{Flow}

@@ -1,11 +1,11 @@
 -- The first bytes of a text decide: a good first line is short, and the lines after it have ten bytes each.
+use Rattle.std.specs.Prelude.{if◌then◌else◌}
 use Rattle.word.proofs.Base.{◌≡◌, refl, sym, ap, ◌∙◌, ℕ, zero, suc, ◌+◌, ◌*◌, ◌<◌, ◌≤◌, dec_lt, arith, Bool, true, false}
 use Rattle.word.proofs.Base.{◌&&◌, not, eqb, leb, ne_eqb, eqb-false, not-true, List, [], ◌∷◌, ◌++◌, length, get_or, take}
 use Rattle.word.proofs.Base.{drop, length-append, length-take-le}
 use Prim.Native.Char.{code}
 use lib.ListN.{length-drop, take-append-drop, get_or-append}
 use lib.Seq.{take_all, drop-append-le, get_or-drop}
-use Rattle.word.specs.Choice.{if◌then◌else◌}
 use Rattle.word.proofs.ChoiceLaws.{and_left, and_right}
 use Rattle.card_reading.specs.Text.{byte, decimal_digit}
 use Rattle.card_reading.specs.RamLine.{digits, with_digit, spelled, ram_words, ram_end, ram_key, ram_line}

@@ -1,7 +1,7 @@
 -- What a card gives is no longer than its room: each line has its most, and memory at most 32,768 words.
+use Rattle.std.specs.Prelude.{if◌then◌else◌}
 use Rattle.word.proofs.Base.{◌≡◌, refl, ap, ◌∙◌, ℕ, ◌+◌, ◌*◌, ◌/◌, ◌%◌, ◌<◌, ◌≤◌, dec_lt, arith, Bool, true, false, eqb}
 use Rattle.word.proofs.Base.{leb, eqb-true, List, [], ◌∷◌, ◌++◌, length, get_or, length-append}
-use Rattle.word.specs.Choice.{if◌then◌else◌}
 use Rattle.file.specs.Places.{file_length, flag}
 use Rattle.job.specs.Steps.{steps_from}
 use Rattle.runner.specs.Run.{End, machine, start_refusal, run}

@@ -1,9 +1,9 @@
 -- Laws of a card's first line: its digits one by one, and what they give.
+use Rattle.std.specs.Prelude.{if◌then◌else◌}
 use Rattle.word.proofs.Base.{◌≡◌, refl, sym, ap, ◌∙◌, ℕ, zero, suc, ◌+◌, ◌<◌, ◌≤◌, dec_lt, arith, Bool, true, false}
 use Rattle.word.proofs.Base.{◌&&◌, not, eqb, leb, ne_eqb, eqb-true, le-leb, lt-leb, leb-true, List, [], ◌∷◌, length}
 use Rattle.word.proofs.Base.{get_or, drop, List·get_or-eq-default, drop_of_length-le, drop-cons}
 use Prim.Native.Char.{code}
-use Rattle.word.specs.Choice.{if◌then◌else◌}
 use Rattle.word.proofs.ChoiceLaws.{and_left, and_right, and_none}
 use Rattle.card_reading.specs.declared.types.Ram.{Ram}
 use Rattle.card_reading.specs.Text.{newline, byte, decimal_digit}

@@ -1,9 +1,9 @@
 -- Laws of a card's lines: what is read of the first, and the first bad one of the others.
+use Rattle.std.specs.Prelude.{if◌then◌else◌}
 use Rattle.word.proofs.Base.{◌≡◌, refl, sym, ap, ◌∙◌, ℕ, zero, suc, ◌+◌, ◌-◌, ◌*◌, ◌<◌, ◌≤◌, add-zero, dec_lt, arith}
 use Rattle.word.proofs.Base.{Bool, true, false, ◌&&◌, eqb, eq-eqb, ne_eqb, eqb-true, List, length, get_or}
 use Rattle.word.proofs.Base.{List·get_or-eq-default}
 use Prim.Native.Char.{code}
-use Rattle.word.specs.Choice.{if◌then◌else◌}
 use Rattle.word.proofs.ChoiceLaws.{and_none}
 use Rattle.card_reading.specs.Text.{newline, equals, byte, hex_digit}
 use Rattle.card_reading.specs.RamLine.{digits, ram_key}

@@ -1,7 +1,6 @@
 -- Paper 01, "The bench card": the first line.
-use Rattle.std.specs.Prelude.{ℕ, ◌+◌, ◌*◌, ◌-◌, Bool, not, ◌&&◌, List, [], ◌∷◌, eqb, leb, length, drop}
+use Rattle.std.specs.Prelude.{ℕ, ◌+◌, ◌*◌, ◌-◌, Bool, not, ◌&&◌, List, [], ◌∷◌, eqb, leb, length, drop, if◌then◌else◌}
 use Prim.Native.Char.{code}
-use Rattle.word.specs.Choice.{if◌then◌else◌}
 use Rattle.card_reading.specs.Text.{newline, equals, byte, decimal_digit}
 
 -- "ram (decimal 1 to 32768, no leading zero)": the digits that follow `ram=`, the number that they spell

@@ -1,6 +1,5 @@
 -- Paper 01, "The bench card": "21 key=value lines in this order, each ended by a newline, nothing after".
-use Rattle.std.specs.Prelude.{ℕ, zero, suc, ◌+◌, Bool, ◌&&◌, List, eqb, length}
-use Rattle.word.specs.Choice.{if◌then◌else◌}
+use Rattle.std.specs.Prelude.{ℕ, zero, suc, ◌+◌, Bool, ◌&&◌, List, eqb, length, if◌then◌else◌}
 use Rattle.card_reading.specs.Text.{newline, equals, byte, hex_digit}
 use Rattle.card_reading.specs.RamLine.{ram_end, ram_line}
 use Rattle.card_reading.specs.Keys.{key_count, letter, line_length}

@@ -1,7 +1,6 @@
 -- Bytes of a text: digits read, digits printed.
-use Rattle.std.specs.Prelude.{ℕ, ◌+◌, ◌*◌, ◌-◌, ◌/◌, ◌%◌, Bool, ◌&&◌, ◌||◌, List, [], ◌∷◌, ◌++◌, leb, get_or}
+use Rattle.std.specs.Prelude.{ℕ, ◌+◌, ◌*◌, ◌-◌, ◌/◌, ◌%◌, Bool, ◌&&◌, ◌||◌, List, [], ◌∷◌, ◌++◌, leb, get_or, if◌then◌else◌}
 use Prim.Native.Char.{code}
-use Rattle.word.specs.Choice.{if◌then◌else◌}
 
 abbrev pub newline : ℕ
 newline = code "\n"

@@ -1,6 +1,5 @@
 -- Paper 01, "The bench card": the text that a card gives, and the output as it is left.
-use Rattle.std.specs.Prelude.{ℕ, ◌+◌, List, eqb, length}
-use Rattle.word.specs.Choice.{if◌then◌else◌}
+use Rattle.std.specs.Prelude.{ℕ, ◌+◌, List, eqb, length, if◌then◌else◌}
 use Rattle.word.specs.Laid.{laid}
 use Rattle.card_reading.specs.Reading.{bad_line}
 use Rattle.card_text.specs.Run.{card_run}

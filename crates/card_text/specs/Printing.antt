@@ -1,6 +1,5 @@
 -- Paper 01, "The bench card": what it prints of a run, and of a bad card.
-use Rattle.std.specs.Prelude.{ℕ, ◌+◌, ◌*◌, List, [], ◌∷◌, ◌++◌, eqb, get_or}
-use Rattle.word.specs.Choice.{if◌then◌else◌}
+use Rattle.std.specs.Prelude.{ℕ, ◌+◌, ◌*◌, List, [], ◌∷◌, ◌++◌, eqb, get_or, if◌then◌else◌}
 use Rattle.file.specs.Places.{pointer_d, flag}
 use Rattle.runner.specs.Run.{End}
 use Rattle.card_reading.specs.Letters.{bytes}

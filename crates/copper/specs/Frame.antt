@@ -1,8 +1,8 @@
 -- Paper 02, W8: "Run a kiosk's list from a given word of chip memory for one frame". "The caller lends a number of
 -- instructions. The answer tells why it stopped (end of frame, else number used up, else refusal), how many were done,
 -- and the word of the next or the refused one."
-use Rattle.std.specs.Prelude.{ℕ, zero, suc, Bool, not, List, [], ◌∷◌, eqb, leb, length}
-use Rattle.word.specs.Choice.{if◌then◌else◌, Rule, ◌when◌, given}
+use Rattle.std.specs.Prelude.{ℕ, zero, suc, Bool, not, List, [], ◌∷◌, eqb, leb, length, if◌then◌else◌}
+use Rattle.word.specs.Choice.{Rule, ◌when◌, given}
 use Rattle.file.specs.File.{accepted}
 use Rattle.beam.specs.Beam.{frame_end}
 use Rattle.word.specs.Memory.{memory_size}

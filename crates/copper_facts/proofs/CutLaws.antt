@@ -1,7 +1,8 @@
 -- Cutting a frame and going on, and a refused one: wherever a frame stops.
+use Rattle.std.specs.Prelude.{if◌then◌else◌}
 use Rattle.word.proofs.Base.{◌≡◌, refl, sym, ap, ◌∙◌, ℕ, zero, suc, ◌+◌, add-zero, arith, Bool, true, false, not, eqb}
 use Rattle.word.proofs.Base.{eq-eqb, ne_eqb, eqb-true, List, length}
-use Rattle.word.specs.Choice.{if◌then◌else◌, given}
+use Rattle.word.specs.Choice.{given}
 use Rattle.file.specs.File.{accepted}
 use Rattle.word.specs.Memory.{memory_size}
 use Rattle.instruction.specs.Effect.{Moment, moment, effect}

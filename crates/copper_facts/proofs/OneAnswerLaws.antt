@@ -1,6 +1,6 @@
 -- Two answers that meet the promise are equal: the numbers tell the refusals apart, and why a frame stopped is told.
+use Rattle.std.specs.Prelude.{if◌then◌else◌}
 use Rattle.word.proofs.Base.{◌≡◌, refl, sym, ap, ◌∙◌, ℕ, eqb}
-use Rattle.word.specs.Choice.{if◌then◌else◌}
 use Rattle.refusal.proofs.OneAnswerLaws.{refusal_of, is_own}
 use Rattle.refusal.proofs.OneAnswerLaws as blits
 use Rattle.instruction.specs.declared.types.Refusal.{Refusal}

@@ -1,8 +1,7 @@
 -- Paper 02, W8: "The caller lends a number of instructions." A frame, or the rest of one, that uses up what was lent
 -- and is gone on with by another call, from where it stands, with more lent, is the one to which all was lent: in parts
 -- it ends as it does in one call.
-use Rattle.std.specs.Prelude.{ℕ, ◌+◌, ◌≡◌, List, eqb}
-use Rattle.word.specs.Choice.{if◌then◌else◌}
+use Rattle.std.specs.Prelude.{ℕ, ◌+◌, ◌≡◌, List, eqb, if◌then◌else◌}
 use Rattle.word.specs.Word.{SixteenBits}
 use Rattle.copper.specs.Frame.{used_up, Frame, stopped, frame_from}
 

@@ -2,9 +2,8 @@
 -- at which they hold on a line, the highest first; and the colour part of its sample list, as the beam's line and
 -- position and colours 0 to 3 after each instruction. One list, computed on the left, what the manual's text comes to
 -- on the right.
-use Rattle.std.specs.Prelude.{ℕ, zero, suc, ◌+◌, ◌-◌, ◌*◌, ◌≡◌, Bool, List, [], ◌∷◌, ◌++◌, map, get_or, replicate}
+use Rattle.std.specs.Prelude.{ℕ, zero, suc, ◌+◌, ◌-◌, ◌*◌, ◌≡◌, Bool, List, [], ◌∷◌, ◌++◌, map, get_or, replicate, if◌then◌else◌}
 use Rattle.word.specs.Example.{Example, ◌is◌}
-use Rattle.word.specs.Choice.{if◌then◌else◌}
 use Rattle.file.specs.Places.{file_length, colour0}
 use Rattle.beam.specs.Beam.{lines, positions, frame_end, line, position}
 use Rattle.beam.specs.Satisfied.{satisfied}

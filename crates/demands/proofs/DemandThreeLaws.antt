@@ -1,9 +1,10 @@
 -- Demand 3: step by step the folded job and the original leave the same machine, and what the folder knows agrees with it.
+use Rattle.std.specs.Prelude.{if◌then◌else◌}
 use Rattle.word.proofs.Base.{◌≡◌, refl, sym, ap, subst, ◌∙◌, ℕ, zero, suc, ◌+◌, arith, Bool, true, false}
 use Rattle.word.proofs.Base.{List, [], ◌∷◌, ◌++◌, length, get_or, set, length-set}
 use lib.ListN.{replicate}
 use Rattle.word.specs.declared.types.Pointer.{Pointer}
-use Rattle.word.specs.Choice.{if◌then◌else◌, given}
+use Rattle.word.specs.Choice.{given}
 use Rattle.word.specs.Pointer.{high, low}
 use Rattle.file.specs.File.{accepted}
 use Rattle.file.specs.Places.{blitter_length, pointer_d, flag, file_length}

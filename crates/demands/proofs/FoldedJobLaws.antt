@@ -1,8 +1,9 @@
 -- Laws of a folding that is done: no number is told for any step, and the folded job stands in the front of the output run.
+use Rattle.std.specs.Prelude.{if◌then◌else◌}
 use Rattle.word.proofs.Base.{◌≡◌, refl, ap, ◌∙◌, ℕ, ◌≤◌, arith, Bool, true, false, ◌||◌, not, eqb, leb, eqb-true}
 use Rattle.word.proofs.Base.{eqb-false, leb-true, List, [], ◌∷◌, length, take, drop}
 use lib.Seq.{take-append_seam}
-use Rattle.word.specs.Choice.{if◌then◌else◌, given}
+use Rattle.word.specs.Choice.{given}
 use Rattle.word.specs.Memory.{memory_size}
 use Rattle.job.specs.Step.{read_number}
 use Rattle.job.specs.Steps.{Placed, steps}

@@ -1,9 +1,9 @@
 -- Laws of the steps of a job without faults: each is decoded from its own words, wherever they stand.
+use Rattle.std.specs.Prelude.{if◌then◌else◌}
 use Rattle.word.proofs.Base.{◌≡◌, refl, sym, ap, ◌∙◌, ℕ, zero, suc, ◌+◌, ◌≤◌, one-add, arith, Bool, true, false, List}
 use Rattle.word.proofs.Base.{[], ◌∷◌, length, take, drop, length-take-le}
 use native.Mathlib.Nat.{le_refl}
 use lib.Seq.{drop-drop}
-use Rattle.word.specs.Choice.{if◌then◌else◌}
 use Rattle.word.specs.Pointer.{pointer}
 use Rattle.job.specs.declared.types.Kind.{Kind}
 use Rattle.job.specs.declared.types.Step.{Step}

@@ -1,6 +1,6 @@
 -- Laws of what the folder learns: after every step its knowledge agrees with what the step leaves in the register file.
+use Rattle.std.specs.Prelude.{if◌then◌else◌}
 use Rattle.word.proofs.Base.{◌≡◌, refl, sym, ap, ◌∙◌, ℕ, arith, Bool, true, false, List, length, length-set}
-use Rattle.word.specs.Choice.{if◌then◌else◌}
 use Rattle.file.specs.Places.{blitter_length, control0, pointer_a, pointer_b, pointer_c, pointer_d, source_a, source_b, source_c}
 use Rattle.word.specs.declared.types.Pointer.{Pointer}
 use Rattle.word.specs.declared.types.Uses.{Uses}

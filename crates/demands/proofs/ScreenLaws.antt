@@ -1,11 +1,11 @@
 -- COPCON and the colours touch neither a blit nor the folder's knowledge: a blit reads and writes other places alone, and the
 -- knowledge ends before theirs.
+use Rattle.std.specs.Prelude.{if◌then◌else◌}
 use Rattle.word.proofs.Base.{◌≡◌, refl, ap, ◌∙◌, ℕ, ◌+◌, ◌<◌, ◌≤◌, arith, Bool, true, false, eqb, List, length, get_or}
 use Rattle.word.proofs.Base.{set, get_or-set_other, set_out}
 use lib.Dec.{lit<}
 use lib.Seq.{set_comm}
 use Rattle.word.specs.declared.types.Pointer.{Pointer}
-use Rattle.word.specs.Choice.{if◌then◌else◌}
 use Rattle.word.specs.Pointer.{high, low}
 use Rattle.word.specs.Control.{line}
 use Rattle.file.specs.File.{con1, kept}

@@ -1,8 +1,8 @@
 -- The steps of a folded job: a settled blit's words are whole steps, and any other step is its own.
+use Rattle.std.specs.Prelude.{if◌then◌else◌}
 use Rattle.word.proofs.Base.{◌≡◌, refl, sym, ap, subst, ◌∙◌, ℕ, ◌+◌, ◌<◌, arith, Bool, true, false, List, []}
 use Rattle.word.proofs.Base.{◌∷◌, ◌++◌, length}
 use Rattle.word.specs.declared.types.Pointer.{Pointer}
-use Rattle.word.specs.Choice.{if◌then◌else◌}
 use Rattle.word.specs.Pointer.{pointer_end}
 use Rattle.word.specs.Size.{height, width}
 use Rattle.file.specs.Places.{pointer_d}

@@ -1,8 +1,8 @@
 -- Laws of the run of words that begin with a step: the step is taken, and the run goes on after its words.
+use Rattle.std.specs.Prelude.{if◌then◌else◌}
 use Rattle.word.proofs.Base.{◌≡◌, refl, sym, ap, ◌∙◌, ℕ, ◌+◌, one-add, arith, Bool, true, false, eqb, List, [], ◌∷◌}
 use Rattle.word.proofs.Base.{◌++◌, length, drop}
 use lib.Seq.{drop_at}
-use Rattle.word.specs.Choice.{if◌then◌else◌}
 use Rattle.blit.specs.Blit.{Outcome}
 use Rattle.job.specs.declared.types.Step.{Step}
 use Rattle.job.specs.declared.types.Read.{Read}

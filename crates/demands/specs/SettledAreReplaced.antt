@@ -1,8 +1,7 @@
 -- Demand 3: "Every blit that 01 calls settled has been replaced by its words, and no other blit has."
 -- The steps of the folded job are, in their order, for each step of the original the steps of its words where it is a
 -- settled blit, and the step itself otherwise.
-use Rattle.std.specs.Prelude.{ℕ, ◌+◌, ◌≡◌, List, [], ◌∷◌, ◌++◌}
-use Rattle.word.specs.Choice.{if◌then◌else◌}
+use Rattle.std.specs.Prelude.{ℕ, ◌+◌, ◌≡◌, List, [], ◌∷◌, ◌++◌, if◌then◌else◌}
 use Rattle.job.specs.declared.types.Step.{Step}
 use Rattle.job.specs.declared.types.Read.{Read}
 use Rattle.job.specs.Step.{operands, found}

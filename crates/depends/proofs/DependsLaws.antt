@@ -1,9 +1,10 @@
 -- Laws of dependence: the low eight bits of a function decide, an entry tells its sources, and a source that doesn't count may hold anything.
+use Rattle.std.specs.Prelude.{if◌then◌else◌}
 use Rattle.word.proofs.Base.{◌≡◌, refl, ap, ap₂, ◌∙◌, ℕ, zero, suc, ◌+◌, ◌*◌, ◌/◌, ◌%◌, ◌<◌, dec_lt, arith, Bool, true}
 use Rattle.word.proofs.Base.{false, ◌||◌, not, T, eqb, eqb→eq, eqb-true, not-false}
 use native.Mathlib.Nat.{not-suc-le-zero}
 use lib.Bits.{xor_lt}
-use Rattle.word.specs.Choice.{if◌then◌else◌, every}
+use Rattle.word.specs.Choice.{every}
 use Rattle.word.specs.Word.{bit}
 use Rattle.word.specs.Logic.{logic}
 use Rattle.word.proofs.ChoiceLaws.{or_left, or_right, every-at}

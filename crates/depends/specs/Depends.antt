@@ -2,9 +2,8 @@
 -- the logic function's answer for some setting of the others."
 -- A setting of the sources is 4a + 2b + c, and the answer there is that bit of the function.
 -- A source is named by its weight in the setting: 4 for A, 2 for B, 1 for C.
-use Rattle.std.specs.Prelude.{ℕ, zero, suc, ◌+◌, Bool, false, not, ◌||◌, eqb}
+use Rattle.std.specs.Prelude.{ℕ, zero, suc, ◌+◌, Bool, false, not, ◌||◌, eqb, if◌then◌else◌}
 use Rattle.std.specs.Int.Bits.{bit_xor}
-use Rattle.word.specs.Choice.{if◌then◌else◌}
 use Rattle.word.specs.Word.{bit}
 use Rattle.depends.specs.declared.types.Depends.{Depends}
 

@@ -1,8 +1,9 @@
 -- Laws of places and lengths: a job has at most 4,096 words and a folded job too, so that 32 bits hold them. And what the entries
 -- tell, by the answers of the calls.
+use Rattle.std.specs.Prelude.{if◌then◌else◌}
 use Rattle.word.proofs.Base.{◌≡◌, refl, ap, ℕ, zero, suc, ◌+◌, ◌<◌, ◌≤◌, dec_lt, arith, Bool, true, false, eqb, eq-eqb}
 use Rattle.word.proofs.Base.{ne_eqb, List, [], ◌∷◌, length}
-use Rattle.word.specs.Choice.{if◌then◌else◌, ◌when◌, given}
+use Rattle.word.specs.Choice.{◌when◌, given}
 use Rattle.word.specs.Memory.{memory_size}
 use Rattle.job.specs.Step.{front, read_number}
 use Rattle.job.specs.Length.{job_length}

@@ -1,8 +1,8 @@
 -- Paper 01, "Memory and registers", with paper 02's W7: a register file is "a lent run of exactly" 53 "16-bit words, in this
 -- order".
-use Rattle.std.specs.Prelude.{ℕ, zero, suc, ◌+◌, Bool, ◌&&◌, List, [], ◌∷◌, ◌++◌, map, eqb, ltb, length, get_or}
+use Rattle.std.specs.Prelude.{ℕ, zero, suc, ◌+◌, Bool, ◌&&◌, List, [], ◌∷◌, ◌++◌, map, eqb, ltb, length, get_or, if◌then◌else◌}
 use Rattle.std.specs.Int.Bits.{bit_and}
-use Rattle.word.specs.Choice.{if◌then◌else◌, every}
+use Rattle.word.specs.Choice.{every}
 use Rattle.file.specs.Places.{control0, control1, colour_count, flag, file_length}
 
 pub record Register : Type 0 where

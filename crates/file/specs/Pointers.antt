@@ -1,7 +1,6 @@
 -- Paper 01, "Memory and registers": a pointer in its two registers, and the zero flag in the last word.
-use Rattle.std.specs.Prelude.{ℕ, ◌+◌, Bool, List, get_or, set}
+use Rattle.std.specs.Prelude.{ℕ, ◌+◌, Bool, List, get_or, set, if◌then◌else◌}
 use Rattle.word.specs.declared.types.Pointer.{Pointer}
-use Rattle.word.specs.Choice.{if◌then◌else◌}
 use Rattle.word.specs.Pointer.{pointer, high, low}
 use Rattle.file.specs.Places.{flag}
 

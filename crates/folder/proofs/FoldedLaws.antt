@@ -1,10 +1,11 @@
 -- Laws of the folding into a run, step by step: what is left of the job from a place on gives what the whole gives.
+use Rattle.std.specs.Prelude.{if◌then◌else◌}
 use Rattle.word.proofs.Base.{◌≡◌, refl, sym, ap, ap₂, ◌∙◌, ℕ, ◌+◌, ◌*◌, ◌<◌, ◌≤◌, zero-add, arith, Bool, true, false, ◌||◌}
 use Rattle.word.proofs.Base.{not, eqb, leb, ne_eqb, le-leb, lt-leb, List, [], ◌∷◌, ◌++◌, length, drop, length-append}
 use mathlib.Core.Bool.{or-false, or_assoc}
 use mir.Val.{Fits}
 use mir.Syntax.{w32}
-use Rattle.word.specs.Choice.{if◌then◌else◌, given}
+use Rattle.word.specs.Choice.{given}
 use Rattle.word.specs.Laid.{laid}
 use Rattle.word.proofs.ChoiceLaws.{or_left, or_right, within-when-passed}
 use Rattle.word.proofs.LaidLaws.{laid-of-append, laid-as-long}

@@ -1,6 +1,6 @@
 -- The number of a refusal tells it from all others, and is never 0: what an answer leaves tells the answer.
+use Rattle.std.specs.Prelude.{if◌then◌else◌}
 use Rattle.word.proofs.Base.{◌≡◌, refl, sym, ap, ap₂, ◌∙◌, ℕ, eqb, List}
-use Rattle.word.specs.Choice.{if◌then◌else◌}
 use Rattle.job.specs.declared.types.Refusal as jobs
 use Rattle.folder.specs.declared.types.Refusal.{Refusal}
 use Rattle.folder.specs.declared.types.Answer.{Answer}

@@ -1,6 +1,6 @@
 -- Paper 01, "Numbers given back": the folder's answer, and the output run as it leaves it. Paper 02, W12: its yes.
-use Rattle.std.specs.Prelude.{ℕ, Bool, false, not, ◌||◌, List, [], ◌∷◌, ◌++◌, eqb, leb, length, drop}
-use Rattle.word.specs.Choice.{if◌then◌else◌, ◌when◌, given}
+use Rattle.std.specs.Prelude.{ℕ, Bool, false, not, ◌||◌, List, [], ◌∷◌, ◌++◌, eqb, leb, length, drop, if◌then◌else◌}
+use Rattle.word.specs.Choice.{◌when◌, given}
 use Rattle.word.specs.Memory.{memory_size}
 use Rattle.job.specs.Step.{read_number}
 use Rattle.job.specs.Steps.{Placed, steps}

@@ -1,6 +1,5 @@
 // The folded job laid into a run of our own, from its front on, and handed out.
-ghost use Rattle.std.specs.Prelude.{◌≡◌, not, ◌||◌, ◌++◌, ◌+◌, ◌*◌, ◌<◌, ◌≤◌, leb, length, take, drop};
-ghost use Rattle.word.specs.Choice.{if◌then◌else◌};
+ghost use Rattle.std.specs.Prelude.{◌≡◌, not, ◌||◌, ◌++◌, ◌+◌, ◌*◌, ◌<◌, ◌≤◌, leb, length, take, drop, if◌then◌else◌};
 ghost use Rattle.word.specs.Laid.{laid};
 ghost use Rattle.word.specs.Size.{height, width};
 ghost use Rattle.job.specs.declared.types.Step as steps;

@@ -1,8 +1,8 @@
 -- Laws of stores gathered: a store before groups, the first group of a list, how many stores the groups hold, that each
 -- of them lies inside memory where the stores do, and that laid into memory they leave what the stores leave.
+use Rattle.std.specs.Prelude.{if◌then◌else◌}
 use Rattle.word.proofs.Base.{◌≡◌, refl, sym, ap, ◌∙◌, ℕ, suc, ◌+◌, ◌<◌, ◌≤◌, arith, Bool, true, false, eqb, eqb-true}
 use Rattle.word.proofs.Base.{List, [], ◌∷◌, length, set, take, drop}
-use Rattle.word.specs.Choice.{if◌then◌else◌}
 use Rattle.word.specs.Laid.{laid}
 use Rattle.word.specs.Pointer.{pointer_end}
 use Rattle.stores.specs.Stores.{Store, places, values}

@@ -1,8 +1,7 @@
 -- Paper 02, W11: "The folder gathers a settled blit's stores, in order, into the longest groups of neighbouring rising
 -- addresses". A lone store is a group of one value here; how it is written is said in Words.
-use Rattle.std.specs.Prelude.{ℕ, ◌+◌, List, [], ◌∷◌, eqb}
+use Rattle.std.specs.Prelude.{ℕ, ◌+◌, List, [], ◌∷◌, eqb, if◌then◌else◌}
 use Rattle.word.specs.declared.types.Pointer.{Pointer}
-use Rattle.word.specs.Choice.{if◌then◌else◌}
 use Rattle.stores.specs.Stores.{Store}
 
 -- where a group's first word goes, and its values "for rising addresses"

@@ -1,6 +1,5 @@
 -- Paper 01, "Copper", and paper 02, W8: what one instruction does, and its number.
-use Rattle.std.specs.Prelude.{ℕ, ◌+◌, List, eqb, length, get_or, set}
-use Rattle.word.specs.Choice.{if◌then◌else◌}
+use Rattle.std.specs.Prelude.{ℕ, ◌+◌, List, eqb, length, get_or, set, if◌then◌else◌}
 use Rattle.file.specs.File.{place, kept}
 use Rattle.beam.specs.Satisfied.{satisfied}
 use Rattle.beam.specs.Wait.{waited}

@@ -1,8 +1,7 @@
 -- Paper 01, "Copper": "a first word that is even is a MOVE of the second to the offset in bits 8-1; odd, a WAIT, or a
 -- SKIP if the second is odd too."
-use Rattle.std.specs.Prelude.{ℕ, ◌%◌, eqb}
+use Rattle.std.specs.Prelude.{ℕ, ◌%◌, eqb, if◌then◌else◌}
 use Rattle.std.specs.Int.Bits.{bit_and}
-use Rattle.word.specs.Choice.{if◌then◌else◌}
 use Rattle.instruction.specs.declared.types.Instruction.{Instruction}
 use Rattle.instruction.specs.declared.types.Instruction.TheVariants.{Move, Wait, Skip}
 

@@ -1,7 +1,7 @@
 -- Paper 02, W8: when an instruction is refused. "23 comes first, then 21, then 22, then the blit's own in their order."
 -- One definition, a function of N, file, the word that the instruction stands at, and the instruction.
-use Rattle.std.specs.Prelude.{ℕ, ◌+◌, Bool, false, not, List, [], ◌∷◌, eqb, leb}
-use Rattle.word.specs.Choice.{if◌then◌else◌, Rule, ◌when◌, given}
+use Rattle.std.specs.Prelude.{ℕ, ◌+◌, Bool, false, not, List, [], ◌∷◌, eqb, leb, if◌then◌else◌}
+use Rattle.word.specs.Choice.{Rule, ◌when◌, given}
 use Rattle.refusal.specs.Refusal as blits
 use Rattle.instruction.specs.declared.types.Instruction.{Instruction}
 use Rattle.instruction.specs.declared.types.Instruction.TheVariants.{Move, Wait, Skip}

@@ -1,8 +1,8 @@
 -- Laws of a step: what the words after a first word make of it, and what stands at a place of a job.
+use Rattle.std.specs.Prelude.{if◌then◌else◌}
 use Rattle.word.proofs.Base.{◌≡◌, refl, sym, ap, ◌∙◌, ℕ, suc, ◌+◌, ◌-◌, ◌%◌, ◌<◌, ◌≤◌, dec_lt, arith, Bool, true, false}
 use Rattle.word.proofs.Base.{eq-eqb, ne_eqb, List, [], ◌∷◌, ◌++◌, length, get_or, drop, drop_of_length-le, drop-cons}
 use lib.ListN.{length-drop}
-use Rattle.word.specs.Choice.{if◌then◌else◌}
 use Rattle.word.specs.Pointer.{pointer}
 use Rattle.word.specs.declared.types.Pointer.{Pointer}
 use Rattle.job.specs.declared.types.Kind.{Kind}

@@ -1,7 +1,7 @@
 -- Laws of a run of words that ends where a step ends: the list of its steps, and the steps of what follows it, stand one after the other.
+use Rattle.std.specs.Prelude.{if◌then◌else◌}
 use Rattle.word.proofs.Base.{◌≡◌, refl, ap, ◌∙◌, ℕ, zero, suc, ◌+◌, ◌≤◌, add-zero, arith, Bool, true, false, ◌&&◌, List}
 use Rattle.word.proofs.Base.{[], ◌∷◌, ◌++◌, length}
-use Rattle.word.specs.Choice.{if◌then◌else◌}
 use Rattle.word.specs.Pointer.{pointer}
 use Rattle.job.specs.declared.types.Kind.{Kind}
 use Rattle.job.specs.declared.types.Step.{Step}

@@ -1,6 +1,5 @@
 -- Paper 01, "Jobs": what a step's first word begins. No bit of it is dropped: 0140 and 1040 aren't 040.
-use Rattle.std.specs.Prelude.{ℕ, ◌-◌, ◌&&◌, eqb, leb}
-use Rattle.word.specs.Choice.{if◌then◌else◌}
+use Rattle.std.specs.Prelude.{ℕ, ◌-◌, ◌&&◌, eqb, leb, if◌then◌else◌}
 use Rattle.file.specs.File.{is_register, place}
 use Rattle.job.specs.declared.types.Kind.{Kind}
 

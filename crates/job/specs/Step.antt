@@ -1,6 +1,6 @@
 -- Paper 01, "Jobs": the steps of a job, and what stands at a place of it.
-use Rattle.std.specs.Prelude.{ℕ, ◌+◌, ◌%◌, Bool, true, List, [], ◌∷◌, eqb, drop}
-use Rattle.word.specs.Choice.{if◌then◌else◌, Rule, ◌when◌, given}
+use Rattle.std.specs.Prelude.{ℕ, ◌+◌, ◌%◌, Bool, true, List, [], ◌∷◌, eqb, drop, if◌then◌else◌}
+use Rattle.word.specs.Choice.{Rule, ◌when◌, given}
 use Rattle.word.specs.Pointer.{pointer}
 use Rattle.job.specs.declared.types.Kind.{Kind}
 use Rattle.job.specs.declared.types.Step.{Step}

@@ -1,8 +1,7 @@
 -- Paper 01, "Folding": what a step does to the folder's knowledge, a list of what is known of each register in the
 -- file's order.
-use Rattle.std.specs.Prelude.{ℕ, ◌+◌, Bool, true, List, get_or, set}
+use Rattle.std.specs.Prelude.{ℕ, ◌+◌, Bool, true, List, get_or, set, if◌then◌else◌}
 use Rattle.word.specs.declared.types.Pointer.{Pointer}
-use Rattle.word.specs.Choice.{if◌then◌else◌}
 use Rattle.word.specs.Pointer.{high, low}
 use Rattle.file.specs.File.{kept}
 use Rattle.file.specs.Places.{control0, pointer_a, pointer_b, pointer_c, pointer_d, source_a, source_b, source_c}

@@ -1,7 +1,7 @@
 -- Laws of a dot's place as one number: a move is a sum, and the mark after a mark is the mark of the dot after its dot.
+use Rattle.std.specs.Prelude.{if◌then◌else◌}
 use Rattle.word.proofs.Base.{◌≡◌, refl, sym, ap, ◌∙◌, ℕ, ◌+◌, ◌-◌, ◌*◌, ◌/◌, ◌%◌, ◌^◌, ◌<◌, mod-eq_of_lt, arith, Bool, true, false, not, ◌||◌, eqb, eqb-true, eqb-false}
 use native.Mathlib.Nat.{add_assoc}
-use Rattle.word.specs.Choice.{if◌then◌else◌}
 use Rattle.word.specs.Word.{is_set}
 use Rattle.word.specs.Logic.{logic}
 use Rattle.word.specs.Pointer.{pointer_end, up, down}

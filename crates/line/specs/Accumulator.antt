@@ -1,7 +1,6 @@
 -- Paper 01, "Kept for lines and Copper lists": "the A pointer's low half gains the whole A modulo if sign is 0, else the B
 -- modulo, modulo 65,536, and its bit 15 is the new sign".
-use Rattle.std.specs.Prelude.{ℕ, ◌+◌, ◌%◌, Bool}
-use Rattle.word.specs.Choice.{if◌then◌else◌}
+use Rattle.std.specs.Prelude.{ℕ, ◌+◌, ◌%◌, Bool, if◌then◌else◌}
 use Rattle.word.specs.Word.{is_set}
 use Rattle.line.specs.declared.types.Gains.{Gains}
 

@@ -1,6 +1,5 @@
 -- Paper 01, "Kept for lines and Copper lists": the line, "one dot per row of the size, stored before the next is fetched".
-use Rattle.std.specs.Prelude.{ℕ, zero, suc, ◌+◌, true, ◌&&◌, List, [], ◌∷◌, eqb, get_or, set}
-use Rattle.word.specs.Choice.{if◌then◌else◌}
+use Rattle.std.specs.Prelude.{ℕ, zero, suc, ◌+◌, true, ◌&&◌, List, [], ◌∷◌, eqb, get_or, set, if◌then◌else◌}
 use Rattle.word.specs.Repeat.{repeated}
 use Rattle.line.specs.declared.types.Line.{Line}
 use Rattle.line.specs.declared.types.Spot.{Spot}

@@ -1,6 +1,5 @@
 -- Paper 01, "Kept for lines and Copper lists": the two moves after a dot.
-use Rattle.std.specs.Prelude.{ℕ, ◌+◌, ◌%◌, Bool, not, ◌||◌, eqb}
-use Rattle.word.specs.Choice.{if◌then◌else◌}
+use Rattle.std.specs.Prelude.{ℕ, ◌+◌, ◌%◌, Bool, not, ◌||◌, eqb, if◌then◌else◌}
 use Rattle.word.specs.Pointer.{up, down, plus, minus}
 use Rattle.line.specs.declared.types.Line.{Line}
 use Rattle.line.specs.declared.types.Spot.{Spot}

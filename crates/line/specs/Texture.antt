@@ -1,6 +1,5 @@
 -- Paper 01, "Kept for lines and Copper lists": the texture.
-use Rattle.std.specs.Prelude.{ℕ, ◌+◌, ◌%◌}
-use Rattle.word.specs.Choice.{if◌then◌else◌}
+use Rattle.std.specs.Prelude.{ℕ, ◌+◌, ◌%◌, if◌then◌else◌}
 use Rattle.word.specs.Word.{is_set}
 
 -- "B is all ones or zeros by one bit of its data"

@@ -1,9 +1,9 @@
 -- Laws of a line that is done: its number, and what each of its pixels is.
+use Rattle.std.specs.Prelude.{if◌then◌else◌}
 use Rattle.word.proofs.Base.{◌≡◌, refl, sym, ap, ◌∙◌, ℕ, zero, suc, ◌+◌, ◌-◌, ◌<◌, dec_lt, arith, Bool, true, false, eqb}
 use Rattle.word.proofs.Base.{eqb-true, eqb-false, List, [], ◌∷◌, ◌++◌, get_or, drop}
 use lib.ListN.{get_or-append}
 use lib.Seq.{get_or_at}
-use Rattle.word.specs.Choice.{if◌then◌else◌}
 use Rattle.playfield.specs.Playfield.{Playfield}
 use Rattle.picture.specs.Line.{pixel_colour, pixels, line_pixels, shown_line}
 use Rattle.picture.specs.Refusal.{refusal}

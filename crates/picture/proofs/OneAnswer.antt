@@ -1,6 +1,6 @@
 -- Two answers that meet the promise are equal: the six numbers differ.
+use Rattle.std.specs.Prelude.{if◌then◌else◌}
 use Rattle.word.proofs.Base.{◌≡◌, refl, sym, ap, ◌∙◌, ℕ, eqb}
-use Rattle.word.specs.Choice.{if◌then◌else◌}
 use Rattle.picture.specs.declared.types.Answer.{Answer}
 use Rattle.picture.specs.declared.types.Answer.TheVariants.{Done, MemorySize, RegisterFile, BadPlayfield, TooShort, Leaves}
 use Rattle.picture.specs.Picture.{Picture, answer_number}

@@ -1,6 +1,5 @@
 -- Paper 02, W9: what the call gives, and the lent run as it leaves it.
-use Rattle.std.specs.Prelude.{ℕ, List, ◌++◌, eqb, drop}
-use Rattle.word.specs.Choice.{if◌then◌else◌}
+use Rattle.std.specs.Prelude.{ℕ, List, ◌++◌, eqb, drop, if◌then◌else◌}
 use Rattle.picture.specs.declared.types.Answer.{Answer}
 use Rattle.picture.specs.declared.types.Answer.TheVariants.{Done, MemorySize, RegisterFile, BadPlayfield}
 use Rattle.picture.specs.declared.types.Answer.TheVariants.{TooShort, Leaves}

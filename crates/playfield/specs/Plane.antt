@@ -1,6 +1,5 @@
 -- Paper 02, W9, with the manual's chapter 3: what one bit plane shows of a line.
-use Rattle.std.specs.Prelude.{ℕ, ◌+◌, ◌-◌, ◌/◌, ◌%◌, List, ltb, get_or}
-use Rattle.word.specs.Choice.{if◌then◌else◌}
+use Rattle.std.specs.Prelude.{ℕ, ◌+◌, ◌-◌, ◌/◌, ◌%◌, List, ltb, get_or, if◌then◌else◌}
 use Rattle.word.specs.Word.{bit}
 
 -- "low resolution": sixteen pixels a word, the leftmost of them bit 15. Bit j of a plane's own stream, which begins at

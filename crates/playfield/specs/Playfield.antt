@@ -1,6 +1,5 @@
 -- Paper 02, W9: "one playfield with the chapter 3 delay of 0 to 15 pixels for odd and even planes apart".
-use Rattle.std.specs.Prelude.{ℕ, ◌+◌, ◌%◌, List, eqb, length, get_or}
-use Rattle.word.specs.Choice.{if◌then◌else◌}
+use Rattle.std.specs.Prelude.{ℕ, ◌+◌, ◌%◌, List, eqb, length, get_or, if◌then◌else◌}
 use Rattle.word.specs.Word.{of_bits}
 use Rattle.playfield.specs.Plane.{plane_pixel}
 

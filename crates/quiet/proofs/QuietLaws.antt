@@ -1,10 +1,11 @@
 -- A quiet blit's words are those of the sequence: the definition's own steps lead from each to the next.
+use Rattle.std.specs.Prelude.{if◌then◌else◌}
 use Rattle.word.proofs.Base.{◌≡◌, refl, sym, ap, ◌∙◌, ℕ, zero, suc, ◌+◌, ◌-◌, ◌*◌, ◌/◌, ◌%◌, ◌<◌, ◌≤◌, suc-mul}
 use Rattle.word.proofs.Base.{mul-le-mul_right, sub-one, arith, Bool, true, false, ◌&&◌, eqb, List}
 use mathlib.Core.Bool.{and-true, and_assoc, and_comm}
 use Rattle.word.specs.declared.types.Pointer.{Pointer}
 use Rattle.word.specs.declared.types.Filled.{Filled}
-use Rattle.word.specs.Choice.{if◌then◌else◌, every}
+use Rattle.word.specs.Choice.{every}
 use Rattle.word.specs.Repeat.{repeated}
 use Rattle.word.proofs.ChoiceLaws.{if-either}
 use Rattle.area.specs.declared.types.Pending.{Pending}

@@ -1,8 +1,8 @@
 -- A quiet blit: no used source fetches a word after D has stored one there. Paper 02, W2: a word is stored only after the
 -- next one's sources have been fetched, so that the word before is never met.
-use Rattle.std.specs.Prelude.{ℕ, ◌+◌, ◌-◌, ◌*◌, ◌<◌, ◌≤◌, ◌≡◌, Bool, true, ◌&&◌, List, eqb}
+use Rattle.std.specs.Prelude.{ℕ, ◌+◌, ◌-◌, ◌*◌, ◌<◌, ◌≤◌, ◌≡◌, Bool, true, ◌&&◌, List, eqb, if◌then◌else◌}
 use Rattle.word.specs.declared.types.Pointer.{Pointer}
-use Rattle.word.specs.Choice.{if◌then◌else◌, every}
+use Rattle.word.specs.Choice.{every}
 use Rattle.area.specs.declared.types.Pointers.{Pointers}
 use Rattle.area.specs.declared.types.Sources.{Sources}
 use Rattle.area.specs.declared.types.Earlier.{Earlier}

@@ -1,10 +1,9 @@
 -- Paper 01, "The area blit": "Words go row by row." The words of a blit numbered from 0 over all its rows, each fetched
 -- from the memory that the blit began with.
-use Rattle.std.specs.Prelude.{ℕ, zero, suc, ◌/◌, ◌%◌, Bool, List, set}
+use Rattle.std.specs.Prelude.{ℕ, zero, suc, ◌/◌, ◌%◌, Bool, List, set, if◌then◌else◌}
 use Rattle.word.specs.declared.types.Direction.{Direction}
 use Rattle.word.specs.declared.types.Pointer.{Pointer}
 use Rattle.word.specs.declared.types.Filled.{Filled}
-use Rattle.word.specs.Choice.{if◌then◌else◌}
 use Rattle.word.specs.Repeat.{repeated}
 use Rattle.word.specs.Pointer.{moved, next_row}
 use Rattle.area.specs.declared.types.Setup.{Setup}

@@ -1,10 +1,9 @@
 -- Paper 01, "The area blit": the final words of three sources whose words are given, numbered from 0 over rows of so many
 -- words each. Memory has no part in it.
-use Rattle.std.specs.Prelude.{ℕ, zero, suc, ◌+◌, ◌%◌, eqb}
+use Rattle.std.specs.Prelude.{ℕ, zero, suc, ◌+◌, ◌%◌, eqb, if◌then◌else◌}
 use Rattle.word.specs.declared.types.Direction.{Direction}
 use Rattle.word.specs.declared.types.Fill.{Fill}
 use Rattle.word.specs.declared.types.Filled.{Filled}
-use Rattle.word.specs.Choice.{if◌then◌else◌}
 use Rattle.word.specs.Mask.{masked}
 use Rattle.word.specs.Shift.{shifted}
 use Rattle.word.specs.Logic.{logic}

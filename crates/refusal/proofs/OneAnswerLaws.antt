@@ -1,6 +1,6 @@
 -- The number of a refusal tells it from all others, and is never 0: what a verdict's number is tells the verdict.
+use Rattle.std.specs.Prelude.{if◌then◌else◌}
 use Rattle.word.proofs.Base.{◌≡◌, refl, sym, ap, ◌∙◌, ℕ, Bool, true, eqb, eq-eqb, eqb-false}
-use Rattle.word.specs.Choice.{if◌then◌else◌}
 use Rattle.refusal.specs.declared.types.Refusal.{Refusal}
 use Rattle.refusal.specs.declared.types.Refusal.TheVariants.{MemorySize, RegisterFile, BothFills, FillUpward, ALeaves, BLeaves, CLeaves, DLeaves, LineForm, LineApart}
 use Rattle.refusal.specs.declared.types.Plan.{Plan}

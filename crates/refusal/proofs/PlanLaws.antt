@@ -1,6 +1,6 @@
 -- Laws of what a blit goes by: what holds of a line and of an area blit holds of a blit, and a plan tells which it is.
+use Rattle.std.specs.Prelude.{if◌then◌else◌}
 use Rattle.word.proofs.Base.{◌≡◌, refl, sym, ap, ◌∙◌, ℕ, Bool, true, false, List}
-use Rattle.word.specs.Choice.{if◌then◌else◌}
 use Rattle.word.specs.Control.{line}
 use Rattle.file.specs.File.{con1}
 use Rattle.refusal.specs.declared.types.AreaPlan.{AreaPlan}

@@ -1,6 +1,7 @@
 -- Laws of the refusals.
+use Rattle.std.specs.Prelude.{if◌then◌else◌}
 use Rattle.word.proofs.Base.{◌≡◌, refl, sym, ◌∙◌, ℕ, ◌<◌, ◌≤◌, arith, Bool, true, false, ◌&&◌, ◌||◌, not, eqb, not-true, not-false, List}
-use Rattle.word.specs.Choice.{if◌then◌else◌, given}
+use Rattle.word.specs.Choice.{given}
 use Rattle.word.specs.Pointer.{pointer_end, pointer}
 use Rattle.word.specs.Size.{height, width}
 use Rattle.word.proofs.ChoiceLaws.{and_left, and_right, or_right}

@@ -1,6 +1,5 @@
 -- Papers 01 and 02: a blit is one of two things, an area's or a line's, by the line bit; and what each goes by.
-use Rattle.std.specs.Prelude.{ℕ, List}
-use Rattle.word.specs.Choice.{if◌then◌else◌}
+use Rattle.std.specs.Prelude.{ℕ, List, if◌then◌else◌}
 use Rattle.word.specs.Size.{height, width}
 use Rattle.word.specs.Control.{line}
 use Rattle.file.specs.File.{con1}

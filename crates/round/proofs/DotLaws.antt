@@ -1,10 +1,10 @@
 -- Laws of a dot's moves, told by its pixel: each goes round where its pixel passes an end of all pixels.
+use Rattle.std.specs.Prelude.{if◌then◌else◌}
 use Rattle.word.proofs.Base.{◌≡◌, refl, sym, ap, ◌∙◌, ℕ, ◌+◌, ◌-◌, ◌*◌, ◌/◌, ◌%◌, ◌<◌, mod-eq_of_lt, dec_lt, arith, Bool, true, false, ◌||◌}
 use Rattle.word.proofs.Base.{eqb, leb, ltb, eqb-true, eqb-false, lt-leb, lt-ltb, le-ltb, [], ◌∷◌}
 use native.Mathlib.Nat.{div-add-mod'}
 use mathlib.Core.Bool.{or-false}
 use Rattle.word.specs.declared.types.Move.{Move}
-use Rattle.word.specs.Choice.{if◌then◌else◌}
 use Rattle.word.specs.Pointer.{pointer_end}
 use Rattle.word.specs.Round.{plus_round, minus_round, up_move, down_move, plus_move, minus_move}
 use Rattle.line.specs.declared.types.Line.{Line}

@@ -1,11 +1,11 @@
 -- Laws of a few words' move: it goes round where one of its steps does, and the directions mirror each other.
+use Rattle.std.specs.Prelude.{if◌then◌else◌}
 use Rattle.word.proofs.Base.{◌≡◌, refl, sym, ap, ap₂, ◌∙◌, ℕ, suc, ◌+◌, ◌-◌, ◌%◌, ◌<◌, mod-lt, mod-eq_of_lt, dec_lt, arith, Bool, false, ◌||◌}
 use Rattle.word.proofs.Base.{leb, ltb, le-leb, lt-leb, lt-ltb, le-ltb}
 use Rattle.word.specs.declared.types.Direction.{Direction}
 use Rattle.word.specs.declared.types.Direction.TheVariants.{Ascending, Descending}
 use Rattle.word.specs.declared.types.Pointer.{Pointer}
 use Rattle.word.specs.Repeat.{repeated}
-use Rattle.word.specs.Choice.{if◌then◌else◌}
 use Rattle.word.specs.Pointer.{pointer_end, downward, moved, passed}
 use Rattle.word.specs.Round.{plus_round, minus_round, moved_round, passed_round}
 use Rattle.word.proofs.PointerLaws.{moves-are-one, moved-lt}

@@ -1,10 +1,10 @@
 -- Rows that lie in memory, counted plainly, are the rows that the pointer's own moves lead to, and none of these goes round.
+use Rattle.std.specs.Prelude.{if◌then◌else◌}
 use Rattle.word.proofs.Base.{◌≡◌, refl, sym, ap, ap₂, ◌∙◌, ℕ, zero, suc, ◌+◌, ◌-◌, ◌*◌, ◌%◌, ◌<◌, ◌≤◌, mod-lt, arith, Bool, true, false, ◌||◌}
 use Rattle.word.proofs.Base.{leb, ltb, lt-leb, le-ltb, List}
 use Rattle.word.specs.declared.types.Direction.{Direction}
 use Rattle.word.specs.declared.types.Direction.TheVariants.{Ascending, Descending}
 use Rattle.word.specs.declared.types.Pointer.{Pointer}
-use Rattle.word.specs.Choice.{if◌then◌else◌}
 use Rattle.word.specs.Pointer.{pointer_end, downward, passed, next_row}
 use Rattle.word.specs.Round.{plus_round, minus_round, passed_round}
 use Rattle.word.specs.Control.{line}

@@ -1,10 +1,10 @@
 -- Laws of a line whose dots can't come to an end of memory: none of its moves goes round.
+use Rattle.std.specs.Prelude.{if◌then◌else◌}
 use Rattle.word.proofs.Base.{◌≡◌, refl, sym, ap, ap₂, ◌∙◌, ℕ, zero, suc, ◌+◌, ◌-◌, ◌*◌, ◌/◌, ◌%◌, ◌<◌, ◌≤◌, mod-lt, mul-le-mul, arith}
 use Rattle.word.proofs.Base.{Bool, true, false, ◌&&◌, ◌||◌, leb, ltb, le-leb, lt-leb, le-ltb, leb-true, ltb-true}
 use mathlib.Core.Bool.{or-false}
 use mir.Syntax.{w32}
 use mir.Val.{Fits}
-use Rattle.word.specs.Choice.{if◌then◌else◌}
 use Rattle.word.specs.Pointer.{pointer_end, downward}
 use Rattle.word.specs.Round.{plus_round, minus_round}
 use Rattle.word.proofs.ChoiceLaws.{and_left, and_right}

@@ -1,8 +1,7 @@
 -- Paper 01, "Kept for lines and Copper lists", and paper 02, W12: the moves of a line's C, each by itself, and whether it
 -- goes round. The accumulator isn't a pointer then, and D follows C.
-use Rattle.std.specs.Prelude.{ℕ, zero, suc, Bool, List, [], ◌∷◌, ◌++◌, eqb}
+use Rattle.std.specs.Prelude.{ℕ, zero, suc, Bool, List, [], ◌∷◌, ◌++◌, eqb, if◌then◌else◌}
 use Rattle.word.specs.declared.types.Move.{Move}
-use Rattle.word.specs.Choice.{if◌then◌else◌}
 use Rattle.word.specs.Round.{up_move, down_move, plus_move, minus_move}
 use Rattle.line.specs.declared.types.Line.{Line}
 use Rattle.line.specs.declared.types.Spot.{Spot}

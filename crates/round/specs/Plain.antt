@@ -1,10 +1,9 @@
 -- Rows of a channel counted plainly, which lie in memory without passing the top or nought: nothing here is taken modulo
 -- 262,144. A blit of such rows doesn't go round (`WhenItIsSafe`, in the crate `blit`).
-use Rattle.std.specs.Prelude.{ℕ, ◌+◌, ◌*◌, ◌%◌, ◌<◌, ◌≤◌, ◌≡◌, Bool, true, List}
+use Rattle.std.specs.Prelude.{ℕ, ◌+◌, ◌*◌, ◌%◌, ◌<◌, ◌≤◌, ◌≡◌, Bool, true, List, if◌then◌else◌}
 use Rattle.word.specs.declared.types.Direction.{Direction}
 use Rattle.word.specs.declared.types.Direction.TheVariants.{Ascending, Descending}
 use Rattle.word.specs.declared.types.Pointer.{Pointer}
-use Rattle.word.specs.Choice.{if◌then◌else◌}
 use Rattle.word.specs.Pointer.{pointer_end}
 use Rattle.word.specs.Round.{is_below, far_below}
 use Rattle.word.specs.Size.{height}

@@ -1,7 +1,7 @@
 -- Laws of a refused run: where it stops, the words before that place are whole steps, and their run is done.
+use Rattle.std.specs.Prelude.{if◌then◌else◌}
 use Rattle.word.proofs.Base.{◌≡◌, refl, sym, ap, ◌∙◌, ℕ, zero, suc, ◌+◌, ◌≤◌, add-zero, arith, Bool, true, false, ◌&&◌}
 use Rattle.word.proofs.Base.{eqb, eq-eqb, eqb-true, List, [], ◌∷◌, take, drop}
-use Rattle.word.specs.Choice.{if◌then◌else◌}
 use Rattle.blit.specs.Blit.{refused}
 use Rattle.job.specs.declared.types.Step.{Step}
 use Rattle.job.specs.declared.types.Read.{Read}

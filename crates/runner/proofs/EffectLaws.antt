@@ -1,6 +1,7 @@
 -- Laws of a step: what each kind of step leaves, how many words a step stores at most, and that a refused one changes nothing.
+use Rattle.std.specs.Prelude.{if◌then◌else◌}
 use Rattle.word.proofs.Base.{◌≡◌, refl, ℕ, ◌<◌, ◌≤◌, arith, Bool, true, false, eqb, eqb-false, le-leb, lt-leb, List, length, set}
-use Rattle.word.specs.Choice.{if◌then◌else◌, given}
+use Rattle.word.specs.Choice.{given}
 use Rattle.word.proofs.ChoiceLaws.{if-either}
 use Rattle.file.specs.File.{kept}
 use Rattle.file.specs.Places.{flag}

@@ -1,6 +1,6 @@
 -- Laws of what stands at the front of a run of words: a step stands there too when the run is cut after it, and the end never does.
+use Rattle.std.specs.Prelude.{if◌then◌else◌}
 use Rattle.word.proofs.Base.{◌≡◌, ap, ℕ, zero, suc, ◌≤◌, arith, Bool, true, false, List, [], ◌∷◌, length, take}
-use Rattle.word.specs.Choice.{if◌then◌else◌}
 use Rattle.word.specs.Pointer.{pointer}
 use Rattle.job.specs.declared.types.Kind.{Kind}
 use Rattle.job.specs.declared.types.Step.{Step}

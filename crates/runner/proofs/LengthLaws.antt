@@ -1,6 +1,6 @@
 -- Laws of the lengths of memory and file: no step changes them, and no run changes that of memory.
+use Rattle.std.specs.Prelude.{if◌then◌else◌}
 use Rattle.word.proofs.Base.{◌≡◌, refl, ◌∙◌, ℕ, Bool, true, false, eqb, List, [], ◌∷◌, length, length-set}
-use Rattle.word.specs.Choice.{if◌then◌else◌}
 use Rattle.file.specs.File.{kept}
 use Rattle.file.specs.Places.{flag}
 use Rattle.blit.specs.Blit.{Outcome, refused}

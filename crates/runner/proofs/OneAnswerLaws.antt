@@ -1,6 +1,6 @@
 -- The number of a refusal tells it from all others, and is never 0: what an answer leaves tells the answer.
+use Rattle.std.specs.Prelude.{if◌then◌else◌}
 use Rattle.word.proofs.Base.{◌≡◌, refl, sym, ap, ap₂, ◌∙◌, ℕ, eqb, List}
-use Rattle.word.specs.Choice.{if◌then◌else◌}
 use Rattle.refusal.proofs.OneAnswerLaws.{refusal_of, refusal_number-tells, is_own, refusal_number-is-own}
 use Rattle.job.specs.declared.types.Refusal as jobs
 use Rattle.runner.specs.declared.types.Refusal.{Refusal}

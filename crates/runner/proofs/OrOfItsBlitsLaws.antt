@@ -1,7 +1,7 @@
 -- The yes of a run is some of its blits': each step adds its own, and only a blit has one.
+use Rattle.std.specs.Prelude.{if◌then◌else◌}
 use Rattle.word.proofs.Base.{◌≡◌, refl, sym, ap, ◌∙◌, ℕ, Bool, true, false, ◌||◌, eqb, eqb-true, List, [], ◌∷◌, ◌++◌}
 use mathlib.Core.Bool.{or-false, or_assoc}
-use Rattle.word.specs.Choice.{if◌then◌else◌}
 use Rattle.blit.specs.Blit.{Outcome, refused}
 use Rattle.blit.proofs.BlitLaws.{done-round}
 use Rattle.job.specs.declared.types.Step.{Step}

@@ -1,7 +1,8 @@
 -- Laws of the rules: the first that applies has the number that the effect has, and every number of theirs is past 3.
+use Rattle.std.specs.Prelude.{if◌then◌else◌}
 use Rattle.word.proofs.Base.{◌≡◌, refl, sym, ◌∙◌, ℕ, ◌<◌, Bool, true, false, ◌&&◌, eqb, ltb, eqb-true, ltb-true, List}
 use Rattle.word.proofs.Base.{[], ◌∷◌, length}
-use Rattle.word.specs.Choice.{if◌then◌else◌, Rule, given}
+use Rattle.word.specs.Choice.{Rule, given}
 use Rattle.word.proofs.ChoiceLaws.{and_left, and_right}
 use Rattle.refusal.specs.Refusal.{area_rules, line_rules}
 use Rattle.refusal.proofs.PlanLaws.{line_or_area-cases}

@@ -1,7 +1,7 @@
 -- Laws of a run that follows another: the run of two lists of steps, of words cut at a step boundary, and of a job.
+use Rattle.std.specs.Prelude.{if◌then◌else◌}
 use Rattle.word.proofs.Base.{◌≡◌, refl, sym, ap, ◌∙◌, ℕ, ◌+◌, ◌≤◌, arith, Bool, true, false, eqb, ne_eqb, List, [], ◌∷◌}
 use Rattle.word.proofs.Base.{◌++◌, length, length-append}
-use Rattle.word.specs.Choice.{if◌then◌else◌}
 use Rattle.blit.specs.Blit.{refused}
 use Rattle.job.specs.declared.types.Read.{Read}
 use Rattle.job.specs.Length.{job_most}

@@ -1,7 +1,7 @@
 -- Paper 01, "Jobs" and "Numbers given back", as paper 02 leaves it: what one step does to memory and register file, how
 -- many words it stores, and its number. A refused step changes nothing.
-use Rattle.std.specs.Prelude.{ℕ, Bool, false, List, [], ◌∷◌, eqb, leb, length, set}
-use Rattle.word.specs.Choice.{if◌then◌else◌, Rule, ◌when◌, given}
+use Rattle.std.specs.Prelude.{ℕ, Bool, false, List, [], ◌∷◌, eqb, leb, length, set, if◌then◌else◌}
+use Rattle.word.specs.Choice.{Rule, ◌when◌, given}
 use Rattle.file.specs.File.{kept}
 use Rattle.file.specs.Places.{flag}
 use Rattle.refusal.specs.Refusal.{blit_rules}

@@ -1,7 +1,6 @@
 -- Paper 02, W12: "Blit and runner pass up a yes exactly when some used channel (in a line, C) went round between two of
 -- its accesses in a blit that was done." The yes of a run is that of one of the blits that it does.
-use Rattle.std.specs.Prelude.{ℕ, ◌≡◌, Bool, false, ◌||◌, List, [], ◌∷◌, ◌++◌, eqb}
-use Rattle.word.specs.Choice.{if◌then◌else◌}
+use Rattle.std.specs.Prelude.{ℕ, ◌≡◌, Bool, false, ◌||◌, List, [], ◌∷◌, ◌++◌, eqb, if◌then◌else◌}
 use Rattle.round.specs.Round.{goes_round}
 use Rattle.job.specs.declared.types.Step.{Step}
 use Rattle.job.specs.declared.types.Read.{Read}

@@ -1,6 +1,5 @@
 -- The run of a job cut at a step boundary, followed by the run of the rest, is the run of the whole.
-use Rattle.std.specs.Prelude.{ℕ, ◌≤◌, ◌≡◌, List, [], ◌∷◌, ◌++◌, eqb, length}
-use Rattle.word.specs.Choice.{if◌then◌else◌}
+use Rattle.std.specs.Prelude.{ℕ, ◌≤◌, ◌≡◌, List, [], ◌∷◌, ◌++◌, eqb, length, if◌then◌else◌}
 use Rattle.job.specs.Length.{job_most}
 use Rattle.job.specs.Steps.{Placed, behind, steps_from, steps}
 use Rattle.runner.specs.Run.{Machine, End, run_from, run}

@@ -1,7 +1,7 @@
 -- Laws of a settled blit: each condition from its parts.
+use Rattle.std.specs.Prelude.{if◌then◌else◌}
 use Rattle.word.proofs.Base.{◌≡◌, refl, sym, ap, ◌∙◌, ℕ, ◌+◌, ◌*◌, Bool, true, false, ◌&&◌, ◌||◌, not, eqb, leb}
 use Rattle.word.proofs.Base.{not-true, arith, List, get_or}
-use Rattle.word.specs.Choice.{if◌then◌else◌}
 use Rattle.word.specs.Size.{height, width}
 use Rattle.word.proofs.ChoiceLaws.{and_left, and_right, and_none}
 use Rattle.file.specs.Places.{control0, control1, first_mask, last_mask, pointer_d, modulo_d, source_a, source_b, source_c}

@@ -1,9 +1,10 @@
 -- Laws of store steps: what the words of a store, a pointer and a flag do when they are run.
+use Rattle.std.specs.Prelude.{if◌then◌else◌}
 use Rattle.word.proofs.Base.{◌≡◌, refl, ℕ, zero, suc, ◌+◌, ◌%◌, ◌<◌, add-zero, arith, Bool, true, false, ne_eqb}
 use Rattle.word.proofs.Base.{lt-leb, List, ◌∷◌, ◌++◌, length, set}
 use mathlib.Core.Bool.{or-false}
 use Rattle.word.specs.declared.types.Pointer.{Pointer}
-use Rattle.word.specs.Choice.{if◌then◌else◌, given}
+use Rattle.word.specs.Choice.{given}
 use Rattle.word.specs.Pointer.{pointer_end, pointer, high, low}
 use Rattle.file.specs.File.{registers, place_in, place, is_register, kept_bits, kept}
 use Rattle.file.specs.Places.{pointer_d, flag}

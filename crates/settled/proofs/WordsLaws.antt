@@ -1,10 +1,10 @@
 -- A settled blit's words, run, leave what the blit leaves.
+use Rattle.std.specs.Prelude.{if◌then◌else◌}
 use Rattle.word.proofs.Base.{◌≡◌, refl, sym, ap, ◌∙◌, ℕ, ◌+◌, ◌*◌, zero-add, arith, Bool, true, false, ◌||◌, List, [], ◌++◌, length, set}
 use mathlib.Core.Bool.{or-false}
 use mathlib.Core.List.{append_assoc}
 use native.Mathlib.Nat.{mul-one}
 use Rattle.word.specs.declared.types.Pointer.{Pointer}
-use Rattle.word.specs.Choice.{if◌then◌else◌}
 use Rattle.word.specs.Pointer.{high, low}
 use Rattle.word.specs.Size.{height, width}
 use Rattle.file.specs.Places.{pointer_a, pointer_b, pointer_c, pointer_d, source_a, source_b, source_c, flag}

@@ -1,8 +1,7 @@
 -- Paper 01, "Folding": "A settled 058 write becomes its stores in the blit's order, writes of 054 and 056 with the
 -- final D pointer, then the flag step."
-use Rattle.std.specs.Prelude.{ℕ, ◌+◌, Bool, List, [], ◌∷◌, ◌++◌}
+use Rattle.std.specs.Prelude.{ℕ, ◌+◌, Bool, List, [], ◌∷◌, ◌++◌, if◌then◌else◌}
 use Rattle.word.specs.declared.types.Pointer.{Pointer}
-use Rattle.word.specs.Choice.{if◌then◌else◌}
 use Rattle.word.specs.Pointer.{high, low}
 use Rattle.stores.specs.Stores.{Store, stores, all_zero, final_d}
 

@@ -1,6 +1,5 @@
 // Whether a blit is settled.
-ghost use Rattle.std.specs.Prelude.{◌≡◌, ◌*◌, eqb, leb};
-ghost use Rattle.word.specs.Choice.{if◌then◌else◌};
+ghost use Rattle.std.specs.Prelude.{◌≡◌, ◌*◌, eqb, leb, if◌then◌else◌};
 ghost use Rattle.word.specs.Size.{height, width};
 ghost use Rattle.word.specs.Control.{function};
 ghost use Rattle.refusal.specs.Plan.{plan};

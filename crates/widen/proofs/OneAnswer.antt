@@ -1,6 +1,6 @@
 -- Two answers that meet the promise are equal: the three numbers differ.
+use Rattle.std.specs.Prelude.{if◌then◌else◌}
 use Rattle.word.proofs.Base.{◌≡◌, refl, sym, ap, ◌∙◌, ℕ, eqb}
-use Rattle.word.specs.Choice.{if◌then◌else◌}
 use Rattle.widen.specs.declared.types.Answer.{Answer}
 use Rattle.widen.specs.declared.types.Answer.TheVariants.{Done, OldFile, TargetLength}
 use Rattle.widen.specs.Widen.{Widening, answer_number}

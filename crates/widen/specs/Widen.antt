@@ -1,7 +1,7 @@
 -- Paper 02, W7: "A small call turns an old file into a new one with black colours and COPCON 0, and leaves its target
 -- unchanged when it refuses."
-use Rattle.std.specs.Prelude.{ℕ, not, List, [], ◌∷◌, ◌++◌, eqb, length, get_or, take, replicate}
-use Rattle.word.specs.Choice.{if◌then◌else◌, Rule, ◌when◌, given}
+use Rattle.std.specs.Prelude.{ℕ, not, List, [], ◌∷◌, ◌++◌, eqb, length, get_or, take, replicate, if◌then◌else◌}
+use Rattle.word.specs.Choice.{Rule, ◌when◌, given}
 use Rattle.file.specs.Places.{file_length, blitter_length, colour_count}
 use Rattle.widen.specs.declared.types.Answer.{Answer}
 use Rattle.widen.specs.declared.types.Answer.TheVariants.{Done, OldFile, TargetLength}

@@ -1,9 +1,10 @@
 -- Laws of choices, and of tests at every number below one.
+use Rattle.std.specs.Prelude.{if◌then◌else◌}
 use Rattle.word.proofs.Base.{◌≡◌, refl, ap, ◌∙◌, ℕ, zero, suc, ◌+◌, ◌<◌, ◌≤◌, add-zero, add-suc, add-one, dec_lt}
 use Rattle.word.proofs.Base.{arith, Bool, true, false, ◌&&◌, ◌||◌, not, T, leb, ltb, le-leb, lt-leb, lt-ltb}
 use Rattle.word.proofs.Base.{le-ltb}
 use native.Mathlib.Nat.{not-suc-le-zero}
-use Rattle.word.specs.Choice.{if◌then◌else◌, every}
+use Rattle.word.specs.Choice.{every}
 
 -- what a choice gives, by its test
 pub if-when-true : {Answer : Type 0} (test : Bool) (answer this other : Answer)

@@ -1,8 +1,8 @@
 -- Laws of a blit's size.
+use Rattle.std.specs.Prelude.{if◌then◌else◌}
 use Rattle.word.proofs.Base.{◌≡◌, ℕ, zero, suc, ◌*◌, ◌/◌, ◌%◌, ◌<◌, ◌≤◌, mul-le-mul, arith, eqb, eq-eqb, ne_eqb}
 use mir.Val.{Fits}
 use mir.Syntax.{w32}
-use Rattle.word.specs.Choice.{if◌then◌else◌}
 use Rattle.word.specs.Size.{height, width}
 use Rattle.word.specs.EverySizeHasAWord.{EverySizeHasAWord}
 

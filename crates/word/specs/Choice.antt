@@ -1,11 +1,6 @@
 -- How the definitions choose: one test a line, the first that holds; and the paper's table of numbers as a list of
 -- rules.
-use Rattle.std.specs.Prelude.{ℕ, zero, suc, Bool, true, false, ◌&&◌, List, [], ◌∷◌}
-
-infix 1 if◌then◌else◌
-abbrev pub if◌then◌else◌ : {Answer : Type 0} → (test : Bool) → (then else : Answer) → Answer
-if true then this else other = this
-if false then this else other = other
+use Rattle.std.specs.Prelude.{ℕ, zero, suc, Bool, true, false, ◌&&◌, List, [], ◌∷◌, if◌then◌else◌}
 
 -- the test holds at every number below n
 abbrev pub every : (test : ℕ → Bool) → (n : ℕ) → Bool

@@ -1,11 +1,10 @@
 -- Paper 02, W12: "Each pointer move must now say whether it went round": its plain sum, before it is taken modulo 262,144,
 -- is below 0 or above 262,143.
-use Rattle.std.specs.Prelude.{ℕ, ◌+◌, ◌-◌, ◌%◌, Bool, leb, ltb}
+use Rattle.std.specs.Prelude.{ℕ, ◌+◌, ◌-◌, ◌%◌, Bool, leb, ltb, if◌then◌else◌}
 use Rattle.word.specs.declared.types.Direction.{Direction}
 use Rattle.word.specs.declared.types.Direction.TheVariants.{Ascending, Descending}
 use Rattle.word.specs.declared.types.Pointer.{Pointer}
 use Rattle.word.specs.declared.types.Move.{Move}
-use Rattle.word.specs.Choice.{if◌then◌else◌}
 use Rattle.word.specs.Pointer.{pointer_end, downward, up, down, plus, minus, moved, passed}
 
 -- one up: the sum is above 262,143; one down: it is below 0

@@ -1,6 +1,5 @@
 -- Paper 01, "The area blit": "Height is BLTSIZE bits 15-6, width in words bits 5-0. Zero means 1,024 and 64."
-use Rattle.std.specs.Prelude.{ℕ, ◌/◌, ◌%◌, eqb}
-use Rattle.word.specs.Choice.{if◌then◌else◌}
+use Rattle.std.specs.Prelude.{ℕ, ◌/◌, ◌%◌, eqb, if◌then◌else◌}
 
 unfoldable pub height : (size : ℕ) → ℕ
 height size =

@@ -1,6 +1,5 @@
 -- One block: what its sources give, and the arrays of those at rest, which are laid once a blit.
-use Rattle.std.specs.Prelude.{ℕ, ◌-◌, ◌*◌, ◌≤◌, ◌≡◌, Bool, true, false, ◌&&◌, not, List, length}
-use Rattle.word.specs.Choice.{if◌then◌else◌}
+use Rattle.std.specs.Prelude.{ℕ, ◌-◌, ◌*◌, ◌≤◌, ◌≡◌, Bool, true, false, ◌&&◌, not, List, length, if◌then◌else◌}
 pub use Rattle.area.specs.declared.types.Masks.{Masks}
 pub use Rattle.area.specs.declared.types.Earlier.{Earlier}
 pub use Rattle.area.specs.declared.types.Pointers.{Pointers}

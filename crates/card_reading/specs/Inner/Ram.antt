@@ -1,6 +1,5 @@
 -- How the code hands on what the first line says; no promise of the card speaks of it.
-use Rattle.std.specs.Prelude.{ℕ, ◌+◌, ◌&&◌, List, eqb, leb}
-use Rattle.word.specs.Choice.{if◌then◌else◌}
+use Rattle.std.specs.Prelude.{ℕ, ◌+◌, ◌&&◌, List, eqb, leb, if◌then◌else◌}
 use Rattle.card_reading.specs.declared.types.Ram.{Ram}
 use Rattle.card_reading.specs.Text.{newline, byte}
 use Rattle.card_reading.specs.RamLine.{ram_words, ram_end, ram_line}

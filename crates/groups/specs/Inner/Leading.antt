@@ -1,6 +1,5 @@
 -- How many places at the front of a run rise one by one.
-use Rattle.std.specs.Prelude.{ℕ, suc, ◌+◌, List, [], ◌∷◌, eqb}
-use Rattle.word.specs.Choice.{if◌then◌else◌}
+use Rattle.std.specs.Prelude.{ℕ, suc, ◌+◌, List, [], ◌∷◌, eqb, if◌then◌else◌}
 
 -- how many go on behind a place, each one word further on than the one before it
 unfoldable pub following : (place : ℕ) → (places : List ℕ) → ℕ

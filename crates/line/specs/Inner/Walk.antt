@@ -1,7 +1,6 @@
 -- A dot's place as one number: the pixels of all words that a pointer reaches, counted through. A move is then a sum, and
 -- what a dot's two moves come to is known before the first dot, by the sign.
-use Rattle.std.specs.Prelude.{ℕ, ◌+◌, ◌-◌, ◌*◌, ◌/◌, ◌%◌, Bool, true, false}
-use Rattle.word.specs.Choice.{if◌then◌else◌}
+use Rattle.std.specs.Prelude.{ℕ, ◌+◌, ◌-◌, ◌*◌, ◌/◌, ◌%◌, Bool, true, false, if◌then◌else◌}
 use Rattle.word.specs.Pointer.{pointer_end}
 use Rattle.line.specs.declared.types.Line.{Line}
 use Rattle.line.specs.declared.types.Spot.{Spot}

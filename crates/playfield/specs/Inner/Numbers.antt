@@ -1,6 +1,5 @@
 -- The colour numbers of a line in a local array, as its planes are laid one after the other.
-use Rattle.std.specs.Prelude.{ℕ, ◌+◌, ◌-◌, ◌*◌, ◌<◌, ◌≤◌, ◌≡◌, List, ltb, length, get_or}
-use Rattle.word.specs.Choice.{if◌then◌else◌}
+use Rattle.std.specs.Prelude.{ℕ, ◌+◌, ◌-◌, ◌*◌, ◌<◌, ◌≤◌, ◌≡◌, List, ltb, length, get_or, if◌then◌else◌}
 use Rattle.word.specs.Word.{bit, of_bits}
 use Rattle.playfield.specs.Plane.{plane_pixel}
 use Rattle.playfield.specs.Playfield.{most_planes, most_words, most_delay, Playfield, plane_delay}

@@ -1,7 +1,6 @@
 -- How far a line comes from dot to dot at most, in pixels of all words counted through. What only a quick look at a line
 -- goes by: no blit is defined by it.
-use Rattle.std.specs.Prelude.{ℕ, ◌+◌, ◌*◌, ◌%◌}
-use Rattle.word.specs.Choice.{if◌then◌else◌}
+use Rattle.std.specs.Prelude.{ℕ, ◌+◌, ◌*◌, ◌%◌, if◌then◌else◌}
 use Rattle.word.specs.Pointer.{pointer_end}
 use Rattle.word.specs.Round.{is_below, far_below}
 

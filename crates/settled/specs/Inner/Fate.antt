@@ -1,6 +1,5 @@
 -- Which of three a blit is to the folder: settled, kept for going round alone, or kept for another reason too.
-use Rattle.std.specs.Prelude.{ℕ, Bool, List}
-use Rattle.word.specs.Choice.{if◌then◌else◌}
+use Rattle.std.specs.Prelude.{ℕ, Bool, List, if◌then◌else◌}
 use Rattle.knowledge.specs.declared.types.Known.{Known}
 use Rattle.settled.specs.declared.types.Fate.{Fate}
 use Rattle.settled.specs.Settled.{settled, kept_for_round}

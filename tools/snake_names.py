@@ -16,8 +16,13 @@ QUOTED = re.compile(r'"(?:\\.|[^"\\\n])*"')
 CAMEL = re.compile(r"^[a-z][a-z0-9_]*[a-z0-9][A-Z]")
 # the library's own words for what older proofs called otherwise
 LIBRARY = {"getD": "get_or"}
+# record fields whose names are plain words joined by a dash, in the crates that have them; a step of a proof that rt
+# names so, as c.shift-a, stays
+CRATES = {"quiet", "apart", "blocks", "by_word", "engine"}
+FIELDS = ["shift-a", "shift-b", "long-y", "long-o", "of-a", "of-b", "far-a", "far-d", "inside-a", "inside-d", "memory-is", "last-is", "nought-is"]
+FIELD = re.compile(r"(?<![\w'-])(?<!\bc\.)(%s)(?![\w'-])" % "|".join(FIELDS))
 # a law that would have the name of a definition which its file cites
-FIRST = {"crates/by_word/proofs/SmearLaws.antt": ("at_a", "a_at")}
+FIRST = {"crates/by_word/proofs/SmearLaws.antt": ("atA", "at_a", "a_at")}
 
 
 def snake(part):
@@ -93,9 +98,12 @@ def main():
         old = read(p)
         clear = old
         if os.path.relpath(p, top) in FIRST:
-            name, instead = FIRST[os.path.relpath(p, top)]
-            clear = re.sub(r"\b%s\b" % name, instead, old)
+            definition, name, instead = FIRST[os.path.relpath(p, top)]
+            if re.search(r"\b%s\b" % definition, old):
+                clear = re.sub(r"\b%s\b" % name, instead, old)
         new = turn(clear) if p.endswith(".antt") else outside_quotes(clear, turn)
+        if p.endswith(".antt") and os.path.relpath(p, top).split(os.sep)[1] in CRATES:
+            new = FIELD.sub(lambda m: m.group().replace("-", "_"), new)
         if new != old:
             with open(p, "w", encoding="utf-8") as f:
                 f.write(new)

@@ -1,6 +1,6 @@
 -- Laws of places: the pointers' own moves, and the sums.
 use Rattle.std.specs.Prelude.{if◌then◌else◌}
-use Rattle.word.proofs.Base.{◌≡◌, refl, sym, ap, ◌∙◌, ℕ, zero, suc, ◌+◌, ◌-◌, ◌*◌, ◌/◌, ◌%◌, ◌<◌, ◌≤◌, mod-lt, add-one}
+use Rattle.word.proofs.Base.{◌≡◌, refl, sym, ap, ◌∙◌, ℕ, zero, suc, ◌+◌, ◌*◌, ◌/◌, ◌%◌, ◌<◌, ◌≤◌, mod-lt, add-one}
 use Rattle.word.proofs.Base.{arith, Bool, true, false}
 use native.Mathlib.Nat.{div-lt_iff_lt-mul}
 use Rattle.word.specs.declared.types.Direction.TheVariants.{Ascending, Descending}

@@ -6,7 +6,7 @@ use native.Mathlib.Nat.{add_assoc}
 use lib.Bits.{xor_zero_r}
 use Rattle.word.specs.declared.types.Fill.{Fill}
 use Rattle.word.specs.declared.types.Fill.TheVariants.{Off, Inclusive, Exclusive}
-use Rattle.word.specs.Fill.{carry, exclusive, filled}
+use Rattle.word.specs.Fill.{exclusive, filled}
 use Rattle.word.proofs.FillLaws.{doubled, prefix, exclusive-is-prefix, carry-lt, carry-is-top-bit, inclusive-is-or}
 use Rattle.quiet.specs.Words.{word_before, carry_to, filled_at}
 use Rattle.quiet.proofs.StreamLaws.{word_of, carry_to-first, carry_to-next}

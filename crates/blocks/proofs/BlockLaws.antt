@@ -91,9 +91,9 @@ before_last first word zero none = absurd (omega arith)
 before_last first word (suc k) some = ap word (sym (sub-one (suc k)))
 
 -- the last word of so many rows is a row's last
-last-is : (masks : Masks) (width rows word : ℕ) → 1 ≤ width → 1 ≤ rows * width → masking masks width (rows * width - 1) word ≡ masking masks width (width - 1) word
+last_is : (masks : Masks) (width rows word : ℕ) → 1 ≤ width → 1 ≤ rows * width → masking masks width (rows * width - 1) word ≡ masking masks width (width - 1) word
 unfolding masked_at level_at
-last-is masks width rows word some more =
+last_is masks width rows word some more =
     rw (
       word_of width (rows - 1) (width - 1) (rows * width - 1) (omega arith) (last-of-rows rows width (some-rows rows width more) some),
       word_of width 0 (width - 1) (width - 1) (omega arith) (omega arith),
@@ -127,8 +127,8 @@ module _ {n : ℕ} {setup : Setup} {size : Size} {far : Strides} {flow : Flow} {
   unfolding Each masked_at level_at word_a word_b word_c
   stands =
       record {
-        of-a = λ need j below. finished.supplied.a.words need j below ∙ rw (supplied-fetched fits fits.placed.a memory _ flow.sources.a j below);
-        of-b = λ need j below. finished.supplied.b.words need j below ∙ supplied-fetched fits fits.placed.b memory _ flow.sources.b j below;
+        of_a = λ need j below. finished.supplied.a.words need j below ∙ rw (supplied-fetched fits fits.placed.a memory _ flow.sources.a j below);
+        of_b = λ need j below. finished.supplied.b.words need j below ∙ supplied-fetched fits fits.placed.b memory _ flow.sources.b j below;
         of_c = λ need j below. finished.supplied.c.words need j below ∙ supplied-fetched fits fits.placed.c memory _ flow.sources.c j below;
       }
 
@@ -156,7 +156,7 @@ module _ {n : ℕ} {setup : Setup} {size : Size} {far : Strides} {flow : Flow} {
       finished.earlier
       ∙ ap (last_words setup size.width) sources-after
       ∙ same-earlier {b = word_before flow.sources.b (word_b setup size.width memory flow) count}
-      (sym (last-is setup.masks size.width size.height _ fits.placed.some fits.some)
+      (sym (last_is setup.masks size.width size.height _ fits.placed.some fits.some)
       ∙ ap (masking setup.masks size.width (count - 1)) (before_last _ _ count fits.some)
       ∙ sym (before_last _ _ count fits.some))
       (before_last _ _ count fits.some ∙ sym (before_last _ _ count fits.some))

@@ -45,12 +45,12 @@ module _ (setup : Setup) (width n all : ℕ) (need : Needs) (earlier : Earlier) 
       shift_b = shifted_at setup.direction setup.shifts.b earlier.b b j
 
       by-a : (told : Bool) → need.a ≡ told → logic setup.function (at ya j) (at yb j) (at xc j) ≡ logic setup.function shift_a (at yb j) (at xc j)
-      by-a true told = ap (λ (a : ℕ). logic setup.function a (at yb j) (at xc j)) (to-a told j (omega arith) ∙ shifted_at-same _ _ _ (at xa) _ i (stand.of-a (rw is at told)) j below)
+      by-a true told = ap (λ (a : ℕ). logic setup.function a (at yb j) (at xc j)) (to-a told j (omega arith) ∙ shifted_at-same _ _ _ (at xa) _ i (stand.of_a (rw is at told)) j below)
       by-a false told = ignores.a told _ _ _ _
 
       by-b : (told : Bool) → need.b ≡ told
           → logic setup.function shift_a (at yb j) (at xc j) ≡ logic setup.function shift_a shift_b (at xc j)
-      by-b true told = ap (λ (b : ℕ). logic setup.function shift_a b (at xc j)) (to-b told j (omega arith) ∙ shifted_at-same _ _ _ (at xb) _ i (stand.of-b (rw is at told)) j below)
+      by-b true told = ap (λ (b : ℕ). logic setup.function shift_a b (at xc j)) (to-b told j (omega arith) ∙ shifted_at-same _ _ _ (at xb) _ i (stand.of_b (rw is at told)) j below)
       by-b false told = ignores.b told _ _ _ _
 
       by-c : (told : Bool) → need.c ≡ told → logic setup.function shift_a shift_b (at xc j) ≡ logic setup.function shift_a shift_b (c j)

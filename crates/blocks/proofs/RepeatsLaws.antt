@@ -1,6 +1,6 @@
 -- Laws of a blit that uses no source and doesn't fill: a block that stands ready is that block, and what it leaves stands
 -- ready for the next.
-use Rattle.word.proofs.Base.{◌≡◌, refl, sym, ap, ◌∙◌, ℕ, zero, ◌+◌, ◌-◌, ◌*◌, ◌<◌, ◌≤◌, mul-le-mul_right}
+use Rattle.word.proofs.Base.{◌≡◌, refl, sym, ap, ◌∙◌, ℕ, ◌+◌, ◌-◌, ◌*◌, ◌<◌, ◌≤◌, mul-le-mul_right}
 use Rattle.word.proofs.Base.{dec_lt, arith, Bool, true, false, ◌&&◌, eqb, List}
 use Rattle.word.specs.Choice.{every}
 use Rattle.word.proofs.ChoiceLaws.{and_right, every-of-sum}
@@ -23,8 +23,8 @@ made-ready {size = size} {flow = flow} fits arrays ready =
             b = given-idle ready.still.b fits.room arrays.rest.b;
             c = given-idle ready.still.c fits.room arrays.rest.c;
           };
-      long-y = arrays.long-y;
-      long-o = arrays.long-o;
+      long_y = arrays.long_y;
+      long_o = arrays.long_o;
       earlier = ready.earlier;
       words = ready.words;
       carry = λ a b c stand. ready.carry ∙ carry-of-off _ _ _ _ _ ready.still.off;
@@ -38,7 +38,7 @@ made-ready {size = size} {flow = flow} fits arrays ready =
 pub arrays-of : {setup : Setup} {size : Size} {far : Strides} {flow : Flow} {memory xa xb xc ya o : List ℕ} {end : Made}
     → MadeOf setup size far flow memory xa xb xc ya o end → Arrays setup size.width end.sources xa xb xc ya o
 arrays-of made =
-    record { rest = record { a = made.supplied.a.rested; b = made.supplied.b.rested; c = made.supplied.c.rested }; long-y = made.long-y; long-o = made.long-o }
+    record { rest = record { a = made.supplied.a.rested; b = made.supplied.b.rested; c = made.supplied.c.rested }; long_y = made.long_y; long_o = made.long_o }
 
 nought-fewer : (n few : ℕ) (words : List ℕ) → few ≤ n → nought n (at words) ≡ true → nought few (at words) ≡ true
 unfolding nought
@@ -58,7 +58,7 @@ module _ (next : Flow) {setup : Setup} {size : Size} {far : Strides} {here : Flo
   carry-next =
       let rest = (arrays-of made).rest in
       made.carry (level_at next.sources.a) (λ _. next.sources.b) (λ _. next.sources.c)
-      (record { of-a = λ _. rest.a.level still.a _ room; of-b = λ _. rest.b.level still.b _ room; of_c = λ _. rest.c.level still.c _ room })
+      (record { of_a = λ _. rest.a.level still.a _ room; of_b = λ _. rest.b.level still.b _ room; of_c = λ _. rest.c.level still.c _ room })
       ∙ sym (carry-of-off _ _ _ _ _ still.off)
 
   -- where the block before it handed on the same, its words stand ready

@@ -72,10 +72,10 @@ smearing-of n one setup size flow far next alone follow inside =
     let both = or_left _ (eqb flow.pointers.d.word one) inside in
     record {
       alone = alone;
-      far-a = eqb-true _ _ (not-false _ (or_left _ (not (eqb far.d size.width)) follow));
-      far-d = eqb-true _ _ (not-false _ (or_right (not (eqb far.a size.width)) _ follow));
-      inside-a = ltb-false _ _ (or_left _ (ltb n (flow.pointers.d.word + size.height * size.width)) both);
-      inside-d = ltb-false _ _ (or_right (ltb n (flow.pointers.a.word + size.height * size.width)) _ both);
+      far_a = eqb-true _ _ (not-false _ (or_left _ (not (eqb far.d size.width)) follow));
+      far_d = eqb-true _ _ (not-false _ (or_right (not (eqb far.a size.width)) _ follow));
+      inside_a = ltb-false _ _ (or_left _ (ltb n (flow.pointers.d.word + size.height * size.width)) both);
+      inside_d = ltb-false _ _ (or_right (ltb n (flow.pointers.a.word + size.height * size.width)) _ both);
       ahead = λ same. eqb-false _ _ (or_right (ltb n (flow.pointers.a.word + size.height * size.width) || ltb n (flow.pointers.d.word + size.height * size.width)) _ inside) (same ∙ sym next);
     }
 
@@ -83,7 +83,7 @@ smearing-of n one setup size flow far next alone follow inside =
 module _ (make : ℕ → ℕ → ℕ) (a d : ℕ) (memory : List ℕ) (earlier : ℕ) where
   pub smeared-none : SmearedBy make a d 0 earlier memory memory earlier true
   unfolding smeared_to
-  smeared-none = record { memory-is = refl; last-is = refl; nought-is = refl; words = λ k below. absurd (omega arith) }
+  smeared-none = record { memory_is = refl; last_is = refl; nought_is = refl; words = λ k below. absurd (omega arith) }
 
   pub smeared-turn : (i made last : ℕ) (nought : Bool) (now : List ℕ) → made ≡ make last (get_or now (a + i) 0) → get_or now (a + i) 0 < 65536
       → SmearedBy make a d i earlier memory now last nought
@@ -91,15 +91,15 @@ module _ (make : ℕ → ℕ → ℕ) (a d : ℕ) (memory : List ℕ) (earlier :
   unfolding smeared_to
   smeared-turn i made last nought now is small so_far =
       record {
-        memory-is = rw (add-one, is, so_far.last-is, so_far.memory-is);
-        last-is = rw (add-one, so_far.memory-is);
-        nought-is = every-turn (λ k. eqb (made_word make a d memory earlier k) 0) i (eqb made 0) nought (rw (is, so_far.last-is, so_far.memory-is)) so_far.nought-is;
+        memory_is = rw (add-one, is, so_far.last_is, so_far.memory_is);
+        last_is = rw (add-one, so_far.memory_is);
+        nought_is = every-turn (λ k. eqb (made_word make a d memory earlier k) 0) i (eqb made 0) nought (rw (is, so_far.last_is, so_far.memory_is)) so_far.nought_is;
         words = λ k below. at k below (dec_lt k i);
       }
     where
       at : (k : ℕ) → k < i + 1 → Dec (k < i) → fetched_word make a d memory earlier k < 65536
       at k below (yes early) = so_far.words k early
-      at k below (no late) = let here : k ≡ i = omega arith in rw (here, ← so_far.memory-is) small
+      at k below (no late) = let here : k ≡ i = omega arith in rw (here, ← so_far.memory_is) small
 
   pub smeared-done : (i n last : ℕ) (nought : Bool) (now : List ℕ) → i ≤ n → n ≤ i → SmearedBy make a d i earlier memory now last nought
       → SmearedBy make a d n earlier memory now last nought
@@ -189,20 +189,20 @@ module _ (n : ℕ) (setup : Setup) (size : Size) (flow : Flow) (far : Strides) (
 
   -- where A fetches and D stores
   channel-a : Channel n setup.direction size.width size.height setup.modulos.a setup.uses.a flow.pointers.a far.a
-  channel-a = record { stride = known.even.a.0; small = known.a; inside = λ _. run_inside setup.direction n size.width size.height far.a flow.pointers.a.word smears.alone.upward smears.far-a smears.inside-a known.sized.most known.sized.some }
+  channel-a = record { stride = known.even.a.0; small = known.a; inside = λ _. run_inside setup.direction n size.width size.height far.a flow.pointers.a.word smears.alone.upward smears.far_a smears.inside_a known.sized.most known.sized.some }
 
   channel-d : Channel n setup.direction size.width size.height setup.modulos.d setup.uses.d flow.pointers.d far.d
-  channel-d = record { stride = known.even.d.0; small = known.d; inside = λ _. run_inside setup.direction n size.width size.height far.d flow.pointers.d.word smears.alone.upward smears.far-d smears.inside-d known.sized.most known.sized.some }
+  channel-d = record { stride = known.even.d.0; small = known.d; inside = λ _. run_inside setup.direction n size.width size.height far.d flow.pointers.d.word smears.alone.upward smears.far_d smears.inside_d known.sized.most known.sized.some }
 
   a_at : (k : ℕ) → k < words → (at_a setup size.width flow k).word ≡ flow.pointers.a.word + k
   a_at k below =
       channel-place n setup.direction size.width size.height setup.modulos.a setup.uses.a flow.pointers.a far.a channel-a known.sized.most known.sized.some known.sized.narrow smears.alone.a k below
-      ∙ run-place setup.direction n size.width size.height far.a flow.pointers.a.word smears.alone.upward smears.far-a smears.inside-a known.sized.most known.sized.some k below
+      ∙ run-place setup.direction n size.width size.height far.a flow.pointers.a.word smears.alone.upward smears.far_a smears.inside_a known.sized.most known.sized.some k below
 
   at-d : (k : ℕ) → k < words → (at_d setup size.width flow k).word ≡ flow.pointers.d.word + k
   at-d k below =
       channel-place n setup.direction size.width size.height setup.modulos.d setup.uses.d flow.pointers.d far.d channel-d known.sized.most known.sized.some known.sized.narrow smears.alone.d k below
-      ∙ run-place setup.direction n size.width size.height far.d flow.pointers.d.word smears.alone.upward smears.far-d smears.inside-d known.sized.most known.sized.some k below
+      ∙ run-place setup.direction n size.width size.height far.d flow.pointers.d.word smears.alone.upward smears.far_d smears.inside_d known.sized.most known.sized.some k below
 
   -- the blit's words are the smear's
   masks-none : (k : ℕ) → k < words → masked_at setup.masks size.width word_of_a k ≡ word_of_a k
@@ -225,8 +225,8 @@ module _ (n : ℕ) (setup : Setup) (size : Size) (flow : Flow) (far : Strides) (
   laid-is zero below = refl
   laid-is (suc k) below = rw (laid-is k (omega arith), at-d k (omega arith), final-is k (omega arith))
 
-  memory-is : (k : ℕ) → k ≤ words → memory_of setup size.width flow word_of_a (λ _. flow.sources.b) (λ _. flow.sources.c) memory k ≡ (now k).memory
-  memory-is k below = sym (if-when-true setup.uses.d _ _ _ smears.alone.d (sym (laid-is k below)))
+  memory_is : (k : ℕ) → k ≤ words → memory_of setup size.width flow word_of_a (λ _. flow.sources.b) (λ _. flow.sources.c) memory k ≡ (now k).memory
+  memory_is k below = sym (if-when-true setup.uses.d _ _ _ smears.alone.d (sym (laid-is k below)))
 
   -- A comes to a word after D's but one are laid
   elsewhere : (k : ℕ) → get_or (now (k - 1)).memory (flow.pointers.a.word + k) 0 ≡ word_of_a k
@@ -239,17 +239,17 @@ module _ (n : ℕ) (setup : Setup) (size : Size) (flow : Flow) (far : Strides) (
   found : Found setup size.width flow word_of_a (λ _. flow.sources.b) (λ _. flow.sources.c) memory words
   found =
       record {
-        of-a = λ k below.
+        of_a = λ k below.
             fetched-of-used setup.uses.a _ _ _ smears.alone.a
-            ∙ rw (memory-is (k - 1) (omega arith), a_at k below) (elsewhere k);
-        of-b = λ k below. rests setup.uses.b _ _ flow.sources.b k smears.alone.b;
+            ∙ rw (memory_is (k - 1) (omega arith), a_at k below) (elsewhere k);
+        of_b = λ k below. rests setup.uses.b _ _ flow.sources.b k smears.alone.b;
         of_c = λ k below. rests setup.uses.c _ _ flow.sources.c k smears.alone.c;
       }
 
   -- what it hands on
-  last-is : (k : ℕ) → suc k ≡ words → word_of_a k ≡ last
+  last_is : (k : ℕ) → suc k ≡ words → word_of_a k ≡ last
   unfolding smeared_to
-  last-is k is = ap (λ (all : ℕ). (now all).before) is ∙ sym does.last-is
+  last_is k is = ap (λ (all : ℕ). (now all).before) is ∙ sym does.last_is
 
   abbrev pub handed_on : Flow
   handed_on =
@@ -274,22 +274,22 @@ module _ (n : ℕ) (setup : Setup) (size : Size) (flow : Flow) (far : Strides) (
       rw (
         channel-rows n setup.direction size.width size.height setup.modulos.a setup.uses.a flow.pointers.a far.a channel-a known.sized.most known.sized.some known.sized.narrow size.height,
         channel-rows n setup.direction size.width size.height setup.modulos.d setup.uses.d flow.pointers.d far.d channel-d known.sized.most known.sized.some known.sized.narrow size.height,
-        pointer-on setup.uses.a far.a size.width flow.pointers.a.word size.height flow.pointers.a smears.alone.a smears.far-a,
-        pointer-on setup.uses.d far.d size.width flow.pointers.d.word size.height flow.pointers.d smears.alone.d smears.far-d,
+        pointer-on setup.uses.a far.a size.width flow.pointers.a.word size.height flow.pointers.a smears.alone.a smears.far_a,
+        pointer-on setup.uses.d far.d size.width flow.pointers.d.word size.height flow.pointers.d smears.alone.d smears.far_d,
         pointer-stays setup.direction setup.uses.b size.width setup.modulos.b size.height flow.pointers.b smears.alone.b,
         pointer-stays setup.direction setup.uses.c size.width setup.modulos.c size.height flow.pointers.c smears.alone.c,
-        last_of flow.sources.a word_of_a words last some_words last-is,
+        last_of flow.sources.a word_of_a words last some_words last_is,
         last_of flow.sources.b (λ _. flow.sources.b) words flow.sources.b some_words (λ k is. refl),
         last_of flow.sources.c (λ _. flow.sources.c) words flow.sources.c some_words (λ k is. refl),
-        before-is words (omega arith) ∙ sym does.last-is,
+        before-is words (omega arith) ∙ sym does.last_is,
         last_of flow.earlier.b (λ _. flow.sources.b) words flow.sources.b some_words (λ k is. refl),
         last_of flow.carry (λ k. (final k).carry) words setup.carry some_words (λ k is. sym (carry-of-off setup.fill setup.carry size.width k _ smears.alone.off)),
         every-alike (λ k. eqb (final k).word 0) (λ k. eqb (made k) 0) words (λ k below. ap (λ (word : ℕ). eqb word 0) (final-is k below)),
-        ← does.nought-is,
+        ← does.nought_is,
         ← if-when-true setup.uses.d words words 0 smears.alone.d refl,
       )
 
   pub smear-is : (next : Flow) → next ≡ handed_on → state after next ≡ area_blit setup size.width size.height (state memory flow)
   smear-is next is =
-      rw (is, ← flow-is, does.memory-is, ← memory-is words (omega arith))
+      rw (is, ← flow-is, does.memory_is, ← memory_is words (omega arith))
       (sym (found-blit setup size.width size.height memory flow word_of_a (λ _. flow.sources.b) (λ _. flow.sources.c) known.sized.some known.none found))

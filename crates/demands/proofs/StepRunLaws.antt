@@ -12,7 +12,6 @@ use Rattle.job.proofs.StepLaws.{front-of-append}
 use Rattle.job.proofs.StepsLaws.{steps_from-of-skip}
 use Rattle.runner.specs.Effect.{step_effect, effect}
 use Rattle.runner.specs.Run.{Machine, after, End, ended, run_steps, run_from}
-use Rattle.knowledge.specs.Knowledge.{numbers}
 
 -- two ends that agree in all but the place
 pub record SameButPlace (this other : End) : Type 0 where

@@ -126,7 +126,7 @@ pub extern "C" fn desk_frame(
     word: &mut u32,
 )
     ensures { record {
-      why = why.exit.now;
+      why = why.new;
       number = number.new;
       done = done.new;
       word = word.new;

@@ -17,5 +17,5 @@ pub known_of : (n : ℕ) (setup : Setup) (size : Size) (flow : Flow) (far : Stri
     → 1 ≤ size.width → size.width ≤ 64 → 1 ≤ size.height → size.height ≤ 1024
     → flow.pointers.a.word < pointer_end → flow.pointers.b.word < pointer_end → flow.pointers.c.word < pointer_end → flow.pointers.d.word < pointer_end
     → flow.pending ≡ nothing → Known n setup size flow far
-known_of n setup size flow far most even shift-a shift-b some narrow rows few a b c d none =
-    record { sized = record { most = most; some = some; narrow = narrow; rows = rows; few = few }; shift-a = shift-a; shift-b = shift-b; none = none; even = even; a = a; b = b; c = c; d = d }
+known_of n setup size flow far most even shift_a shift_b some narrow rows few a b c d none =
+    record { sized = record { most = most; some = some; narrow = narrow; rows = rows; few = few }; shift_a = shift_a; shift_b = shift_b; none = none; even = even; a = a; b = b; c = c; d = d }

@@ -1,5 +1,5 @@
 -- Laws of the words of groups: how many there are.
-use Rattle.word.proofs.Base.{◌≡◌, ap, ℕ, ◌+◌, ◌*◌, ◌≤◌, arith, List, [], ◌∷◌, ◌++◌, length, length-append, take, drop}
+use Rattle.word.proofs.Base.{◌≡◌, ap, ℕ, ◌*◌, ◌≤◌, arith, List, [], ◌∷◌, ◌++◌, length, length-append, take, drop}
 use Rattle.word.specs.declared.types.Pointer.{Pointer}
 use Rattle.stores.specs.Stores.{Store, places, values}
 use Rattle.groups.specs.Gather.{Group, gathered}

@@ -1,6 +1,6 @@
 -- Laws of a line that is done: its number, and what each of its pixels is.
 use Rattle.std.specs.Prelude.{if◌then◌else◌}
-use Rattle.word.proofs.Base.{◌≡◌, refl, sym, ap, ◌∙◌, ℕ, zero, suc, ◌+◌, ◌-◌, ◌<◌, dec_lt, arith, Bool, true, false, eqb}
+use Rattle.word.proofs.Base.{◌≡◌, refl, sym, ap, ◌∙◌, ℕ, zero, suc, ◌<◌, dec_lt, arith, Bool, true, false, eqb}
 use Rattle.word.proofs.Base.{eqb-true, eqb-false, List, [], ◌∷◌, ◌++◌, get_or, drop}
 use lib.ListN.{get_or-append}
 use lib.Seq.{get_or_at}

@@ -146,8 +146,8 @@ module _ (setup : Setup) (width : ℕ) (memory : List ℕ) (flow : Flow) (a b c 
           ← count_to-stored k,
           row_is,
           word-is,
-          rw (row_is, word-is, held-is k) at (found.of-a k below),
-          rw (row_is, word-is, held-is k) at (found.of-b k below),
+          rw (row_is, word-is, held-is k) at (found.of_a k below),
+          rw (row_is, word-is, held-is k) at (found.of_b k below),
           rw (row_is, word-is, held-is k) at (found.of_c k below),
           comes,
           is-first remaining word width all,
@@ -222,8 +222,8 @@ module _ (setup : Setup) (width height : ℕ) (memory : List ℕ) (flow : Flow) 
   unfolding Quiet word_a word_b word_c
   found =
       record {
-        of-a = λ k below. fetched-unmet _ _ (at_d setup width flow) (at_a setup width flow) _ memory _ k _ below quiet.0;
-        of-b = λ k below. fetched-unmet _ _ (at_d setup width flow) (at_b setup width flow) _ memory _ k _ below quiet.1;
+        of_a = λ k below. fetched-unmet _ _ (at_d setup width flow) (at_a setup width flow) _ memory _ k _ below quiet.0;
+        of_b = λ k below. fetched-unmet _ _ (at_d setup width flow) (at_b setup width flow) _ memory _ k _ below quiet.1;
         of_c = λ k below. fetched-unmet _ _ (at_d setup width flow) (at_c setup width flow) _ memory _ k _ below quiet.2;
       }
 

@@ -66,8 +66,8 @@ module _ (setup : Setup) (width : ℕ) (flow : Flow) (a b c : ℕ → ℕ) where
 -- three sources' words are what they find when they come to them: all D's words laid but the one before
 module _ (setup : Setup) (width : ℕ) (flow : Flow) (a b c : ℕ → ℕ) (memory : List ℕ) where
   pub record Found (n : ℕ) : Type 0 where
-    pub of-a : (k : ℕ) → k < n → fetched setup.uses.a (memory_of setup width flow a b c memory (k - 1)) (at_a setup width flow k) (word_before flow.sources.a a k) ≡ a k
-    pub of-b : (k : ℕ) → k < n → fetched setup.uses.b (memory_of setup width flow a b c memory (k - 1)) (at_b setup width flow k) (word_before flow.sources.b b k) ≡ b k
+    pub of_a : (k : ℕ) → k < n → fetched setup.uses.a (memory_of setup width flow a b c memory (k - 1)) (at_a setup width flow k) (word_before flow.sources.a a k) ≡ a k
+    pub of_b : (k : ℕ) → k < n → fetched setup.uses.b (memory_of setup width flow a b c memory (k - 1)) (at_b setup width flow k) (word_before flow.sources.b b k) ≡ b k
     pub of_c : (k : ℕ) → k < n → fetched setup.uses.c (memory_of setup width flow a b c memory (k - 1)) (at_c setup width flow k) (word_before flow.sources.c c k) ≡ c k
 
 -- by the words that the sources find in the memory that the blit began with

@@ -9,7 +9,6 @@ use Rattle.word.proofs.SizeLaws.{height-positive, height-le, width-le, width_pos
 use Rattle.word.specs.declared.types.Uses.{Uses}
 use Rattle.file.specs.File.{accepted, con0, con1}
 use Rattle.file.specs.Places.{pointer_a, pointer_b, pointer_c, pointer_d}
-use Rattle.area.specs.Setup.{setup}
 use Rattle.word.specs.Control.{uses, line}
 use Rattle.line.specs.Setup.{line_setup}
 use Rattle.line.specs.Dot.{first_dot}

@@ -7,7 +7,7 @@ use Rattle.word.specs.Pointer.{pointer}
 use Rattle.word.specs.Word.{SixteenBits}
 use Rattle.word.proofs.ChoiceLaws.{if-either}
 use Rattle.word.proofs.WordLaws.{SixteenBits-of-set, SixteenBits-of-rest}
-use Rattle.file.specs.File.{registers, kept_bits, kept, place, is_register}
+use Rattle.file.specs.File.{registers, kept_bits, kept, is_register}
 use Rattle.file.specs.Places.{flag}
 use Rattle.file.proofs.FileLaws.{kept_again, kept-of-bits, accepted-of-set}
 use Rattle.blit.specs.AcceptedAgain.{Ready}

@@ -1,6 +1,6 @@
 -- Paper 01, "Jobs" and "Numbers given back": a run takes a job's steps in order,
 -- to the end or to the first refused one. Paper 02, W12: "Blit and runner pass up a yes".
-use Rattle.std.specs.Prelude.{ℕ, ◌+◌, Bool, false, not, ◌||◌, List, [], ◌∷◌, eqb, leb, length, if◌then◌else◌}
+use Rattle.std.specs.Prelude.{ℕ, ◌+◌, Bool, false, not, ◌||◌, List, [], ◌∷◌, eqb, length, if◌then◌else◌}
 use Rattle.word.specs.Choice.{Rule, ◌when◌, given}
 use Rattle.file.specs.File.{accepted}
 use Rattle.word.specs.Memory.{memory_size}

@@ -1,6 +1,6 @@
 -- How the definitions choose: one test a line, the first that holds; and the paper's table of numbers as a list of
 -- rules.
-use Rattle.std.specs.Prelude.{ℕ, zero, suc, Bool, true, false, ◌&&◌, List, [], ◌∷◌, if◌then◌else◌}
+use Rattle.std.specs.Prelude.{ℕ, zero, suc, Bool, true, ◌&&◌, List, [], ◌∷◌, if◌then◌else◌}
 
 -- the test holds at every number below n
 abbrev pub every : (test : ℕ → Bool) → (n : ℕ) → Bool

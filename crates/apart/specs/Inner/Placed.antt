@@ -19,8 +19,8 @@ pub record Placed (n : ℕ) (setup : Setup) (width rows : ℕ) (flow : Flow) (fa
   pub most : n ≤ pointer_end
   pub some : 1 ≤ width
   pub narrow : width ≤ 64
-  pub shift-a : setup.shifts.a < 16
-  pub shift-b : setup.shifts.b < 16
+  pub shift_a : setup.shifts.a < 16
+  pub shift_b : setup.shifts.b < 16
   pub none : flow.pending ≡ nothing
   pub a : Channel n setup.direction width rows setup.modulos.a setup.uses.a flow.pointers.a far.a
   pub b : Channel n setup.direction width rows setup.modulos.b setup.uses.b flow.pointers.b far.b

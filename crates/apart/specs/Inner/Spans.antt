@@ -72,8 +72,8 @@ pub record Evenly (setup : Setup) (width : ℕ) (far : Strides) : Type 0 where
 -- what is known of a blit before the test
 pub record Known (n : ℕ) (setup : Setup) (size : Size) (flow : Flow) (far : Strides) : Type 0 where
   pub sized : Sized n size
-  pub shift-a : setup.shifts.a < 16
-  pub shift-b : setup.shifts.b < 16
+  pub shift_a : setup.shifts.a < 16
+  pub shift_b : setup.shifts.b < 16
   pub none : flow.pending ≡ nothing
   pub even : Evenly setup size.width far
   pub a : flow.pointers.a.word < pointer_end

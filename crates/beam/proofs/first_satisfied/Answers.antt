@@ -1,4 +1,3 @@
--- the answers that are left
 use Rattle.word.proofs.Base.{rules}
 use Rattle.beam.proofs.SatisfiedLaws.{satisfied-told}
 use Rattle.beam.proofs.WaitLaws.{first_satisfied-at, first_satisfied-past, first_satisfied-turn}

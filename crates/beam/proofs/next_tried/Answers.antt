@@ -1,4 +1,3 @@
--- the answers that are left
 use Rattle.word.proofs.Base.{rules}
 use Rattle.beam.proofs.WaitLaws.{first_satisfied-past-line, first_satisfied-past-place, first_satisfied-on-line}
 use Rattle.beam.proofs.next_tried.Goals as goal

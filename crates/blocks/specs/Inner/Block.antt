@@ -74,8 +74,8 @@ pub record Supplied (setup : Setup) (size : Size) (far : Strides) (flow : Flow) 
 -- all five arrays
 pub record Arrays (setup : Setup) (width : ℕ) (sources : Sources) (xa xb xc ya o : List ℕ) : Type 0 where
   pub rest : AllRest setup width sources xa xb xc
-  pub long-y : length ya ≡ 80
-  pub long-o : length o ≡ 80
+  pub long_y : length ya ≡ 80
+  pub long_o : length o ≡ 80
 
 -- a block can be done at once: it has few enough words, and is the next of the rows that are left
 pub record Fits (n : ℕ) (setup : Setup) (size : Size) (flow : Flow) (far : Strides) : Type 0 where

@@ -13,8 +13,8 @@ use Rattle.blocks.specs.Inner.Block.{Sources, needed, masking, Supplied}
 
 -- the first n words of the sources that the function needs stand in arrays, A's masked
 pub record Stand (setup : Setup) (width n : ℕ) (xa xb xc : List ℕ) (a b c : ℕ → ℕ) : Type 0 where
-  pub of-a : (needed setup.function).a ≡ true → Each n xa (masked_at setup.masks width a)
-  pub of-b : (needed setup.function).b ≡ true → Each n xb b
+  pub of_a : (needed setup.function).a ≡ true → Each n xa (masked_at setup.masks width a)
+  pub of_b : (needed setup.function).b ≡ true → Each n xb b
   pub of_c : (needed setup.function).c ≡ true → Each n xc c
 
 -- their final words stand in another, whatever they are and so far as they are given, and the last carry is told
@@ -33,8 +33,8 @@ last_words setup width sources = record { a = masking setup.masks width (width -
 -- the words of a block made, with what it hands on
 pub record MadeOf (setup : Setup) (size : Size) (far : Strides) (flow : Flow) (memory xa xb xc ya o : List ℕ) (end : Made) : Type 0 where
   pub supplied : Supplied setup size far flow memory xa xb xc end.sources
-  pub long-y : length ya ≡ 80
-  pub long-o : length o ≡ 80
+  pub long_y : length ya ≡ 80
+  pub long_o : length o ≡ 80
   pub earlier : end.earlier ≡ last_words setup size.width end.sources
   pub words : FinalWords setup size.width (size.height * size.width) flow.earlier xa xb xc o
   pub carry : FinalCarry setup size.width (size.height * size.width) flow.earlier xa xb xc end.carry

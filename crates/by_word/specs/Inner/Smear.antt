@@ -28,10 +28,10 @@ pub record Alone (setup : Setup) : Type 0 where
 -- rows that follow on one another inside memory, D anywhere but a word ahead
 pub record Smearing (n : ℕ) (setup : Setup) (size : Size) (flow : Flow) (far : Strides) : Type 0 where
   pub alone : Alone setup
-  pub far-a : far.a ≡ size.width
-  pub far-d : far.d ≡ size.width
-  pub inside-a : flow.pointers.a.word + size.height * size.width ≤ n
-  pub inside-d : flow.pointers.d.word + size.height * size.width ≤ n
+  pub far_a : far.a ≡ size.width
+  pub far_d : far.d ≡ size.width
+  pub inside_a : flow.pointers.a.word + size.height * size.width ≤ n
+  pub inside_d : flow.pointers.d.word + size.height * size.width ≤ n
   pub ahead : flow.pointers.d.word ≡ flow.pointers.a.word + 1 → ⊥
 
 -- a word made of the word fetched and the one before it
@@ -60,7 +60,7 @@ module _ (make : ℕ → ℕ → ℕ) (a d : ℕ) (memory : List ℕ) (earlier :
 
 -- so many of them
 pub record SmearedBy (make : ℕ → ℕ → ℕ) (a d n earlier : ℕ) (memory after : List ℕ) (last : ℕ) (nought : Bool) : Type 0 where
-  pub memory-is : after ≡ (smeared_to make a d memory earlier n).memory
-  pub last-is : last ≡ (smeared_to make a d memory earlier n).before
-  pub nought-is : nought ≡ every (λ k. eqb (made_word make a d memory earlier k) 0) n
+  pub memory_is : after ≡ (smeared_to make a d memory earlier n).memory
+  pub last_is : last ≡ (smeared_to make a d memory earlier n).before
+  pub nought_is : nought ≡ every (λ k. eqb (made_word make a d memory earlier k) 0) n
   pub words : (k : ℕ) → k < n → fetched_word make a d memory earlier k < 65536

@@ -1,4 +1,3 @@
--- the answers that are left
 use Rattle.word.proofs.Base.{◌≡◌, refl, ap, ℕ, ◌+◌, Bool, ◌&&◌, eqb, rules, List, get_or}
 use Rattle.word.specs.Choice.{every}
 use Rattle.word.proofs.ChoiceLaws.{every-turn, every-done}

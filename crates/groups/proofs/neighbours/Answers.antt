@@ -1,5 +1,4 @@
--- the answers that are left
-use Rattle.word.proofs.Base.{◌+◌, ◌-◌, ◌<◌, ◌≤◌, arith, rules}
+use Rattle.word.proofs.Base.{◌+◌, ◌<◌, ◌≤◌, arith, rules}
 use Rattle.groups.proofs.LeadingLaws.{leading-begin, leading-turn, leading-stop, leading_end}
 use Rattle.groups.proofs.neighbours.Goals as goal
 

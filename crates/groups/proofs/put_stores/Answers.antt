@@ -1,5 +1,4 @@
--- the answers that are left
-use Rattle.word.proofs.Base.{◌-◌, rules}
+use Rattle.word.proofs.Base.{rules}
 use Rattle.groups.proofs.PairedLaws.{put-stores-begin, put-stores-end-begin}
 use Rattle.groups.proofs.PairedLaws.{put-stores-turn, put-stores-end-turn, put-stores-room-turn}
 use Rattle.groups.proofs.PairedLaws.{put-stores-done, put-stores-end-done}

@@ -1,4 +1,3 @@
--- the answers that are left
 use Rattle.word.proofs.Base.{◌≡◌, rules, arith}
 use Rattle.playfield.proofs.NumbersLaws.{grown-none}
 use Rattle.playfield.proofs.PlanesLaws.{words_pixel-none, words_pixel-lt, grown-small, plane-turn}

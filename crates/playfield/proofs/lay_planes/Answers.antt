@@ -1,4 +1,3 @@
--- the answers that are left
 use Rattle.word.proofs.Base.{◌≡◌, arith, rules, length}
 use Rattle.playfield.proofs.PlanesLaws.{numbered-none, numbered-turn}
 use Rattle.playfield.proofs.PlanesLaws.{drawable-inside, drawable-delay, drawable-weight, drawable-small}

@@ -1,4 +1,3 @@
--- the answers that are left
 use Rattle.word.proofs.Base.{◌≡◌, refl, arith, rules}
 use Rattle.playfield.proofs.NumbersLaws.{word_pixel-none, grown-none, word_sum, word-turn}
 use Rattle.playfield.proofs.lay_word.Goals as goal

@@ -1,7 +1,5 @@
--- the answers that are left
 use Rattle.word.proofs.Base.{rules}
 use Rattle.word.proofs.RepeatLaws.{repeated-turn, repeated-done}
-use Rattle.stores.specs.Stores as specs
 use Rattle.stores.specs.Stores.{Store}
 use Rattle.area.proofs.RowsLaws.{rows-room}
 use Rattle.stores.proofs.LaidLaws.{blit-turn, blit-done}

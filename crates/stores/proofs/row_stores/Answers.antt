@@ -1,8 +1,6 @@
--- the answers that are left
 use Rattle.word.proofs.Base.{rules}
 use Rattle.word.proofs.RepeatLaws.{repeated-turn, repeated-done}
 use Rattle.area.proofs.RowsLaws.{words-room}
-use Rattle.stores.specs.Stores as specs
 use Rattle.stores.specs.Stores.{Store}
 use Rattle.stores.proofs.LaidLaws.{row-turn, row_done}
 use Rattle.stores.proofs.row_stores.Goals as goal

@@ -1,5 +1,4 @@
--- the answers that are left
-use Rattle.word.proofs.Base.{◌-◌, rules}
+use Rattle.word.proofs.Base.{rules}
 use Rattle.widen.proofs.WidenLaws.{widened-turn, widened-done}
 use Rattle.widen.proofs.lay.Goals as goal
 

@@ -1,5 +1,4 @@
--- the answers that are left
-use Rattle.word.proofs.Base.{◌-◌, arith, rules}
+use Rattle.word.proofs.Base.{arith, rules}
 use Rattle.block.proofs.EachLaws.{laid_none, laid_done}
 use Rattle.block.proofs.PlaceLaws.{place-reaches, place_inside, fetch-turn}
 use Rattle.block.proofs.fetch.row.Goals as goal

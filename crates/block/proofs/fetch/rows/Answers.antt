@@ -1,5 +1,4 @@
--- the answers that are left
-use Rattle.word.proofs.Base.{refl, ◌-◌, arith, rules}
+use Rattle.word.proofs.Base.{refl, arith, rules}
 use Rattle.block.proofs.EachLaws.{each_none, reached-fits, each_fewer, reached-done}
 use Rattle.block.proofs.PlaceLaws.{walks-none, walks-inside, walks_turn, fetch-rows-turn}
 use Rattle.block.proofs.fetch.rows.Goals as goal

@@ -1,5 +1,4 @@
--- the answers that are left
-use Rattle.word.proofs.Base.{refl, ◌-◌, arith, rules}
+use Rattle.word.proofs.Base.{refl, arith, rules}
 use Rattle.block.proofs.FillLaws.{row-filled-none, row-filled-turn, row-filled-done}
 use Rattle.block.proofs.fill.carry_row.Goals as goal
 

@@ -1,5 +1,4 @@
--- the answers that are left
-use Rattle.word.proofs.Base.{◌-◌, arith, rules}
+use Rattle.word.proofs.Base.{arith, rules}
 use Rattle.block.proofs.EachLaws.{reached-none, reached-fits, reached-turn, reached-done}
 use Rattle.block.proofs.FillLaws.{rows-filled-none, rows-filled-turn}
 use Rattle.block.proofs.fill.carry_rows.Goals as goal

@@ -1,5 +1,4 @@
--- the answers that are left
-use Rattle.word.proofs.Base.{◌-◌, rules}
+use Rattle.word.proofs.Base.{rules}
 use Rattle.block.specs.Inner.Each.{at, either_at}
 use Rattle.block.proofs.EachLaws.{set-done, put-none, put-turn}
 use Rattle.block.proofs.fill.either.Goals as goal

@@ -1,5 +1,4 @@
--- the answers that are left
-use Rattle.word.proofs.Base.{ap, ◌-◌, rules}
+use Rattle.word.proofs.Base.{ap, rules}
 use Rattle.word.specs.declared.types.Filled.{Filled}
 use Rattle.word.specs.Fill.{filled}
 use Rattle.block.specs.Inner.Each.{at, prefix_at}

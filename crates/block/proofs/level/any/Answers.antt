@@ -1,5 +1,4 @@
--- the answers that are left
-use Rattle.word.proofs.Base.{◌-◌, rules}
+use Rattle.word.proofs.Base.{rules}
 use Rattle.block.proofs.EachLaws.{nought-none, nought-turn, nought-done}
 use Rattle.block.proofs.level.any.Goals as goal
 

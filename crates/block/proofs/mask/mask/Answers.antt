@@ -1,5 +1,4 @@
--- the answers that are left
-use Rattle.word.proofs.Base.{◌-◌, arith, rules}
+use Rattle.word.proofs.Base.{arith, rules}
 use Rattle.block.proofs.EachLaws.{each_none, kept-all, each_fewer, reached-none, reached-fits, reached-turn, reached-done}
 use Rattle.block.proofs.MaskLaws.{masked-all-ones, mask-turn}
 use Rattle.block.proofs.mask.mask.Goals as goal

@@ -1,5 +1,4 @@
--- the answers that are left
-use Rattle.word.proofs.Base.{refl, ◌-◌, rules}
+use Rattle.word.proofs.Base.{refl, rules}
 use Rattle.block.specs.Inner.Each.{at}
 use Rattle.block.proofs.EachLaws.{set-none, set-turn, set-done}
 use Rattle.block.proofs.shift.copied.Goals as goal

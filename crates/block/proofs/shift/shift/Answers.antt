@@ -1,5 +1,4 @@
--- the answers that are left
-use Rattle.word.proofs.Base.{sym, ◌∙◌, ◌-◌, add-one, rules}
+use Rattle.word.proofs.Base.{sym, ◌∙◌, add-one, rules}
 use Rattle.quiet.specs.Words.{word_before, shifted_at}
 use Rattle.block.specs.Inner.Each.{at}
 use Rattle.block.proofs.EachLaws.{never, each-copied, set-none, set-turn, set-done}

@@ -1,5 +1,4 @@
--- the answers that are left
-use Rattle.word.proofs.Base.{◌-◌, arith, rules}
+use Rattle.word.proofs.Base.{arith, rules}
 use Rattle.block.proofs.PlaceLaws.{place-reaches, place_inside, laid_at-none, store-turn, laid_at-done}
 use Rattle.block.proofs.store.row.Goals as goal
 

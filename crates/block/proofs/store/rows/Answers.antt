@@ -1,5 +1,4 @@
--- the answers that are left
-use Rattle.word.proofs.Base.{◌-◌, arith, rules}
+use Rattle.word.proofs.Base.{arith, rules}
 use Rattle.block.proofs.EachLaws.{reached-fits, reached-done}
 use Rattle.block.proofs.PlaceLaws.{walks-none, walks-inside, walks_turn, laid_at-none, store-rows-turn, laid_at-done}
 use Rattle.block.proofs.store.rows.Goals as goal

@@ -1,5 +1,4 @@
--- the answers that are left
-use Rattle.word.proofs.Base.{◌-◌, arith}
+use Rattle.word.proofs.Base.{arith}
 use Rattle.blocks.proofs.RepeatsLaws.{arrays-of, repeating-on, ready_of}
 use Rattle.blocks.proofs.RunningLaws.{running-starts, block-fits, running-on, running-done}
 use Rattle.blocks.proofs.all.block_by_block.Goals as goal

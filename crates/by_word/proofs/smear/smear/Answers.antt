@@ -8,7 +8,7 @@ pub overflow_mul-words : goal.overflow_mul-words
 overflow_mul-words c = omega (arith, mul-le-mul c.requires.0.sized.few c.requires.0.sized.narrow)
 
 pub smeared-end-requires : goal.smeared-end-requires
-smeared-end-requires c = (c.requires.1.inside-a, c.requires.1.inside-d, c.requires.0.shift-a)
+smeared-end-requires c = (c.requires.1.inside_a, c.requires.1.inside_d, c.requires.0.shift_a)
 
 pub words_on-a-requires : goal.words_on-a-requires
 words_on-a-requires c = omega (arith, mul-le-mul c.requires.0.sized.few c.requires.0.sized.narrow)

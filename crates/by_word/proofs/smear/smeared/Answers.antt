@@ -1,5 +1,4 @@
--- the answers that are left
-use Rattle.word.proofs.Base.{◌-◌, arith, rules}
+use Rattle.word.proofs.Base.{arith, rules}
 use Rattle.by_word.specs.Inner.Smear.{smeared_word}
 use Rattle.by_word.proofs.SmearLaws.{smeared-none, smeared-turn, smeared-done}
 use Rattle.by_word.proofs.smear.smeared.Goals as goal

@@ -1,4 +1,3 @@
--- the answers that are left
 use Rattle.word.proofs.Base.{rules}
 use Rattle.card_reading.proofs.JobLaws.{writes-turn, writes-done}
 use Rattle.card_reading.proofs.writes.job.Goals as goal

@@ -1,5 +1,4 @@
--- the answers that are left
-use Rattle.word.proofs.Base.{◌-◌, rules}
+use Rattle.word.proofs.Base.{rules}
 use Rattle.card_text.proofs.PrintingLaws.{changed-turn, changed-done}
 use Rattle.card_text.proofs.printing.changed.Goals as goal
 

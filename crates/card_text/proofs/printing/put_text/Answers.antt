@@ -1,5 +1,4 @@
--- the answers that are left
-use Rattle.word.proofs.Base.{◌-◌, rules}
+use Rattle.word.proofs.Base.{rules}
 use Rattle.card_text.proofs.WritingLaws.{writing-turn, writing-done}
 use Rattle.card_text.proofs.printing.put_text.Goals as goal
 

@@ -1,5 +1,4 @@
--- the answers that are left
-use Rattle.word.proofs.Base.{◌-◌, rules}
+use Rattle.word.proofs.Base.{rules}
 use Rattle.card_text.proofs.RunLaws.{counted_start, counted-turn, counted-done}
 use Rattle.card_text.proofs.start.count.Goals as goal
 

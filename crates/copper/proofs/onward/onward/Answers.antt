@@ -1,5 +1,4 @@
--- the answers that are left
-use Rattle.word.proofs.Base.{◌-◌, rules}
+use Rattle.word.proofs.Base.{rules}
 use Rattle.copper.proofs.FrameLaws.{onward-at-start, onward-at-end, onward-at-last, onward-turn, onward-of-refused}
 use Rattle.copper.proofs.onward.onward.Goals as goal
 

@@ -1,4 +1,3 @@
--- the answers that are left
 use Rattle.word.proofs.Base.{rules}
 use Rattle.drawing.proofs.DrawLaws.{line_blit-turn, line_blit-done, one_dot-room}
 use Rattle.drawing.proofs.draw.all_dots.Goals as goal

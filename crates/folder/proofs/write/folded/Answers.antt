@@ -1,5 +1,4 @@
--- the answers that are left
-use Rattle.word.proofs.Base.{◌-◌, rules}
+use Rattle.word.proofs.Base.{rules}
 use Rattle.job.proofs.StepLaws.{read-falls}
 use Rattle.folder.proofs.FoldedLaws.{stands-start, stands-turn, turn-fits, room-to-put, step-inside, folded-at-end, folded-of-end, folded-of-fault}
 use Rattle.folder.proofs.write.folded.Goals as goal

@@ -1,5 +1,4 @@
--- the answers that are left
-use Rattle.word.proofs.Base.{◌≡◌, ℕ, ◌+◌, ◌-◌, ◌<◌, ◌≤◌, zero-add, add-one, arith, rules, List, ◌++◌, length, get_or, set}
+use Rattle.word.proofs.Base.{◌≡◌, ℕ, ◌+◌, ◌<◌, ◌≤◌, zero-add, add-one, arith, rules, List, ◌++◌, length, get_or, set}
 use Rattle.word.proofs.Base.{take, drop}
 use lib.Seq.{paste-suc}
 use Rattle.folder.proofs.write.hand_out.Goals as goal

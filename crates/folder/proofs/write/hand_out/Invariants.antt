@@ -1,5 +1,5 @@
 -- `folder::write::hand_out` meets its contract: the words passed are the run's, the others stand as they were.
-use Rattle.word.proofs.Base.{◌≡◌, ◌+◌, ◌-◌, ◌≤◌, ◌++◌, length}
+use Rattle.word.proofs.Base.{◌≡◌, ◌-◌, ◌≤◌, ◌++◌, length}
 use Rattle.word.proofs.Base.{take, drop}
 use Rattle.folder.proofs.write.hand_out.Given as goal
 

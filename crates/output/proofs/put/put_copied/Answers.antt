@@ -1,4 +1,3 @@
--- the answers that are left
 use Rattle.word.proofs.Base.{rules}
 use Rattle.output.proofs.PutLaws.{copied-turn, copied-done}
 use Rattle.output.proofs.put.put_copied.Goals as goal

@@ -1,5 +1,4 @@
--- the answers that are left
-use Rattle.word.proofs.Base.{◌-◌, rules}
+use Rattle.word.proofs.Base.{rules}
 use Rattle.output.proofs.StoresLaws.{paired-begin, room-begin, paired-turn, paired-done}
 use Rattle.output.proofs.words.put_stores.Goals as goal
 

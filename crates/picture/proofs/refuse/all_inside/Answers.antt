@@ -1,5 +1,4 @@
--- the answers that are left
-use Rattle.word.proofs.Base.{◌≡◌, refl, ap, ℕ, ◌+◌, ◌-◌, Bool, ◌&&◌, leb, rules, List, get_or}
+use Rattle.word.proofs.Base.{◌≡◌, refl, ap, ℕ, ◌+◌, Bool, ◌&&◌, leb, rules, List, get_or}
 use Rattle.word.specs.Choice.{every}
 use Rattle.word.proofs.ChoiceLaws.{every-turn, every-done}
 use Rattle.picture.specs.Refusal.{inside}

@@ -1,5 +1,4 @@
--- the answers that are left
-use Rattle.word.proofs.Base.{◌-◌, arith, rules}
+use Rattle.word.proofs.Base.{arith, rules}
 use Rattle.picture.proofs.PaintedLaws.{painted-none, painted-done, words-turn, words-as-long}
 use Rattle.picture.proofs.show.show.Goals as goal
 

@@ -1,5 +1,4 @@
--- the answers that are left
-use Rattle.word.proofs.Base.{◌+◌, ◌-◌, arith, rules}
+use Rattle.word.proofs.Base.{◌+◌, arith, rules}
 use Rattle.picture.specs.Inner.Painted.{number_colour}
 use Rattle.picture.proofs.PaintedLaws.{painted-none, painted-turn, painted-done}
 use Rattle.picture.proofs.show.show_word.Goals as goal

@@ -1,4 +1,3 @@
--- the answers that are left
 use Rattle.refusal.proofs.LineTouchLaws.{same-at-first, same-when-leaves, same_turn, same-done}
 use Rattle.refusal.proofs.touch.dots_leave.Goals as goal
 

@@ -1,4 +1,3 @@
--- the answers that are left
 use Rattle.word.proofs.Base.{rules}
 use Rattle.refusal.proofs.TouchLaws.{touches-when-row-leaves, touches-turn, touches-done}
 use Rattle.refusal.proofs.touch.rows_leave.Goals as goal

@@ -1,4 +1,3 @@
--- the answers that are left
 use Rattle.word.proofs.Base.{rules}
 use Rattle.round.proofs.ChannelLaws.{rows-when-steps, rows-when-gap, rows-turn, gap-lt, rows-done}
 use Rattle.round.proofs.channel.rows_round.Goals as goal

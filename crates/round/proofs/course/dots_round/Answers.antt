@@ -1,4 +1,3 @@
--- the answers that are left
 use Rattle.word.proofs.Base.{rules}
 use Rattle.round.proofs.LineLaws.{dots-when-round, dots-turn, dots-done, walked-lt}
 use Rattle.round.proofs.course.dots_round.Goals as goal

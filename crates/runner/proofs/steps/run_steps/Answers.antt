@@ -1,5 +1,4 @@
--- the answers that are left
-use Rattle.word.proofs.Base.{◌-◌, rules}
+use Rattle.word.proofs.Base.{rules}
 use Rattle.runner.proofs.RunLaws.{run_at-at-end, run_at-of-end, run_at-of-fault, run_at-turn, run_at-of-refused, stored-le, stored-fits}
 use Rattle.job.proofs.StepLaws.{read-falls, read-inside}
 use Rattle.runner.proofs.steps.run_steps.Goals as goal

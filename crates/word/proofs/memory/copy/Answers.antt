@@ -1,4 +1,3 @@
--- the answers that are left
 use Rattle.word.proofs.Base.{rules}
 use Rattle.word.proofs.LaidLaws.{copied-turn, copied_all, copied-to-the-end, copied-to-the-brim}
 use Rattle.word.proofs.memory.copy.Goals as goal

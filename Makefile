@@ -1,10 +1,10 @@
 # make run    the main job: the bench card of paper 01 on its own example
-# make test   everything from nothing: the proofs, the wrong programs that must be refused, the programs run and compared,
-#             then the C tests; the last line is 'N passed, 0 failed', and the exit status says the same
+# make test   everything: the proofs, the wrong programs that must be refused, the programs run and compared, then the C
+#             tests; the last line is 'N passed, 0 failed', and the exit status says the same
 # make desk   the archive for C, target/staticlib/libdesk.a, and the desk tool over it, target/c/desk
 # make bench  the instructions that a word, a dot, a frame and a pixel cost, counted: the tables of docs/BENCH.md
 # make figure the cookie cut of the manual's Figure 6-4, memory before and after
-# What is proved is proved again only where something changed, but for make test.
+# What is proved is proved again only where something changed.
 .PHONY: run test desk bench figure
 
 # a target whose making fails is no target
@@ -20,7 +20,7 @@ tool = c/desk.c c/check.c c/copper.c c/drawn.c c/fold.c c/instruction.c c/jobfil
        c/step.c c/text.c
 archive = target/staticlib/libdesk.a
 # what is proved; a folder changes when a file in it comes or goes
-proved := crates.txt $(shell find crates -name must-fail -prune -o -print)
+proved := crates.txt $(shell find crates \( -name must-fail -o -name out \) -prune -o -print)
 
 run: target/bin/card
 	@scripts/start target/bin/card <crates/card/stdin

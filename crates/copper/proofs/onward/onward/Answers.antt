@@ -8,6 +8,8 @@ loop-place-init c = (search onward-at-start, search rules, search rules, search 
 pub returns-then-done-lent : goal.returns-then-done-lent
 returns-then-done-lent c = search onward-at-last
 
+-- a turn does one instruction and takes one from those lent
+-- what is left from its place on gives what the whole gives
 pub loop-place-preserved : goal.loop-place-preserved
 loop-place-preserved c = (search onward-turn, search rules, search rules, search rules)
 

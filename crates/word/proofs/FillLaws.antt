@@ -153,12 +153,13 @@ pub filled-when-off : (fill : Fill) (start this : ℕ) → fill ≡ Off → ◌�
 unfolding filled
 filled-when-off fill start this way = rw way
 
-pub filled-when-inclusive : (fill : Fill) (start this made : ℕ) → fill ≡ Inclusive → this < 2 ^ 16 → made ≡ exclusive start this
-    → ◌≡◌ {A = Filled} (record { word = bit_or made this; carry = made / 32768 }) (filled fill start this)
+pub exclusively-filled : (start this made : ℕ) → made ≡ exclusive start this
+    → ◌≡◌ {A = Filled} (record { word = made; carry = made / 32768 }) (filled Exclusive start this)
 unfolding filled
-filled-when-inclusive fill start this made way small same = rw (way, same, carry-is-top-bit start this, inclusive-is-or start this small)
+exclusively-filled start this made same = rw (same, carry-is-top-bit start this)
 
-pub filled-when-exclusive : (fill : Fill) (start this made : ℕ) → fill ≡ Exclusive → made ≡ exclusive start this
-    → ◌≡◌ {A = Filled} (record { word = made; carry = made / 32768 }) (filled fill start this)
+pub filled-when-inclusive : (fill : Fill) (start this : ℕ) (made : Filled) → fill ≡ Inclusive → this < 2 ^ 16
+    → made ≡ filled Exclusive start this
+    → ◌≡◌ {A = Filled} (record { word = bit_or made.word this; carry = made.carry }) (filled fill start this)
 unfolding filled
-filled-when-exclusive fill start this made way same = rw (way, same, carry-is-top-bit start this)
+filled-when-inclusive fill start this made way small same = rw (way, same, inclusive-is-or start this small)

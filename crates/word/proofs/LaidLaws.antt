@@ -1,6 +1,10 @@
 -- Laws of words laid into a run: one after the other, and what the run then holds.
-use Rattle.word.proofs.Base.{◌≡◌, refl, sym, ap, ◌∙◌, ℕ, zero, suc, ◌+◌, ◌-◌, ◌<◌, ◌≤◌, add-zero, sub-one, arith}
-use Rattle.word.proofs.Base.{List, [], ◌∷◌, ◌++◌, length, get_or, set, take, drop, length-set, set_out, drop-cons, drop_of_length-le}
+use Rattle.word.proofs.Base.{◌≡◌, refl, sym, ap, ◌∙◌, ℕ, zero, suc, ◌+◌, ◌-◌, ◌<◌, ◌≤◌, add-zero, arith}
+use Rattle.word.proofs.Base.{List, [], ◌∷◌, ◌++◌, length, set, take, drop, length-set, set_out, drop_of_length-le, length-take-le}
+use Rattle.word.proofs.Base.{Bool, true, false, ◌||◌, leb, leb-true}
+use Rattle.std.proofs.Common.{min}
+use Rattle.std.proofs.lemmas.List.{length-drop}
+use borrow.Rule.Slice.PartMut.{put_mid}
 use native.Mathlib.Nat.{le_of_suc-le-suc}
 use mathlib.Core.List.{append-nil}
 use lib.Seq.{drop-length}
@@ -54,36 +58,61 @@ laid-beyond [] at out past = refl
 laid-beyond (word ∷ words) at out past =
     ap (laid words (at + 1)) (set_out out at word past) ∙ laid-beyond words (at + 1) out (omega arith)
 
--- words copied one by one: a turn of the loop, and its ends
-module _ (words out whole : List ℕ) (remaining at from : ℕ) (so_far : laid (take remaining (drop from words)) at out ≡ whole) where
-  pub copied-turn : 0 < remaining → from < length words
-      → laid (take (remaining - 1) (drop (from + 1) words)) (at + 1) (set out at (get_or words from 0)) ≡ whole
-  unfolding laid
-  copied-turn more inside = by_count remaining more so_far
-    where
-      by_count : (count : ℕ) → 0 < count → laid (take count (drop from words)) at out ≡ whole
-          → laid (take (count - 1) (drop (from + 1) words)) (at + 1) (set out at (get_or words from 0)) ≡ whole
-      by_count zero none so_far = absurd (omega arith)
-      by_count (suc count) some so_far =
-          let same : suc from ≡ from + 1 = omega arith in
-          let split : drop from words ≡ get_or words from 0 ∷ drop (from + 1) words =
-          drop-cons words from 0 inside ∙ ap (λ (place : ℕ). get_or words from 0 ∷ drop place words) same in
-          rw sub-one (sym (ap (λ (rest : List ℕ). laid (take (suc count) rest) at out) split) ∙ so_far)
+-- words that fit, laid from a place on, stand there between what stood before and behind them
+laid-inside : (words out : List ℕ) (at : ℕ) → at + length words ≤ length out
+    → laid words at out ≡ take at out ++ (words ++ drop (length words) (drop at out))
+laid-inside words out zero fits = laid-in-front words out (omega (arith, fits))
+laid-inside words [] (suc at) fits = laid-beyond words (suc at) [] (omega arith) ∙ nothing words (omega (arith, fits))
+  where
+    nothing : (words : List ℕ) → length words ≤ 0 → [] ≡ words ++ drop (length words) []
+    nothing [] none = refl
+    nothing (word ∷ words) none = absurd (omega (arith, none))
+laid-inside words (first ∷ out) (suc at) fits =
+    laid-past words at first out
+    ∙ ap (λ (rest : List ℕ). first ∷ rest) (laid-inside words out at (omega (arith, fits)))
 
-  pub copied_all : remaining ≤ 0 → out ≡ whole
-  unfolding laid
-  copied_all none =
-      let same : remaining ≡ 0 = omega arith in
-      sym (ap (λ (count : ℕ). laid (take count (drop from words)) at out) same) ∙ so_far
+-- of so many words only those count that there are, and that the run has room for
+laid-as-far : (words : List ℕ) (count many at : ℕ) (out : List ℕ) → many ≤ count
+    → (many < count → many < length words → length out ≤ at + many)
+    → laid (take count words) at out ≡ laid (take many words) at out
+unfolding laid
+laid-as-far words zero zero at out few room = refl
+laid-as-far words zero (suc many) at out few room = absurd (omega (arith, few))
+laid-as-far [] (suc count) zero at out few room = refl
+laid-as-far [] (suc count) (suc many) at out few room = refl
+laid-as-far (word ∷ words) (suc count) zero at out few room =
+    laid-beyond (take (suc count) (word ∷ words)) at out (omega (arith, room (omega arith) (omega arith)))
+laid-as-far (word ∷ words) (suc count) (suc many) at out few room =
+    laid-as-far words count many (at + 1) (set out at word) (omega (arith, few))
+    (λ fewer further. omega (arith, length-set out at word, room (omega (arith, fewer)) (omega (arith, further))))
 
-  pub copied-to-the-end : length words ≤ from → out ≡ whole
-  unfolding laid
-  copied-to-the-end past =
-      sym (ap (λ (rest : List ℕ). laid (take remaining rest) at out) (drop_of_length-le words past) ∙ nothing remaining) ∙ so_far
-    where
-      nothing : (count : ℕ) → laid (take count []) at out ≡ out
-      nothing zero = refl
-      nothing (suc count) = refl
+-- words of one run laid into another, as many as both runs have
+pub copied : (words out part : List ℕ) (at from count fit many : ℕ) → from < length words → at < length out
+    → fit ≡ min count (length words - from) → many ≡ min fit (length out - at) → part ≡ take (from + many - from) (drop from words)
+    → put_mid at (at + many - at) out part ≡ laid (take count (drop from words)) at out
+copied words out part at from count fit many inside room fits least same =
+    let long : length (drop from words) ≡ length words - from = length-drop from words in
+    let whole : many ≤ length (drop from words) = omega (arith, long, fits, least) in
+    let one : from + many - from ≡ many = omega arith in
+    let other : at + many - at ≡ many = omega arith in
+    let lies : length (take many (drop from words)) ≡ many = length-take-le many (drop from words) whole in
+    let laid_there = laid-inside (take many (drop from words)) out at (omega (arith, lies, fits, least, room)) in
+    let as_far = laid-as-far (drop from words) count many at out (omega (arith, fits, least)) (λ fewer further. omega (arith, fewer, further, long, fits, least, room)) in
+    rw (same, one, other) (ap (λ (behind : ℕ). take at out ++ (take many (drop from words) ++ drop behind (drop at out))) (sym lies) ∙ sym laid_there ∙ sym as_far)
 
-  pub copied-to-the-brim : length out ≤ at → out ≡ whole
-  copied-to-the-brim past = sym (laid-beyond (take remaining (drop from words)) at out past) ∙ so_far
+-- nothing is copied from the run's end on, nor to it
+pub copied-nothing : (words out : List ℕ) (at from count : ℕ) → (leb (length words) from || leb (length out) at) ≡ true
+    → out ≡ laid (take count (drop from words)) at out
+unfolding laid
+copied-nothing words out at from count end = by_end (leb (length words) from) refl end
+  where
+    empty : (count : ℕ) → ◌≡◌ {A = List ℕ} (take count []) []
+    empty zero = refl
+    empty (suc count) = refl
+
+    by_end : (ends : Bool) → leb (length words) from ≡ ends → (ends || leb (length out) at) ≡ true
+        → out ≡ laid (take count (drop from words)) at out
+    by_end true ends other =
+        sym (ap (λ (rest : List ℕ). laid (take count rest) at out) (drop_of_length-le words (leb-true (length words) from ends))
+        ∙ ap (λ (rest : List ℕ). laid rest at out) (empty count))
+    by_end false ends other = sym (laid-beyond (take count (drop from words)) at out (leb-true (length out) at other))

@@ -1,2 +1,3 @@
 -- What only contracts speak of: no promise to a caller rests on it.
 pub mod Even
+pub mod On

@@ -3,6 +3,7 @@ ghost use Rattle.std.specs.Prelude.{◌≡◌};
 ghost use Rattle.word.specs.Control.{shift, uses, function, exclusive_fill, inclusive_fill};
 ghost use Rattle.word.specs.Control.{carry_in, descending, line};
 
+use crate::bits::is_set;
 use crate::types::Uses;
 
 // The shift of A by BLTCON0, of B by BLTCON1.
@@ -16,10 +17,10 @@ pub fn uses(con0: u16) -> Uses
     ensures { result ≡ uses con0 }
 {
     Uses {
-        a: con0 / 2048 % 2 == 1,
-        b: con0 / 1024 % 2 == 1,
-        c: con0 / 512 % 2 == 1,
-        d: con0 / 256 % 2 == 1,
+        a: is_set(con0, 11),
+        b: is_set(con0, 10),
+        c: is_set(con0, 9),
+        d: is_set(con0, 8),
     }
 }
 
@@ -32,13 +33,13 @@ pub fn function(con0: u16) -> u16
 pub fn exclusive_fill(con1: u16) -> bool
     ensures { result ≡ exclusive_fill con1 }
 {
-    con1 / 16 % 2 == 1
+    is_set(con1, 4)
 }
 
 pub fn inclusive_fill(con1: u16) -> bool
     ensures { result ≡ inclusive_fill con1 }
 {
-    con1 / 8 % 2 == 1
+    is_set(con1, 3)
 }
 
 pub fn carry_in(con1: u16) -> u16
@@ -50,11 +51,11 @@ pub fn carry_in(con1: u16) -> u16
 pub fn descending(con1: u16) -> bool
     ensures { result ≡ descending con1 }
 {
-    con1 / 2 % 2 == 1
+    is_set(con1, 1)
 }
 
 pub fn line(con1: u16) -> bool
     ensures { result ≡ line con1 }
 {
-    con1 / 1 % 2 == 1
+    is_set(con1, 0)
 }

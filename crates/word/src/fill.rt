@@ -1,6 +1,7 @@
 // The fill of one word.
 ghost use Rattle.std.specs.Prelude.{◌≡◌};
-ghost use Rattle.word.specs.Fill.{carry, exclusive, filled};
+ghost use Rattle.word.specs.declared.types.Fill.TheVariants.{Exclusive};
+ghost use Rattle.word.specs.Fill.{exclusive, filled};
 
 use crate::types::{Fill, Filled};
 
@@ -16,6 +17,17 @@ fn exclusive(start: u16, this: u16) -> u16
 }
 
 // The carry that an exclusively filled word hands on is its bit 15.
+fn exclusively(start: u16, this: u16) -> Filled
+    ensures { result ≡ filled Exclusive start this }
+{
+    let word = exclusive(start, this);
+    Filled {
+        word,
+        carry: word / 32768,
+    }
+}
+
+// An inclusive fill hands the same carry on.
 pub fn filled(fill: Fill, start: u16, this: u16) -> Filled
     ensures { result ≡ filled fill start this }
 {
@@ -25,18 +37,12 @@ pub fn filled(fill: Fill, start: u16, this: u16) -> Filled
             carry: start,
         },
         Fill::Inclusive => {
-            let word = exclusive(start, this);
+            let made = exclusively(start, this);
             Filled {
-                word: word | this,
-                carry: word / 32768,
+                word: made.word | this,
+                ..made
             }
         }
-        Fill::Exclusive => {
-            let word = exclusive(start, this);
-            Filled {
-                word: word,
-                carry: word / 32768,
-            }
-        }
+        Fill::Exclusive => exclusively(start, this),
     }
 }

@@ -2,6 +2,7 @@
 // of a blit's word.
 #![tactic(auto)]
 
+pub mod bits;
 pub mod control;
 pub mod even;
 pub mod fill;

@@ -15,13 +15,10 @@ pub fn memory_size(n: usize) -> bool
 pub fn read(words: &[u16], at: u32) -> u16
     ensures { result ≡ get_or words.now at 0 }
 {
-    let i = at as usize;
-    if i < words.len() {
-        return words[i];
-    }
-    0
+    words.get(at as usize).copied().unwrap_or(0)
 }
 
+// By an index: what the library says of `get_mut` is the length alone.
 pub fn write(words: &mut [u16], at: u32, value: u16)
     ensures { words.new ≡ set words.old at value }
 {
@@ -36,19 +33,9 @@ pub fn copy(out: &mut [u16], at: usize, words: &[u16], from: usize, count: usize
     ensures { out.new
         ≡ laid (take count (drop from words.now)) at out.old }
 {
-    let mut remaining = count;
-    let mut to = at;
-    let mut here = from;
-    while 0 < remaining {
-        if words.len() <= here {
-            return;
-        }
-        if out.len() <= to {
-            return;
-        }
-        out[to] = words[here];
-        to = to + 1;
-        here = here + 1;
-        remaining = remaining - 1;
+    if (words.len() <= from) | (out.len() <= at) {
+        return;
     }
+    let many = count.min(words.len() - from).min(out.len() - at);
+    out[at..at + many].copy_from_slice(&words[from..from + many]);
 }

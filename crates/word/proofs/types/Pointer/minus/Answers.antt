@@ -1,6 +1,7 @@
--- `Pointer::minus` meets its contract: a bounded word number moves as any other, and the test is the definition's.
-use Rattle.word.proofs.RoundLaws.{move-of-parts}
+-- `Pointer::minus` meets its contract: the words lead down below 131,072, and up from there on.
+use Rattle.word.proofs.Base.{refl}
+use Rattle.word.proofs.RoundLaws.{minus-on}
 use Rattle.word.proofs.types.Pointer.minus.Goals as goal
 
 pub returns : goal.returns
-returns c = move-of-parts _ _ _ _ c.minus_round-round.ensures
+returns c = minus-on _ _ _ _ refl c.on.ensures

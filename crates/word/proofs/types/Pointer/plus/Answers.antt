@@ -1,6 +1,7 @@
--- `Pointer::plus` meets its contract: a bounded word number moves as any other, and the test is the definition's.
-use Rattle.word.proofs.RoundLaws.{move-of-parts}
+-- `Pointer::plus` meets its contract: the words lead up below 131,072, and down from there on.
+use Rattle.word.proofs.Base.{refl}
+use Rattle.word.proofs.RoundLaws.{plus-on}
 use Rattle.word.proofs.types.Pointer.plus.Goals as goal
 
 pub returns : goal.returns
-returns c = move-of-parts _ _ _ _ c.plus_round-round.ensures
+returns c = plus-on _ _ _ _ refl c.on.ensures

@@ -73,7 +73,8 @@ fn smeared(
     let mut i: usize = 0;
     while i < n {
         let word = ram[a + i];
-        let made = terms.none ^ (word::shift::ascending(by, last, word) & terms.a);
+        let made = terms.none
+            ^ (word::shift::shifted(Direction::Ascending, by, last, word) & terms.a);
         ram[d + i] = made;
         zero = (made == 0) & zero;
         last = word;

@@ -19,12 +19,9 @@ fn fetched(used: bool, ram: &[u16], direction: Direction, pointer: Pointer, sour
         × (result.pointer ≡ stepped direction used pointer) }
 {
     if used {
-        let word = word::memory::read(ram, pointer.word);
-        let made = pointer.moved(direction);
-        let next = made.to;
         return Source {
-            word,
-            pointer: next,
+            word: word::memory::read(ram, pointer.word),
+            pointer: pointer.moved(direction).to,
         };
     }
     Source {
@@ -45,40 +42,22 @@ pub fn fetch(ram: &[u16], direction: Direction, uses: Uses, flow: Flow) -> Flow
         })
         (fetch uses ram.now flow) }
 {
-    let from = flow.pointers;
-    let from_a = from.a;
-    let from_b = from.b;
-    let from_c = from.c;
-    let a = fetched(uses.a, ram, direction, from_a, flow.sources.a);
-    let b = fetched(uses.b, ram, direction, from_b, flow.sources.b);
-    let c = fetched(uses.c, ram, direction, from_c, flow.sources.c);
-    let to_a = a.pointer;
-    let to_b = b.pointer;
-    let to_c = c.pointer;
-    let d = from.d;
-    let pointers = Pointers {
-        a: to_a,
-        b: to_b,
-        c: to_c,
-        d,
-    };
-    let sources = Sources {
-        a: a.word,
-        b: b.word,
-        c: c.word,
-    };
-    let earlier = Earlier {
-        a: flow.earlier.a,
-        b: flow.earlier.b,
-    };
-    let pending = flow.pending;
+    let a = fetched(uses.a, ram, direction, flow.pointers.a, flow.sources.a);
+    let b = fetched(uses.b, ram, direction, flow.pointers.b, flow.sources.b);
+    let c = fetched(uses.c, ram, direction, flow.pointers.c, flow.sources.c);
     Flow {
-        pointers,
-        sources,
-        earlier,
-        carry: flow.carry,
-        allzero: flow.allzero,
-        stored: flow.stored,
-        pending,
+        pointers: Pointers {
+            a: a.pointer,
+            b: b.pointer,
+            c: c.pointer,
+            ..flow.pointers
+        },
+        sources: Sources {
+            a: a.word,
+            b: b.word,
+            c: c.word,
+        },
+        earlier: Earlier { ..flow.earlier },
+        ..flow
     }
 }

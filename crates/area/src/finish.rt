@@ -30,27 +30,18 @@ pub fn finish(setup: Setup, first: bool, last: bool, flow: Flow) -> Finished
     requires { (setup.shifts.a < 16) × (setup.shifts.b < 16) }
     ensures { result ≡ finish setup first last flow }
 {
-    let fill = setup.fill;
-    let pointers = flow.pointers;
-    let sources = flow.sources;
-    let pending = flow.pending;
     let masked = masked_a(setup, first, last, flow);
-    let filled = word::fill::filled(fill, flow.carry, result(setup, masked, flow));
-    let earlier = Earlier {
-        a: masked,
-        b: flow.sources.b,
-    };
-    let after = Flow {
-        pointers,
-        sources,
-        earlier,
-        carry: filled.carry,
-        allzero: flow.allzero & (filled.word == 0),
-        stored: flow.stored,
-        pending,
-    };
+    let filled = word::fill::filled(setup.fill, flow.carry, result(setup, masked, flow));
     Finished {
         word: filled.word,
-        flow: after,
+        flow: Flow {
+            earlier: Earlier {
+                a: masked,
+                b: flow.sources.b,
+            },
+            carry: filled.carry,
+            allzero: flow.allzero & (filled.word == 0),
+            ..flow
+        },
     }
 }

@@ -10,31 +10,26 @@ use word::types::{Direction, Pointer, Uses};
 fn with_pointers(pointers: Pointers, flow: Flow) -> Flow
     ensures { result ≡ with_pointers pointers flow }
 {
-    let sources = flow.sources;
-    let earlier = Earlier {
-        a: flow.earlier.a,
-        b: flow.earlier.b,
-    };
-    let pending = flow.pending;
     Flow {
         pointers,
-        sources,
-        earlier,
-        carry: flow.carry,
-        allzero: flow.allzero,
-        stored: flow.stored,
-        pending,
+        earlier: Earlier { ..flow.earlier },
+        ..flow
     }
+}
+
+fn turned(direction: Direction, used: bool, words: u32, pointer: Pointer) -> Pointer
+    ensures { result ≡ turned direction used words pointer }
+{
+    if used {
+        return pointer.passed(direction, words).to;
+    }
+    pointer
 }
 
 fn stepped(direction: Direction, used: bool, pointer: Pointer) -> Pointer
     ensures { result ≡ stepped direction used pointer }
 {
-    if used {
-        let made = pointer.moved(direction);
-        return made.to;
-    }
-    pointer
+    turned(direction, used, 1, pointer)
 }
 
 // D's pointer alone; the sources' have moved as they were fetched.
@@ -49,36 +44,16 @@ pub fn move_d(direction: Direction, used: bool, flow: Flow) -> Flow
         })
         flow }
 {
-    let from = flow.pointers;
-    let a = from.a;
-    let b = from.b;
-    let c = from.c;
-    let from_d = from.d;
-    let d = stepped(direction, used, from_d);
-    with_pointers(Pointers { a, b, c, d }, flow)
-}
-
-fn turned(direction: Direction, used: bool, modulo: u32, pointer: Pointer) -> Pointer
-    ensures { result ≡ turned direction used modulo pointer }
-{
-    if used {
-        let made = pointer.passed(direction, modulo);
-        return made.to;
-    }
-    pointer
+    let d = stepped(direction, used, flow.pointers.d);
+    with_pointers(Pointers { d, ..flow.pointers }, flow)
 }
 
 pub fn row_end(direction: Direction, uses: Uses, modulos: Modulos, flow: Flow) -> Flow
     ensures { result ≡ row_end direction uses modulos flow }
 {
-    let from = flow.pointers;
-    let from_a = from.a;
-    let from_b = from.b;
-    let from_c = from.c;
-    let from_d = from.d;
-    let a = turned(direction, uses.a, modulos.a, from_a);
-    let b = turned(direction, uses.b, modulos.b, from_b);
-    let c = turned(direction, uses.c, modulos.c, from_c);
-    let d = turned(direction, uses.d, modulos.d, from_d);
+    let a = turned(direction, uses.a, modulos.a, flow.pointers.a);
+    let b = turned(direction, uses.b, modulos.b, flow.pointers.b);
+    let c = turned(direction, uses.c, modulos.c, flow.pointers.c);
+    let d = turned(direction, uses.d, modulos.d, flow.pointers.d);
     with_pointers(Pointers { a, b, c, d }, flow)
 }

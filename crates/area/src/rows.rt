@@ -8,20 +8,9 @@ use crate::types::{Earlier, Flow, Setup};
 pub fn row_start(setup: Setup, flow: Flow) -> Flow
     ensures { result ≡ with_carry setup.carry flow }
 {
-    let pointers = flow.pointers;
-    let sources = flow.sources;
-    let earlier = Earlier {
-        a: flow.earlier.a,
-        b: flow.earlier.b,
-    };
-    let pending = flow.pending;
     Flow {
-        pointers,
-        sources,
-        earlier,
         carry: setup.carry,
-        allzero: flow.allzero,
-        stored: flow.stored,
-        pending,
+        earlier: Earlier { ..flow.earlier },
+        ..flow
     }
 }

@@ -10,20 +10,11 @@ use crate::types::{Earlier, Flow, Pending};
 fn with_stores(stored: u32, pending: Pending, flow: Flow) -> Flow
     ensures { result ≡ with_stores stored pending flow }
 {
-    let pointers = flow.pointers;
-    let sources = flow.sources;
-    let earlier = Earlier {
-        a: flow.earlier.a,
-        b: flow.earlier.b,
-    };
     Flow {
-        pointers,
-        sources,
-        earlier,
-        carry: flow.carry,
-        allzero: flow.allzero,
         stored,
         pending,
+        earlier: Earlier { ..flow.earlier },
+        ..flow
     }
 }
 

@@ -12,7 +12,6 @@ use Rattle.job.proofs.LengthLaws.{job_length-when-short}
 use Rattle.job.proofs.StepsLaws.{behind-either}
 use Rattle.runner.specs.Run.{Machine, machine, effect_on, after, End, ended, run_steps, start_refusal, run}
 use Rattle.runner.proofs.StartLaws.{start_refusal-is-none, run-when-started, run-when-unstarted}
-use Rattle.widen.specs.declared.types.Answer as widen_answer
 use Rattle.widen.specs.Widen as widenings
 use Rattle.widen.specs.Widen.{widening}
 use Rattle.picture.specs.declared.types.Answer as picture_answer
@@ -169,7 +168,7 @@ module _ (n : ℕ) (job out next : List ℕ) (answer : fold_answer.Answer) (give
   folding-of-answer number place long told round is_number is-place is-long is-round is-told =
       rw (is_number, is-place, is-long, is-told, is-round) (ap fold_told gives)
 
-pub widening-of-answer : (old target next : List ℕ) (number : ℕ) (answer : widen_answer.Answer)
+pub widening-of-answer : (old target next : List ℕ) (number : ℕ) (answer : widenings.Answer)
     → number ≡ widenings.answer_number answer → widenings.left answer next ≡ widening old target
     → record { number = number; target = next } ≡ widening old target
 widening-of-answer old target next number answer is_number gives = rw is_number gives

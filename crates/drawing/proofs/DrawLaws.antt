@@ -44,22 +44,23 @@ one_dot-of-parts memory after line by here between mark paces (same, stores) goe
 
 -- what the loop over the dots keeps: room for the count
 pub one_dot-room : (line : Line) (memory after : List ℕ) (here there : Marked) → state after (drawn_of there) ≡ one_dot line (state memory (drawn_of here))
-    → (remaining dots : ℕ) → 0 < remaining → here.stored + remaining ≤ dots → there.stored + (remaining - 1) ≤ dots
-one_dot-room line memory after here there turn remaining dots more room =
+    → (done : ℕ) → here.stored ≤ done → there.stored ≤ done + 1
+one_dot-room line memory after here there turn done room =
     let count : there.stored ≤ here.stored + 1 = rw (ap (λ (now : State). now.drawn.stored) turn) (one_dot-counts line (state memory (drawn_of here))) in
     omega arith
 
-pub line_blit-turn : (line : Line) (dots : ℕ) (memory after : List ℕ) (here there : Drawn) (whole : State)
-    → 0 < dots → state after there ≡ one_dot line (state memory here) → line_blit line dots (state memory here) ≡ whole
-    → line_blit line (dots - 1) (state after there) ≡ whole
+pub line_blit-turn : (line : Line) (dots done : ℕ) (memory after : List ℕ) (here there : Drawn) (whole : State)
+    → done < dots → state after there ≡ one_dot line (state memory here) → line_blit line (dots - done) (state memory here) ≡ whole
+    → line_blit line (dots - (done + 1)) (state after there) ≡ whole
 unfolding line_blit
-line_blit-turn line dots memory after here there whole more turn same =
-    repeated-turn (λ _. one_dot line) dots (state memory here) (state after there) whole more turn same
+line_blit-turn line dots done memory after here there whole more turn same =
+    let left : dots - done - 1 ≡ dots - (done + 1) = omega arith in
+    rw (← left) (repeated-turn (λ _. one_dot line) (dots - done) (state memory here) (state after there) whole (omega arith) turn same)
 
-pub line_blit-done : (line : Line) (dots : ℕ) (memory : List ℕ) (here : Drawn) (whole : State)
-    → dots ≤ 0 → line_blit line dots (state memory here) ≡ whole → state memory here ≡ whole
+pub line_blit-done : (line : Line) (dots done : ℕ) (memory : List ℕ) (here : Drawn) (whole : State)
+    → dots ≤ done → line_blit line (dots - done) (state memory here) ≡ whole → state memory here ≡ whole
 unfolding line_blit
-line_blit-done line dots memory here whole none same = repeated-done (λ _. one_dot line) dots (state memory here) whole none same
+line_blit-done line dots done memory here whole none same = repeated-done (λ _. one_dot line) (dots - done) (state memory here) whole (omega arith) same
 
 pub line_blit-of-marks : (line : Line) (dots : ℕ) (first dot : Dot) (mark : Mark) (end : Marked) (memory after : List ℕ)
     → first.spot.at.word < pointer_end → first.spot.shift < 16 → first.bit < 16

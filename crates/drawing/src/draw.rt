@@ -19,9 +19,9 @@ fn dot_stored(ram: &mut [u16], line: Line, here: Marked) -> Marked
         let word = line::word_of_dot::dot_word(line, mark, word::memory::read(ram, place));
         word::memory::write(ram, place, word);
         return Marked {
-            mark,
             allzero: here.allzero & (word == 0),
             stored: here.stored + 1,
+            ..here
         };
     }
     here
@@ -32,12 +32,9 @@ fn one_dot(ram: &mut [u16], line: Line, by: Steps, here: Marked) -> Marked
     ensures { state ram.new (drawn_of result) ≡ one_dot line (state ram.old (drawn_of here)) }
 {
     let drawn = dot_stored(ram, line, here);
-    let from = drawn.mark;
-    let mark = line::walk::walked(by, from);
     Marked {
-        mark,
-        allzero: drawn.allzero,
-        stored: drawn.stored,
+        mark: line::walk::walked(by, drawn.mark),
+        ..drawn
     }
 }
 
@@ -52,10 +49,8 @@ fn all_dots(ram: &mut [u16], line: Line, by: Steps, dots: u32, first: Mark) -> M
         allzero: true,
         stored: 0,
     };
-    let mut remaining = dots;
-    while 0 < remaining {
+    for done in 0..dots {
         so_far = one_dot(ram, line, by, so_far);
-        remaining = remaining - 1;
     }
     so_far
 }
@@ -68,10 +63,8 @@ pub fn line_blit(ram: &mut [u16], line: Line, dots: u32, first: Dot) -> Drawn
     let mark = line::walk::mark_of(first);
     let by = line::walk::steps(line);
     let end = all_dots(ram, line, by, dots, mark);
-    let last = end.mark;
-    let dot = line::walk::dot_of(last);
     Drawn {
-        dot,
+        dot: line::walk::dot_of(end.mark),
         allzero: end.allzero,
         stored: end.stored,
     }

@@ -8,8 +8,7 @@ pub fn leave(file: &mut [u16], end: Drawn)
     ensures { file.new ≡ leave end file.old }
 {
     let dot = end.dot;
-    let spot = dot.spot;
-    let at = spot.at;
+    let at = dot.spot.at;
     word::memory::write(file, file::POINTER_A + 1, dot.accumulator);
     file::put_pointer(file, file::POINTER_C, at);
     file::put_pointer(file, file::POINTER_D, at);

@@ -133,11 +133,9 @@ pub fn keeps(file: &[u16], words: u32) -> bool
     ensures { result ≡ every (kept_at file.now) words }
 {
     let mut fine = true;
-    let mut at: u32 = 0;
-    while at < words {
+    for at in 0..words {
         let value = file[at as usize];
-        fine = (kept(at, value) == value) & fine;
-        at = at + 1;
+        fine &= kept(at, value) == value;
     }
     fine
 }
@@ -148,11 +146,8 @@ fn colours_keep(file: &[u16]) -> bool
     ensures { result ≡ every (λ colour. kept_at file.now (colour0 + colour)) colour_count }
 {
     let mut fine = true;
-    let mut colour: usize = 0;
-    while colour < 32 {
-        let value = file[COLOUR_0 as usize + colour];
-        fine = (value & 0x0FFF == value) & fine;
-        colour = colour + 1;
+    for value in &file[COLOUR_0 as usize..FLAG as usize] {
+        fine &= *value & 0x0FFF == *value;
     }
     fine
 }
@@ -189,9 +184,5 @@ pub fn put_pointer(file: &mut [u16], place: u32, pointer: Pointer)
 pub fn put_flag(file: &mut [u16], allzero: bool)
     ensures { file.new ≡ put_flag allzero file.old }
 {
-    if allzero {
-        word::memory::write(file, FLAG, 1);
-    } else {
-        word::memory::write(file, FLAG, 0);
-    }
+    word::memory::write(file, FLAG, u16::from(allzero));
 }

@@ -136,6 +136,16 @@ module _ (row : ℕ) (upward : Bool) where
   pub vertical_pixels-when-down : upward ≡ false → row % pointer_end * 16 ≡ vertical_pixels row upward
   vertical_pixels-when-down falls = rw falls
 
+pub always_pixels-of-move : (line : Line) (pixels : ℕ)
+    → pixels ≡ (if not line.octant.sud then vertical_pixels line.row line.octant.aul else horizontal_pixels line.octant.aul)
+    → pixels ≡ always_pixels line
+unfolding always_pixels
+always_pixels-of-move line pixels same = same ∙ exchanged line.octant.sud (horizontal_pixels line.octant.aul) (vertical_pixels line.row line.octant.aul)
+  where
+    exchanged : (test : Bool) (one other : ℕ) → (if not test then other else one) ≡ (if test then one else other)
+    exchanged true one other = refl
+    exchanged false one other = refl
+
 pub steps-of-parts : (line : Line) (always sometimes : ℕ) → always ≡ always_pixels line → sometimes ≡ sometimes_pixels line
     → ◌≡◌ {A = Steps} (record {
       clear = record { pixels = sometimes + always; gain = line.gains.a; vertical = true };

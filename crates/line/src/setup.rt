@@ -4,14 +4,15 @@ ghost use Rattle.line.specs.Setup.{octant, gains, line_setup};
 ghost use Rattle.line.specs.Dot.{first_dot};
 
 use crate::types::{Dot, Gains, Line, Octant, Spot};
+use word::bits::is_set;
 
 fn octant(con1: u16) -> Octant
     ensures { result ≡ octant con1 }
 {
     Octant {
-        sud: con1 / 16 % 2 == 1,
-        sul: con1 / 8 % 2 == 1,
-        aul: con1 / 4 % 2 == 1,
+        sud: is_set(con1, 4),
+        sul: is_set(con1, 3),
+        aul: is_set(con1, 2),
     }
 }
 
@@ -40,7 +41,7 @@ pub fn line_setup(file: &[u16]) -> Line
         a: data & mask,
         texture,
         function,
-        sing: con1 / 2 % 2 == 1,
+        sing: is_set(con1, 1),
         octant,
         row,
         gains,
@@ -61,7 +62,7 @@ pub fn first_dot(file: &[u16]) -> Dot
         spot,
         bit,
         accumulator,
-        sign: con1 / 64 % 2 == 1,
+        sign: is_set(con1, 6),
         first: true,
     }
 }

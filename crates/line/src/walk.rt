@@ -1,6 +1,6 @@
 // The way from dot to dot. A dot's place is one number, 16 pixels a word, so that where the shift wraps the pointer moves by
 // itself; what the two moves come to, and what the accumulator gains, is worked out once for each sign.
-ghost use Rattle.std.specs.Prelude.{◌≡◌, ◌+◌, ◌/◌, ◌%◌, ◌≤◌};
+ghost use Rattle.std.specs.Prelude.{◌≡◌, ◌+◌, ◌/◌, ◌%◌, ◌≤◌, if◌then◌else◌};
 ghost use Rattle.word.specs.Pointer.{pointer_end};
 ghost use Rattle.line.specs.Texture.{lower};
 ghost use Rattle.line.specs.Accumulator.{sign_of};
@@ -35,24 +35,26 @@ fn horizontal_pixels(leftward: bool) -> u32
     1
 }
 
+// A move's pixels: vertical ones up or down, horizontal ones left or right.
+fn move_pixels(row: u32, vertical: bool, back: bool) -> u32
+    ensures { (result ≡ (if vertical then vertical_pixels row back else horizontal_pixels back)) × (result ≤ pixel_end) }
+{
+    if vertical {
+        return vertical_pixels(row, back);
+    }
+    horizontal_pixels(back)
+}
+
 pub fn sometimes_pixels(line: Line) -> u32
     ensures { (result ≡ sometimes_pixels line) × (result ≤ pixel_end) }
 {
-    let octant = line.octant;
-    if octant.sud {
-        return vertical_pixels(line.row, octant.sul);
-    }
-    horizontal_pixels(octant.sul)
+    move_pixels(line.row, line.octant.sud, line.octant.sul)
 }
 
 fn always_pixels(line: Line) -> u32
     ensures { (result ≡ always_pixels line) × (result ≤ pixel_end) }
 {
-    let octant = line.octant;
-    if octant.sud {
-        return horizontal_pixels(octant.aul);
-    }
-    vertical_pixels(line.row, octant.aul)
+    move_pixels(line.row, !line.octant.sud, line.octant.aul)
 }
 
 // The always move is made whatever the sign, the sometimes move where it is 0. With SUD 0 the always move is vertical, with
@@ -60,19 +62,17 @@ fn always_pixels(line: Line) -> u32
 pub fn steps(line: Line) -> Steps
     ensures { result ≡ steps line }
 {
-    let octant = line.octant;
-    let gains = line.gains;
     let always = always_pixels(line);
     let sometimes = sometimes_pixels(line);
     let clear = Step {
         pixels: sometimes + always,
-        gain: gains.a,
+        gain: line.gains.a,
         vertical: true,
     };
     let set = Step {
         pixels: always,
-        gain: gains.b,
-        vertical: !octant.sud,
+        gain: line.gains.b,
+        vertical: !line.octant.sud,
     };
     Steps { clear, set }
 }
@@ -96,13 +96,13 @@ pub fn pixels_on(pixel: u32, pixels: u32) -> u32
 fn gained(accumulator: u16, gain: u16) -> u16
     ensures { result ≡ (accumulator + gain) % 65536 }
 {
-    ((accumulator as u32 + gain as u32) % 65536) as u16
+    accumulator.wrapping_add(gain)
 }
 
 fn sign_of(accumulator: u16) -> bool
     ensures { result ≡ sign_of accumulator }
 {
-    accumulator / 32768 % 2 == 1
+    word::bits::is_set(accumulator, 15)
 }
 
 fn lower(bit: u32) -> u32
@@ -152,8 +152,7 @@ fn pixel_of(spot: Spot) -> u32
 pub fn mark_of(dot: Dot) -> Mark
     ensures { result ≡ mark_of dot }
 {
-    let spot = dot.spot;
-    let pixel = pixel_of(spot);
+    let pixel = pixel_of(dot.spot);
     Mark {
         pixel,
         bit: dot.bit,

@@ -1,25 +1,18 @@
 // The word of one dot: A and the texture with what memory holds, and whether it is stored.
 ghost use Rattle.std.specs.Prelude.{◌≡◌, ◌/◌, ◌^◌, ◌<◌};
-ghost use Rattle.word.specs.Word.{is_set};
 ghost use Rattle.line.specs.Word.{dot_word};
 ghost use Rattle.line.specs.Sing.{is_stored};
 ghost use Rattle.line.specs.Inner.Walk.{dot_of};
 
 use crate::marks::Mark;
 use crate::types::Line;
+use word::bits::is_set;
 
 fn shifted(a: u16, n: u32) -> u16
     requires { n < 16 }
     ensures { result ≡ a / 2 ^ n }
 {
     a >> n
-}
-
-fn is_set(texture: u16, bit: u32) -> bool
-    requires { bit < 16 }
-    ensures { result ≡ is_set texture bit }
-{
-    (texture >> bit) % 2 == 1
 }
 
 // The logic function is taken with B all ones or with B zero, and so comes to half of its bits.

@@ -1,17 +1,16 @@
 -- Laws of a widening: the new file's word at each place, its words laid into the target, and its number.
-use Rattle.word.proofs.Base.{◌≡◌, sym, ap, ◌∙◌, ℕ, suc, ◌+◌, ◌-◌, ◌<◌, ◌≤◌, dec_lt, arith, Bool, true, false, not, eqb}
+use Rattle.word.proofs.Base.{◌≡◌, sym, ap, ◌∙◌, ℕ, ◌+◌, ◌-◌, ◌<◌, ◌≤◌, dec_lt, arith, Bool, true, false, not, eqb}
 use Rattle.word.proofs.Base.{eqb→eq, eq-eqb, ne_eqb, List, [], ◌∷◌, ◌++◌, length, get_or, set, take, drop, length-append}
-use Rattle.word.proofs.Base.{List·get_or-eq-default, drop_of_length-le, drop-cons}
+use Rattle.word.proofs.Base.{List·get_or-eq-default}
+use Rattle.std.specs.Prelude.{Ok, Err}
+use Rattle.std.proofs.lemmas.List.{set-append_right, drop-replicate}
 use lib.ListN.{replicate, length-take, get_or-append}
 use lib.Seq.{get_or-take, get_or-append-add}
 use Rattle.word.specs.Choice.{given}
-use Rattle.word.specs.Laid.{laid}
 use Rattle.word.proofs.ChoiceLaws.{every-at}
-use Rattle.word.proofs.LaidLaws.{laid-over}
 use Rattle.file.specs.Places.{file_length, blitter_length, colour_count, copcon, flag}
-use Rattle.widen.specs.declared.types.Answer.TheVariants.{Done, OldFile, TargetLength}
+use Rattle.widen.specs.declared.types.Refusal.TheVariants.{OldFile, TargetLength}
 use Rattle.widen.specs.Old.{old_length, old_flag, old_accepted}
-use Rattle.widen.proofs.OldLaws.{old_accepted-length-told}
 use Rattle.widen.specs.Widen.{black, widened, refusal, widening, left}
 
 -- what follows the first 19 words
@@ -55,39 +54,28 @@ module _ (old : List ℕ) (long : length old ≡ old_length) where
           none ∙ sym (widened-at (place - blitter_length)) ∙ ap (λ (at : ℕ). get_or (widened old) at 0) there
       by_end (no outside) = sym (List·get_or-eq-default (widened old) 0 (omega (arith, widened-length, outside, other)))
 
-  -- a turn of the loop that lays the words, and its end
-  pub widened-turn : (target next whole : List ℕ) (place : ℕ) → place < file_length
-      → next ≡ set target place (get_or (widened old) place 0) → laid (drop place (widened old)) place target ≡ whole
-      → laid (drop (place + 1) (widened old)) (place + 1) next ≡ whole
-  unfolding laid
-  widened-turn target next whole place inside sets so_far =
-      let same : suc place ≡ place + 1 = omega arith in
-      let split : drop place (widened old) ≡ get_or (widened old) place 0 ∷ drop (place + 1) (widened old) =
-      drop-cons (widened old) place 0 (omega (arith, inside, widened-length))
-      ∙ ap (λ (at : ℕ). get_or (widened old) place 0 ∷ drop at (widened old)) same in
-      let here : laid (get_or (widened old) place 0 ∷ drop (place + 1) (widened old)) place target ≡ whole =
-      sym (ap (λ (words : List ℕ). laid words place target) split) ∙ so_far in
-      rw sets here
-
-  pub widened-done : (target whole : List ℕ) (place : ℕ) → file_length ≤ place
-      → laid (drop place (widened old)) place target ≡ whole → target ≡ whole
-  unfolding laid
-  widened-done target whole place past so_far =
-      sym (ap (λ (words : List ℕ). laid words place target) (drop_of_length-le (widened old) {i = place} (omega (arith, past, widened-length)))) ∙ so_far
+-- black words, over them the first 19, and the flag
+pub laid-is-widened : (old filled : List ℕ) (many : ℕ) → length old ≡ old_length → many ≡ file_length → filled ≡ replicate many black
+    → set (take blitter_length old ++ drop blitter_length filled) flag (get_or old old_flag 0) ≡ widened old
+unfolding widened
+laid-is-widened old filled many long all fills =
+    ap (λ (rest : List ℕ). set (take blitter_length old ++ rest) flag (get_or old old_flag 0))
+    (rw (fills, all) (drop-replicate blitter_length file_length black))
+    ∙ set-append_right (take blitter_length old) (replicate 34 black) blitter_length flag (get_or old old_flag 0) (first-length old long) (omega arith)
 
 -- the answers in their order
-pub widening-of-old-file : (old target : List ℕ) (fine : Bool) → fine ≡ old_accepted old → not fine ≡ true → left OldFile target ≡ widening old target
+pub widening-of-old-file : (old target : List ℕ) (fine : Bool) → fine ≡ old_accepted old → not fine ≡ true → left (Err OldFile) target ≡ widening old target
 unfolding widening refusal given
 widening-of-old-file old target fine is bad = rw (← is, bad)
 
 module _ (old target : List ℕ) (fine : Bool) (is : fine ≡ old_accepted old) (good : not fine ≡ false) where
-  pub widening-of-target-length : (length target ≡ file_length → ⊥) → left TargetLength target ≡ widening old target
+  pub widening-of-target-length : (length target ≡ file_length → ⊥) → left (Err TargetLength) target ≡ widening old target
   unfolding widening refusal given
   widening-of-target-length other = rw (← is, good, ne_eqb (length target) file_length other)
 
-  pub widening-when-done : (next : List ℕ) → length target ≡ file_length → next ≡ laid (widened old) 0 target
-      → left Done next ≡ widening old target
+  pub widening-when-done : (next : List ℕ) → length target ≡ file_length → next ≡ widened old
+      → left (Ok tt) next ≡ widening old target
   unfolding widening refusal given
   widening-when-done next fits lays =
       rw (← is, good, eq-eqb (length target) file_length fits)
-      (ap (left Done) (lays ∙ laid-over (widened old) target (widened-length old (old_accepted-length-told old fine is good) ∙ sym fits)))
+      (ap (left (Ok tt)) lays)

@@ -1,7 +1,6 @@
 -- Paper 01, "What each answer commits to": "Show that two answers meeting it are equal".
 use Rattle.std.specs.Prelude.{ℕ, ◌≡◌, List}
-use Rattle.widen.specs.declared.types.Answer.{Answer}
-use Rattle.widen.specs.Widen.{widening, left}
+use Rattle.widen.specs.Widen.{Answer, widening, left}
 
 -- an answer with what the target holds as it is given
 pub record Result : Type 0 where

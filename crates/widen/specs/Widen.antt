@@ -1,10 +1,10 @@
 -- Paper 02, W7: "A small call turns an old file into a new one with black colours and COPCON 0, and leaves its target
 -- unchanged when it refuses."
-use Rattle.std.specs.Prelude.{ℕ, not, List, [], ◌∷◌, ◌++◌, eqb, length, get_or, take, replicate, if◌then◌else◌}
+use Rattle.std.specs.Prelude.{ℕ, ⊤, not, Result, Ok, Err, List, [], ◌∷◌, ◌++◌, eqb, length, get_or, take, replicate, if◌then◌else◌}
 use Rattle.word.specs.Choice.{Rule, ◌when◌, given}
 use Rattle.file.specs.Places.{file_length, blitter_length, colour_count}
-use Rattle.widen.specs.declared.types.Answer.{Answer}
-use Rattle.widen.specs.declared.types.Answer.TheVariants.{Done, OldFile, TargetLength}
+use Rattle.widen.specs.declared.types.Refusal.{Refusal}
+use Rattle.widen.specs.declared.types.Refusal.TheVariants.{OldFile, TargetLength}
 use Rattle.widen.specs.Old.{old_flag, old_accepted}
 
 abbrev pub black : ℕ
@@ -39,11 +39,15 @@ widening old target =
     if eqb (refusal old target) 0 then ended 0 (widened old) else
     ended (refusal old target) target
 
+-- done, or refused
+abbrev pub Answer : Type 0
+Answer = Result ⊤ Refusal
+
 -- the paper's number for each case of the answer
 abbrev pub answer_number : Answer → ℕ
-answer_number Done = 0
-answer_number OldFile = 2
-answer_number TargetLength = 20
+answer_number (Ok _) = 0
+answer_number (Err OldFile) = 2
+answer_number (Err TargetLength) = 20
 
 -- an answer, and what the target holds as it is given
 abbrev pub left : Answer → (target : List ℕ) → Widening

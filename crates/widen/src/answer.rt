@@ -2,14 +2,13 @@
 ghost use Rattle.std.specs.Prelude.{◌≡◌};
 ghost use Rattle.widen.specs.Widen.{answer_number};
 
-use crate::types::Answer;
+use crate::types::Refusal;
 
-pub fn number(answer: Answer) -> u32
+pub fn number(answer: Result<(), Refusal>) -> u32
     ensures { result ≡ answer_number answer }
 {
     match answer {
-        Answer::Done => 0,
-        Answer::OldFile => 2,
-        Answer::TargetLength => 20,
+        Ok(()) => 0,
+        Err(refusal) => refusal as u32,
     }
 }

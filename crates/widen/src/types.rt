@@ -1,9 +1,8 @@
-// The types that the definitions of a widening speak of.
+// The type that the definitions of a widening speak of.
 
-// What a widening answers: done, or refused because of the old file, or because of the target's length.
-#[derive(Clone, Copy)]
-pub enum Answer {
-    Done,
-    OldFile,
-    TargetLength,
+// Why a widening is refused: because of the old file, or of the target's length. Each has the paper's number.
+#[derive(Clone, Copy, Debug, PartialEq, Eq)]
+pub enum Refusal {
+    OldFile = 2,
+    TargetLength = 20,
 }

@@ -4,6 +4,7 @@ use Rattle.word.proofs.Base.{◌≡◌, refl, ap, ◌∙◌, ℕ, zero, suc, ◌
 use Rattle.word.proofs.Base.{arith, Bool, true, false, ◌&&◌, ◌||◌, not, T, leb, ltb, le-leb, lt-leb, lt-ltb}
 use Rattle.word.proofs.Base.{le-ltb}
 use native.Mathlib.Nat.{not-suc-le-zero}
+use Rattle.std.proofs.Math.Bool.{and_comm}
 use Rattle.word.specs.Choice.{every}
 
 -- what a choice gives, by its test
@@ -97,6 +98,9 @@ every-of-sum test n (suc more) =
 -- a turn of a loop that tries the numbers from 0 up, and its end
 pub every-turn : (test : ℕ → Bool) (n : ℕ) (here so_far : Bool) → here ≡ test n → so_far ≡ every test n → (here && so_far) ≡ every test (n + 1)
 every-turn test n here so_far holds same = rw (holds, same, add-one)
+
+pub every-next : (test : ℕ → Bool) (n : ℕ) (here so_far : Bool) → here ≡ test n → so_far ≡ every test n → (so_far && here) ≡ every test (n + 1)
+every-next test n here so_far holds same = and_comm so_far here ∙ every-turn test n here so_far holds same
 
 pub every-done : (test : ℕ → Bool) (n end : ℕ) (so_far : Bool) → n ≤ end → end ≤ n → so_far ≡ every test n → so_far ≡ every test end
 every-done test n end so_far before past same = let all : n ≡ end = omega (arith, before, past) in same ∙ ap (every test) all

@@ -71,6 +71,11 @@ module _ (words by : ℕ) (pointer : Pointer) (made : Move) (same : by ≡ words
           (rw (same-order by pointer.word pointer_end (pointer.word + (pointer_end - by)) (λ past. omega (arith, small)) (λ inside. omega (arith, small))) refl)
 
 -- a move by one word is one up, or down
+pub passed-one : (direction : Direction) (pointer : Pointer) → passed direction 1 pointer ≡ moved direction pointer
+unfolding moved passed
+passed-one Ascending pointer = refl
+passed-one Descending pointer = refl
+
 pub word_move-of-one : (direction : Direction) (pointer : Pointer) (made : Move)
     → made ≡ modulo_move direction 1 pointer → made ≡ word_move direction pointer
 unfolding moved passed moved_round passed_round plus_round minus_round

@@ -1,14 +1,13 @@
--- `area::moves::stepped` meets its contract, used or not.
-use Rattle.word.proofs.ChoiceLaws.{if-when-true, if-when-false}
-use Rattle.word.proofs.RoundLaws.{to-of-move}
-use Rattle.area.specs.Move.{stepped}
-use Rattle.word.proofs.Base.{rules}
+-- `area::moves::stepped` meets its contract: a move by one word.
+use Rattle.std.specs.Prelude.{if◌then◌else◌}
+use Rattle.word.proofs.Base.{ap, ◌∙◌}
+use Rattle.word.specs.declared.types.Pointer.{Pointer}
+use Rattle.word.proofs.RoundLaws.{passed-one}
+use Rattle.area.specs.Move.{turned, stepped}
 use Rattle.area.proofs.moves.stepped.Goals as goal
 
-pub returns-then-used : goal.returns-then-used
-unfolding stepped
-returns-then-used c = search (rules, if-when-true, to-of-move)
-
 pub returns : goal.returns
-unfolding stepped
-returns c = search (rules, if-when-false)
+unfolding turned stepped
+returns c =
+    c.turned.ensures
+    ∙ ap (λ (to : Pointer). if c.args.used then to else c.args.pointer) (passed-one c.args.direction c.args.pointer)

@@ -6,6 +6,7 @@ use Rattle.line.proofs.setup.first_dot.Goals as goal
 pub returns : goal.returns
 unfolding first_dot
 returns c = rw (
+  c.is_set.ensures,
   c.read-accumulator.ensures,
   c.shift-bit.ensures,
   c.shift-shift.ensures,

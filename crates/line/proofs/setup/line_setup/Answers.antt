@@ -6,6 +6,7 @@ use Rattle.line.proofs.setup.line_setup.Goals as goal
 pub returns : goal.returns
 unfolding line_setup
 returns c = rw (
+  c.is_set.ensures,
   c.gains-gains.ensures,
   c.half-row.ensures,
   c.octant-octant.ensures,

@@ -82,13 +82,11 @@ fn dots_round(line: Line, dots: u32, first: Mark) -> bool
 {
     let by = line::walk::steps(line);
     let mut mark = first;
-    let mut remaining = dots;
-    while 1 < remaining {
+    for dot in 1..dots {
         if dot_round(line, mark.sign, mark.pixel) {
             return true;
         }
         mark = line::walk::walked(by, mark);
-        remaining = remaining - 1;
     }
     false
 }

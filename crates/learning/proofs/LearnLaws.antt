@@ -6,27 +6,27 @@ use Rattle.file.specs.File.{kept}
 use Rattle.file.specs.Places.{control0, pointer_a, pointer_b, pointer_c, pointer_d, source_a, source_b, source_c}
 use Rattle.word.specs.declared.types.Uses.{Uses}
 use Rattle.word.specs.Control.{uses}
-use Rattle.knowledge.specs.declared.types.Known.{Known}
-use Rattle.knowledge.specs.Known.{number, is_known}
+use Rattle.std.specs.Prelude.{Option, Some, None}
+use Rattle.knowledge.specs.Knowledge.{known_at, number}
 use Rattle.learning.specs.Learn.{written, may_use, forget_pointer, forget_source, forget_used, forgotten, moved_d}
 
-pub written-of-parts : (place value held : ℕ) (known after : List Known)
-    → held ≡ kept place value → after ≡ set known place (Known.Is held) → after ≡ written place value known
+pub written-of-parts : (place value held : ℕ) (known after : List (Option ℕ))
+    → held ≡ kept place value → after ≡ set known place (Some held) → after ≡ written place value known
 unfolding written
 written-of-parts place value held known after keeps sets = rw keeps at sets
 
-module _ (known : List Known) (register : Known) (is : register ≡ get_or known control0 Known.Unknown) where
-  pub may_use-when-known : (value : ℕ) (used : Uses) → register ≡ Known.Is value → used ≡ uses value → used ≡ may_use known
-  unfolding may_use is_known number
+module _ (known : List (Option ℕ)) (register : Option ℕ) (is : register ≡ known_at known control0) where
+  pub may_use-when-known : (value : ℕ) (used : Uses) → register ≡ Some value → used ≡ uses value → used ≡ may_use known
+  unfolding may_use
   may_use-when-known value used same decodes = rw (sym is ∙ same) decodes
 
-  pub may_use-when-unknown : register ≡ Known.Unknown → record { a = true; b = true; c = true; d = true } ≡ may_use known
-  unfolding may_use is_known
+  pub may_use-when-unknown : register ≡ None → record { a = true; b = true; c = true; d = true } ≡ may_use known
+  unfolding may_use
   may_use-when-unknown same = rw (sym is ∙ same)
 
-module _ (used : Bool) (place : ℕ) (known : List Known) where
-  pub forget_pointer-when-used : (first after : List Known) → used ≡ true
-      → first ≡ set known place Known.Unknown → after ≡ set first (place + 1) Known.Unknown → after ≡ forget_pointer used place known
+module _ (used : Bool) (place : ℕ) (known : List (Option ℕ)) where
+  pub forget_pointer-when-used : (first after : List (Option ℕ)) → used ≡ true
+      → first ≡ set known place None → after ≡ set first (place + 1) None → after ≡ forget_pointer used place known
   unfolding forget_pointer
   forget_pointer-when-used first after uses one two = rw (uses, ← one) two
 
@@ -34,7 +34,7 @@ module _ (used : Bool) (place : ℕ) (known : List Known) where
   unfolding forget_pointer
   forget_pointer-when-unused idle = rw idle
 
-  pub forget_source-when-used : (after : List Known) → used ≡ true → after ≡ set known place Known.Unknown → after ≡ forget_source used place known
+  pub forget_source-when-used : (after : List (Option ℕ)) → used ≡ true → after ≡ set known place None → after ≡ forget_source used place known
   unfolding forget_source
   forget_source-when-used after uses sets = rw uses sets
 
@@ -42,7 +42,7 @@ module _ (used : Bool) (place : ℕ) (known : List Known) where
   unfolding forget_source
   forget_source-when-unused idle = rw idle
 
-pub forget_pointers-of-parts : (uses : Uses) (known one two three four : List Known)
+pub forget_pointers-of-parts : (uses : Uses) (known one two three four : List (Option ℕ))
     → one ≡ forget_pointer uses.a pointer_a known
     → two ≡ forget_pointer uses.b pointer_b one
     → three ≡ forget_pointer uses.c pointer_c two
@@ -50,7 +50,7 @@ pub forget_pointers-of-parts : (uses : Uses) (known one two three four : List Kn
     → four ≡ forget_pointer uses.d pointer_d (forget_pointer uses.c pointer_c (forget_pointer uses.b pointer_b (forget_pointer uses.a pointer_a known)))
 forget_pointers-of-parts uses known one two three four is_one is-two is-three is-four = rw (is-three, is-two, is_one) at is-four
 
-pub forget_used-of-parts : (uses : Uses) (known pointed one two three : List Known)
+pub forget_used-of-parts : (uses : Uses) (known pointed one two three : List (Option ℕ))
     → pointed ≡ forget_pointer uses.d pointer_d (forget_pointer uses.c pointer_c (forget_pointer uses.b pointer_b (forget_pointer uses.a pointer_a known)))
     → one ≡ forget_source uses.a source_a pointed
     → two ≡ forget_source uses.b source_b one
@@ -59,12 +59,12 @@ pub forget_used-of-parts : (uses : Uses) (known pointed one two three : List Kno
 unfolding forget_used
 forget_used-of-parts uses known pointed one two three is-pointed is_one is-two is-three = rw (is-two, is_one, is-pointed) at is-three
 
-pub forgotten-of-parts : (known after : List Known) (uses : Uses) → uses ≡ may_use known → after ≡ forget_used uses known → after ≡ forgotten known
+pub forgotten-of-parts : (known after : List (Option ℕ)) (uses : Uses) → uses ≡ may_use known → after ≡ forget_used uses known → after ≡ forgotten known
 unfolding forgotten
 forgotten-of-parts known after uses same forgets = rw same at forgets
 
-pub moved_d-of-parts : (pointer : Pointer) (up down : ℕ) (known half after : List Known)
+pub moved_d-of-parts : (pointer : Pointer) (up down : ℕ) (known half after : List (Option ℕ))
     → up ≡ high pointer → down ≡ low pointer
-    → half ≡ set known pointer_d (Known.Is up) → after ≡ set half (pointer_d + 1) (Known.Is down) → after ≡ moved_d pointer known
+    → half ≡ set known pointer_d (Some up) → after ≡ set half (pointer_d + 1) (Some down) → after ≡ moved_d pointer known
 unfolding moved_d
 moved_d-of-parts pointer up down known half after is_up is_down one two = rw (one, is_up, is_down) at two

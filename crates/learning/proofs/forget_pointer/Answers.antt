@@ -5,5 +5,5 @@ use Rattle.learning.proofs.forget_pointer.Goals as goal
 pub returns-then-used : goal.returns-then-used
 returns-then-used c = search forget_pointer-when-used
 
-pub returns : goal.returns
-returns c = search forget_pointer-when-unused
+pub returns-else-used : goal.returns-else-used
+returns-else-used c = search forget_pointer-when-unused

@@ -2,8 +2,8 @@
 use Rattle.learning.proofs.LearnLaws.{may_use-when-known, may_use-when-unknown}
 use Rattle.learning.proofs.may_use.Goals as goal
 
-pub returns-in-Is : goal.returns-in-Is
-returns-in-Is c = search may_use-when-known
+pub returns-in-Some : goal.returns-in-Some
+returns-in-Some c = search may_use-when-known
 
-pub returns-in-Unknown : goal.returns-in-Unknown
-returns-in-Unknown c = search may_use-when-unknown
+pub returns-in-None : goal.returns-in-None
+returns-in-None c = search may_use-when-unknown

@@ -10,12 +10,14 @@ use knowledge::types::Knowledge;
 use word::types::{Pointer, Uses};
 
 // A register write makes it known.
+#[tactic(auto, unfolding(crate::specs::Learn::written))]
 pub fn written(known: &mut Knowledge, place: u32, value: u16)
     ensures { known.new.registers ≡ written place value known.old.registers }
 {
     known.put(place, Some(file::kept(place, value)));
 }
 
+#[tactic(auto, unfolding(crate::specs::Learn::may_use))]
 fn may_use(known: &Knowledge) -> Uses
     ensures { result ≡ may_use known.now.registers }
 {
@@ -30,6 +32,7 @@ fn may_use(known: &Knowledge) -> Uses
     }
 }
 
+#[tactic(auto, unfolding(crate::specs::Learn::forget_pointer))]
 fn forget_pointer(known: &mut Knowledge, used: bool, place: u32)
     requires { place < file_length }
     ensures { known.new.registers ≡ forget_pointer used place known.old.registers }
@@ -40,6 +43,7 @@ fn forget_pointer(known: &mut Knowledge, used: bool, place: u32)
     }
 }
 
+#[tactic(auto, unfolding(crate::specs::Learn::forget_source))]
 fn forget_source(known: &mut Knowledge, used: bool, place: u32)
     ensures { known.new.registers ≡ forget_source used place known.old.registers }
 {
@@ -61,6 +65,7 @@ fn forget_pointers(known: &mut Knowledge, uses: Uses)
     forget_pointer(known, uses.d, file::POINTER_D);
 }
 
+#[tactic(auto, unfolding(crate::specs::Learn::forget_used))]
 fn forget_used(known: &mut Knowledge, uses: Uses)
     ensures { known.new.registers ≡ forget_used uses known.old.registers }
 {
@@ -71,6 +76,7 @@ fn forget_used(known: &mut Knowledge, uses: Uses)
 }
 
 // After a kept 058.
+#[tactic(auto, unfolding(crate::specs::Learn::forgotten))]
 pub fn forgotten(known: &mut Knowledge)
     ensures { known.new.registers ≡ forgotten known.old.registers }
 {
@@ -79,6 +85,7 @@ pub fn forgotten(known: &mut Knowledge)
 }
 
 // After a settled 058, with the final D pointer.
+#[tactic(auto, unfolding(crate::specs::Learn::moved_d))]
 pub fn moved_d(known: &mut Knowledge, pointer: Pointer)
     ensures { known.new.registers ≡ moved_d pointer known.old.registers }
 {

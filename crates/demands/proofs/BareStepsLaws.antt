@@ -1,8 +1,9 @@
 -- Laws of steps without their places: a run of whole steps is its steps, one after the other, wherever it stands.
+use Rattle.std.specs.Prelude.{Some, None, Ok, Err}
 use Rattle.word.proofs.Base.{◌≡◌, refl, sym, ap, ◌∙◌, ℕ, zero, suc, ◌+◌, ◌≤◌, add-zero, arith, Bool, true}
 use Rattle.word.proofs.Base.{false, ◌&&◌, List, [], ◌∷◌, ◌++◌, length, drop, drop_of_length-le}
 use Rattle.job.specs.declared.types.Step.{Step}
-use Rattle.job.specs.declared.types.Read.{Read}
+use Rattle.job.specs.Read.{Read}
 use Rattle.job.specs.Step.{operands, found, front}
 use Rattle.job.specs.Steps.{Placed, placed, behind, steps_from, steps}
 use Rattle.job.proofs.StepLaws.{front-le}
@@ -25,7 +26,7 @@ steps_from-is-placed_from zero at to (first ∷ rest) inside whole =
         → ((skip : ℕ) → skip ≤ length rest → faultless (steps_from skip (at + 1) rest) ≡ true
         → steps_from skip (to + 1) rest ≡ placed_from (to + 1 + skip) (bare_steps (steps_from skip (at + 1) rest)))
         → steps_from 0 to (first ∷ rest) ≡ placed_from (to + 0) (bare_step read ++ bare_steps (behind read (λ skip. steps_from skip (at + 1) rest)))
-    by_read (Read.Step step next) reads whole later =
+    by_read (Ok (Some (step, next))) reads whole later =
         let fits = front-le at (first ∷ rest) step next reads in
         let same : to + 1 + operands step ≡ to + (1 + operands step) = omega arith in
         ap (λ (read : Read). placed to read ∷ behind read (λ skip. steps_from skip (to + 1) rest)) (front-elsewhere at to first rest step next reads)
@@ -33,8 +34,8 @@ steps_from-is-placed_from zero at to (first ∷ rest) inside whole =
         (later (operands step) (omega arith) whole
         ∙ ap (λ (place : ℕ). placed_from place (bare_steps (steps_from (operands step) (at + 1) rest))) same)
         ∙ ap (λ (place : ℕ). placed_from place (step ∷ bare_steps (steps_from (operands step) (at + 1) rest))) (sym (add-zero to))
-    by_read Read.End reads whole later = let n : ◌≡◌ {A = ℕ} 0 1 = cc in absurd (omega arith)
-    by_read (Read.Refused why) reads whole later = let n : ◌≡◌ {A = ℕ} 0 1 = cc in absurd (omega arith)
+    by_read (Ok None) reads whole later = let n : ◌≡◌ {A = ℕ} 0 1 = cc in absurd (omega arith)
+    by_read (Err why) reads whole later = let n : ◌≡◌ {A = ℕ} 0 1 = cc in absurd (omega arith)
 steps_from-is-placed_from (suc skip) at to (word ∷ rest) inside whole =
     let same : to + 1 + skip ≡ to + suc skip = omega arith in
     steps_from-is-placed_from skip (at + 1) (to + 1) rest (omega arith) whole
@@ -52,9 +53,9 @@ bare_steps-of-append (one ∷ first) rest = by_read one.read (bare_steps-of-appe
   where
     by_read : (read : Read) → bare_steps (first ++ rest) ≡ bare_steps first ++ bare_steps rest
         → bare_step read ++ bare_steps (first ++ rest) ≡ (bare_step read ++ bare_steps first) ++ bare_steps rest
-    by_read (Read.Step step next) later = ap (λ (others : List Step). step ∷ others) later
-    by_read Read.End later = later
-    by_read (Read.Refused why) later = later
+    by_read (Ok (Some (step, next))) later = ap (λ (others : List Step). step ∷ others) later
+    by_read (Ok None) later = later
+    by_read (Err why) later = later
 
 faultless-of-append : (first rest : List Placed) → faultless first ≡ true → faultless rest ≡ true → faultless (first ++ rest) ≡ true
 unfolding faultless

@@ -1,5 +1,5 @@
 -- Demand 3: step by step the folded job and the original leave the same machine, and what the folder knows agrees with it.
-use Rattle.std.specs.Prelude.{if◌then◌else◌}
+use Rattle.std.specs.Prelude.{if◌then◌else◌, Ok, Some}
 use Rattle.word.proofs.Base.{◌≡◌, refl, sym, ap, subst, ◌∙◌, ℕ, zero, suc, ◌+◌, arith, Bool, true, false}
 use Rattle.word.proofs.Base.{List, [], ◌∷◌, ◌++◌, length, get_or, set, length-set}
 use lib.ListN.{replicate}
@@ -14,7 +14,7 @@ use Rattle.refusal.specs.Refusal.{step_refusal}
 use Rattle.word.specs.Memory.{memory_size}
 use Rattle.blit.specs.Blit.{Outcome, blit_step}
 use Rattle.job.specs.declared.types.Step.{Step}
-use Rattle.job.specs.declared.types.Read.{Read}
+use Rattle.job.specs.Read.{Read}
 use Rattle.job.specs.Step.{operands, found, front}
 use Rattle.job.specs.Steps.{Placed, placed, steps_from, steps}
 use Rattle.runner.specs.Effect.{step_effect, effect}
@@ -61,7 +61,7 @@ module _ (n : ℕ) (known : List Known) (before : Machine) (stands : Stands n kn
   settled-runs : (at place next : ℕ) (more : List ℕ) (rest : List Placed)
       → SameButPlace (run_from (after_settled at size) more (after before (step_effect (Step.Size size) before.memory before.file)))
       (run_steps rest (after before (step_effect (Step.Size size) before.memory before.file)))
-      → SameButPlace (run_from at (settled_words (numbers known) size ++ more) before) (run_steps (placed place (Read.Step (Step.Size size) next) ∷ rest) before)
+      → SameButPlace (run_from at (settled_words (numbers known) size ++ more) before) (run_steps (placed place (Ok (Some (Step.Size size, next))) ∷ rest) before)
   unfolding run_steps effect
   settled-runs at place next more rest later =
       rw (
@@ -103,7 +103,7 @@ simulate-step : (n : ℕ) (job : List ℕ) (known : List Known) (at place next :
     → ((to : ℕ) → front to (raw_words job place step) ≡ found to step)
     → ((to : ℕ) (learned : List Known) (on : Machine) → Stands n learned on → SameButPlace (run_from to (fold_steps n learned job rest) on) (run_steps rest on))
     → SameButPlace (run_from at (becomes n known step (raw_words job place step) ++ fold_steps n (learned n known step) job rest) before)
-    (run_steps (placed place (Read.Step step next) ∷ rest) before)
+    (run_steps (placed place (Ok (Some (step, next))) ∷ rest) before)
 unfolding becomes learned
 simulate-step n job known at place next (Step.Register to value) rest before stands long decodes later =
     copied_runs at place next (raw_words job place (Step.Register to value)) _ (Step.Register to value) rest before long decodes
@@ -120,7 +120,7 @@ simulate-step n job known at place next (Step.Size size) rest before stands long
         → SameButPlace
         (run_from at ((if test then settled_words (numbers known) size else raw_words job place (Step.Size size))
         ++ fold_steps n (if test then moved_d (final_d (numbers known) size) known else forgotten known) job rest) before)
-        (run_steps (placed place (Read.Step (Step.Size size) next) ∷ rest) before)
+        (run_steps (placed place (Ok (Some (Step.Size size, next))) ∷ rest) before)
     by-test true holds =
         settled-runs n known before stands size holds at place next _ rest (later _ _ _ (stands-after-settled n known before stands size holds next))
     by-test false keeps =

@@ -1,5 +1,5 @@
 -- Laws of the steps of a job without faults: each is decoded from its own words, wherever they stand.
-use Rattle.std.specs.Prelude.{if◌then◌else◌}
+use Rattle.std.specs.Prelude.{if◌then◌else◌, Some, None, Ok, Err}
 use Rattle.word.proofs.Base.{◌≡◌, refl, sym, ap, ◌∙◌, ℕ, zero, suc, ◌+◌, ◌≤◌, one-add, arith, Bool, true, false, List}
 use Rattle.word.proofs.Base.{[], ◌∷◌, length, take, drop, length-take-le}
 use native.Mathlib.Nat.{le_refl}
@@ -8,7 +8,7 @@ use Rattle.word.specs.Pointer.{pointer}
 use Rattle.job.specs.declared.types.Kind.{Kind}
 use Rattle.job.specs.declared.types.Step.{Step}
 use Rattle.job.specs.declared.types.Refusal.{Refusal}
-use Rattle.job.specs.declared.types.Read.{Read}
+use Rattle.job.specs.Read.{Read}
 use Rattle.job.specs.Kind.{kind}
 use Rattle.job.specs.Step.{operands, found, is_odd, begun, front, read_number}
 use Rattle.job.specs.Steps.{Placed, placed, steps_from}
@@ -20,7 +20,7 @@ use Rattle.demands.proofs.FoldedJobLaws.{Clean}
 
 -- a step that some words begin is begun by them wherever they stand
 begun-elsewhere : (begins : Kind) (at to : ℕ) (rest : List ℕ) (step : Step) (next : ℕ)
-    → begun begins at rest ≡ Read.Step step next → begun begins to rest ≡ found to step
+    → begun begins at rest ≡ Ok (Some (step, next)) → begun begins to rest ≡ found to step
 unfolding begun found
 begun-elsewhere Kind.Nothing at to rest step next reads = let n : ◌≡◌ {A = ℕ} 0 1 = cc in absurd (omega arith)
 begun-elsewhere (Kind.Register place) at to [] step next reads = let n : ◌≡◌ {A = ℕ} 0 1 = cc in absurd (omega arith)
@@ -34,15 +34,15 @@ begun-elsewhere (Kind.Store high) at to (low ∷ []) step next reads = let n : �
 begun-elsewhere (Kind.Store high) at to (low ∷ value ∷ rest) step next reads = by-test (is_odd low) reads
   where
     by-test : (odd : Bool)
-        → (if odd then Read.Refused Refusal.OddStore else found at (Step.Store (pointer high low).word value)) ≡ Read.Step step next
-        → (if odd then Read.Refused Refusal.OddStore else found to (Step.Store (pointer high low).word value)) ≡ found to step
+        → (if odd then Err Refusal.OddStore else found at (Step.Store (pointer high low).word value)) ≡ Ok (Some (step, next))
+        → (if odd then Err Refusal.OddStore else found to (Step.Store (pointer high low).word value)) ≡ found to step
     by-test true wrong = let n : ◌≡◌ {A = ℕ} 0 1 = cc in absurd (omega arith)
     by-test false is = let same : Step.Store (pointer high low).word value ≡ step = cc in ap (found to) same
 begun-elsewhere (Kind.Flag flag) at to rest step next reads =
     let same : Step.Flag flag ≡ step = cc in ap (found to) same
 
 pub front-elsewhere : (at to first : ℕ) (rest : List ℕ) (step : Step) (next : ℕ)
-    → front at (first ∷ rest) ≡ Read.Step step next → front to (first ∷ rest) ≡ found to step
+    → front at (first ∷ rest) ≡ Ok (Some (step, next)) → front to (first ∷ rest) ≡ found to step
 unfolding front
 front-elsewhere at to first rest step next reads = begun-elsewhere (kind first) at to rest step next reads
 
@@ -50,7 +50,7 @@ front-elsewhere at to first rest step next reads = begun-elsewhere (kind first) 
 pub record GoodStep (job : List ℕ) (one : Placed) : Type 0 where
   pub step : Step
   pub next : ℕ
-  pub reads : one.read ≡ Read.Step step next
+  pub reads : one.read ≡ Ok (Some (step, next))
   pub long : length (raw_words job one.place step) ≡ 1 + operands step
   pub decodes : (at : ℕ) → front at (raw_words job one.place step) ≡ found at step
 
@@ -65,7 +65,7 @@ drop-next job at first rest here = sym (drop-drop 1 at job) ∙ ap (drop 1) here
 -- what stands at the front of a run of words, when no number is told for it
 good-front : (job : List ℕ) (at first : ℕ) (rest : List ℕ) (read : Read) → drop at job ≡ first ∷ rest → front at (first ∷ rest) ≡ read
     → read_number read ≡ 0 → GoodStep job (placed at read)
-good-front job at first rest (Read.Step step next) here reads none =
+good-front job at first rest (Ok (Some (step, next))) here reads none =
     let raw : raw_words job at step ≡ first ∷ take (operands step) rest =
     ap (take (1 + operands step)) here ∙ ap (λ (n : ℕ). take n (first ∷ rest)) (one-add (operands step)) in
     let short : 1 + operands step ≤ length (drop at job) = rw here (front-le at (first ∷ rest) step next reads) in
@@ -78,8 +78,8 @@ good-front job at first rest (Read.Step step next) here reads none =
           ap (front to) raw
           ∙ front-elsewhere at to first (take (operands step) rest) step next (front-of-take at (operands step) first rest step next reads (le_refl (operands step)));
     }
-good-front job at first rest Read.End here reads none = absurd (front-is-some at first rest reads)
-good-front job at first rest (Read.Refused why) here reads none = absurd (omega (arith, none, read_number-of-refused why))
+good-front job at first rest (Ok None) here reads none = absurd (front-is-some at first rest reads)
+good-front job at first rest (Err why) here reads none = absurd (omega (arith, none, read_number-of-refused why))
 
 pub steps-are-good : (job : List ℕ) (skip at : ℕ) (words : List ℕ) → drop at job ≡ words → Clean (steps_from skip at words)
     → Good job (steps_from skip at words)

@@ -1,11 +1,12 @@
 -- Laws of the machine that a run stands on: after every step that is copied, what the folder knows agrees with its file.
+use Rattle.std.specs.Prelude.{Ok, Some}
 use Rattle.word.proofs.Base.{◌≡◌, refl, sym, subst, ◌∙◌, ℕ, List, length, length-set}
 use Rattle.word.specs.Choice.{given}
 use Rattle.file.specs.File.{kept}
 use Rattle.file.specs.Places.{blitter_length, file_length}
 use Rattle.blit.specs.Blit.{Outcome, refused}
 use Rattle.job.specs.declared.types.Step.{Step}
-use Rattle.job.specs.declared.types.Read.{Read}
+use Rattle.job.specs.Read.{Read}
 use Rattle.runner.specs.Effect.{store_outside, own_rules, taken, answered, step_effect, effect}
 use Rattle.runner.specs.Run.{Machine, after}
 use Rattle.runner.proofs.EffectLaws.{step_effect-either, step_effect-of-blit}
@@ -36,8 +37,8 @@ module _ (n : ℕ) (known : List Known) (before : Machine) (stands : Stands n kn
   unfolding effect
   after-lengths step next learned long agrees =
       record {
-        memory = effect-keeps-memory-length (Read.Step step next) before.memory before.file ∙ stands.memory;
-        file = effect-keeps-file-length (Read.Step step next) before.memory before.file ∙ stands.file;
+        memory = effect-keeps-memory-length (Ok (Some (step, next))) before.memory before.file ∙ stands.memory;
+        file = effect-keeps-file-length (Ok (Some (step, next))) before.memory before.file ∙ stands.file;
         long = long;
         agrees = agrees;
       }

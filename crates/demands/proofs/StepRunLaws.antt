@@ -1,11 +1,11 @@
 -- Laws of the run of words that begin with a step: the step is taken, and the run goes on after its words.
-use Rattle.std.specs.Prelude.{if◌then◌else◌}
+use Rattle.std.specs.Prelude.{if◌then◌else◌, Ok, Some}
 use Rattle.word.proofs.Base.{◌≡◌, refl, sym, ap, ◌∙◌, ℕ, ◌+◌, one-add, arith, Bool, true, false, eqb, List, [], ◌∷◌}
 use Rattle.word.proofs.Base.{◌++◌, length, drop}
 use lib.Seq.{drop_at}
 use Rattle.blit.specs.Blit.{Outcome}
 use Rattle.job.specs.declared.types.Step.{Step}
-use Rattle.job.specs.declared.types.Read.{Read}
+use Rattle.job.specs.Read.{Read}
 use Rattle.job.specs.Step.{operands, found, front}
 use Rattle.job.specs.Steps.{Placed, placed, behind, steps_from}
 use Rattle.job.proofs.StepLaws.{front-of-append}
@@ -72,7 +72,7 @@ pub copied_runs : (at place next : ℕ) (raw more : List ℕ) (step : Step) (res
     → length raw ≡ 1 + operands step → ((to : ℕ) → front to raw ≡ found to step)
     → SameButPlace (run_from (at + 1 + operands step) more (after before (step_effect step before.memory before.file)))
     (run_steps rest (after before (step_effect step before.memory before.file)))
-    → SameButPlace (run_from at (raw ++ more) before) (run_steps (placed place (Read.Step step next) ∷ rest) before)
+    → SameButPlace (run_from at (raw ++ more) before) (run_steps (placed place (Ok (Some (step, next))) ∷ rest) before)
 unfolding run_steps effect
 copied_runs at place next raw more step rest before long decodes later =
     let outcome : Outcome = step_effect step before.memory before.file in

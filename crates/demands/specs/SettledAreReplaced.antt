@@ -1,9 +1,9 @@
 -- Demand 3: "Every blit that 01 calls settled has been replaced by its words, and no other blit has."
 -- The steps of the folded job are, in their order, for each step of the original the steps of its words where it is a
 -- settled blit, and the step itself otherwise.
-use Rattle.std.specs.Prelude.{ℕ, ◌+◌, ◌≡◌, List, [], ◌∷◌, ◌++◌, if◌then◌else◌}
+use Rattle.std.specs.Prelude.{ℕ, ◌+◌, ◌≡◌, List, [], ◌∷◌, ◌++◌, if◌then◌else◌, Some, None, Ok, Err}
 use Rattle.job.specs.declared.types.Step.{Step}
-use Rattle.job.specs.declared.types.Read.{Read}
+use Rattle.job.specs.Read.{Read}
 use Rattle.job.specs.Step.{operands, found}
 use Rattle.job.specs.Steps.{Placed, placed, steps}
 use Rattle.knowledge.specs.declared.types.Known.{Known}
@@ -15,9 +15,9 @@ use Rattle.demands.specs.DemandThree.{FolderAccepts, folded_job}
 
 -- the steps of a list, without their places
 unfoldable pub bare_step : Read → List Step
-bare_step (Read.Step step next) = step ∷ []
-bare_step Read.End = []
-bare_step (Read.Refused why) = []
+bare_step (Ok (Some (step, next))) = step ∷ []
+bare_step (Ok None) = []
+bare_step (Err why) = []
 
 unfoldable pub bare_steps : List Placed → List Step
 bare_steps [] = []

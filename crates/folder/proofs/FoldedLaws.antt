@@ -1,5 +1,5 @@
 -- Laws of the folding into a run, step by step: what is left of the job from a place on gives what the whole gives.
-use Rattle.std.specs.Prelude.{if◌then◌else◌}
+use Rattle.std.specs.Prelude.{if◌then◌else◌, Some, None, Ok, Err}
 use Rattle.word.proofs.Base.{◌≡◌, refl, sym, ap, ap₂, ◌∙◌, ℕ, ◌+◌, ◌*◌, ◌<◌, ◌≤◌, zero-add, arith, Bool, true, false, ◌||◌}
 use Rattle.word.proofs.Base.{not, eqb, leb, ne_eqb, le-leb, lt-leb, List, [], ◌∷◌, ◌++◌, length, drop, length-append}
 use mathlib.Core.Bool.{or-false, or_assoc}
@@ -12,7 +12,7 @@ use Rattle.word.proofs.LaidLaws.{laid-of-append, laid-as-long}
 use Rattle.job.specs.declared.types.Refusal as jobs
 use Rattle.job.specs.Step as jobs-numbers
 use Rattle.job.specs.declared.types.Step.{Step}
-use Rattle.job.specs.declared.types.Read.{Read}
+use Rattle.job.specs.Read.{Read}
 use Rattle.job.specs.Step.{operands, step_at, read_number}
 use Rattle.job.specs.Steps.{Placed, placed, steps_from, steps}
 use Rattle.job.proofs.StepLaws.{step_at-moves, step_at-next}
@@ -112,23 +112,23 @@ module _ (n : ℕ) (job out start : List ℕ) (known : List Known) (at from : �
   room-to-put short = let few = stands.few in let inside = stands.inside in omega arith
 
   module _ (read : Read) (reads : read ≡ step_at job from) where
-    pub folded-of-end : (answer : Answer) → read ≡ Read.End → answer ≡ fitting at round (length out) → Folded n job out start answer run
+    pub folded-of-end : (answer : Answer) → read ≡ Ok None → answer ≡ fitting at round (length out) → Folded n job out start answer run
     folded-of-end answer same fits = at_last answer (steps-of-end job from (sym reads ∙ same)) fits
 
     -- what is no step is refused with its own number, at its place, and becomes nothing
-    pub folded-of-fault : (why : jobs.Refusal) → read ≡ Read.Refused why → Folded n job out start (Answer.Refused (Refusal.Step why) from) run
+    pub folded-of-fault : (why : jobs.Refusal) → read ≡ Err why → Folded n job out start (Answer.Refused (Refusal.Step why) from) run
     unfolding by_step read_number given fold_steps piece laid Answers
     folded-of-fault why same =
         let alone = steps-of-refused job from why (sym reads ∙ same) in
         let number : 0 < jobs-numbers.refusal_number why = read_number-of-refused why in
         let some : eqb (jobs-numbers.refusal_number why) 0 ≡ false = ne_eqb (jobs-numbers.refusal_number why) 0 (λ none. omega (arith, number, none)) in
-        let here : by_step (fold n job) (kept n job) out (placed from (Read.Refused why) ∷ []) ≡ refused (jobs-numbers.refusal_number why) from out = rw some in
+        let here : by_step (fold n job) (kept n job) out (placed from (Err why) ∷ []) ≡ refused (jobs-numbers.refusal_number why) from out = rw some in
         record {
           answers = sym stands.gives ∙ ap (λ (list : List Placed). by_step (fold n job) (kept n job) out list) alone ∙ here;
           lays = sym (ap (λ (list : List Placed). laid (fold_steps n known job list) at run) alone) ∙ stands.lays;
         }
 
-    module _ (step : Step) (next : ℕ) (same : read ≡ Read.Step step next) where
+    module _ (step : Step) (next : ℕ) (same : read ≡ Ok (Some (step, next))) where
       pub step-inside : from + (1 + operands step) ≤ length job
       step-inside =
           let past = step_at-next job from step next (sym reads ∙ same) in

@@ -1,7 +1,7 @@
 -- Paper 01, "Folding": the folded job, from a given knowledge. "All other steps are copied."
-use Rattle.std.specs.Prelude.{ℕ, ◌+◌, List, [], ◌∷◌, ◌++◌, take, drop, if◌then◌else◌}
+use Rattle.std.specs.Prelude.{ℕ, ◌+◌, List, [], ◌∷◌, ◌++◌, take, drop, if◌then◌else◌, Some, None, Ok, Err}
 use Rattle.job.specs.declared.types.Step.{Step}
-use Rattle.job.specs.declared.types.Read.{Read}
+use Rattle.job.specs.Read.{Read}
 use Rattle.job.specs.Step.{operands}
 use Rattle.job.specs.Steps.{Placed, steps}
 use Rattle.stores.specs.Stores.{final_d}
@@ -35,14 +35,14 @@ raw_words job at step = take (1 + operands step) (drop at job)
 -- what stands at a place becomes, and what is known after it; what is no step becomes nothing, and the folder refuses
 -- the job for it
 unfoldable pub piece : (n : ℕ) → (known : List Known) → (job : List ℕ) → (at : ℕ) → Read → List ℕ
-piece n known job at (Read.Step step next) = becomes n known step (raw_words job at step)
-piece n known job at Read.End = []
-piece n known job at (Read.Refused why) = []
+piece n known job at (Ok (Some (step, next))) = becomes n known step (raw_words job at step)
+piece n known job at (Ok None) = []
+piece n known job at (Err why) = []
 
 unfoldable pub learned_after : (n : ℕ) → (known : List Known) → Read → List Known
-learned_after n known (Read.Step step next) = learned n known step
-learned_after n known Read.End = known
-learned_after n known (Read.Refused why) = known
+learned_after n known (Ok (Some (step, next))) = learned n known step
+learned_after n known (Ok None) = known
+learned_after n known (Err why) = known
 
 -- the folding of a job's steps, one after the other
 unfoldable pub fold_steps : (n : ℕ) → (known : List Known) → (job : List ℕ) → List Placed → List ℕ

@@ -1,8 +1,8 @@
 -- Paper 02, W12: "the folder says yes exactly when it is done and kept one for that alone": a blit that every other
 -- condition settles, and that goes round.
-use Rattle.std.specs.Prelude.{ℕ, Bool, false, ◌||◌, List, [], ◌∷◌}
+use Rattle.std.specs.Prelude.{ℕ, Bool, false, ◌||◌, List, [], ◌∷◌, Some, None, Ok, Err}
 use Rattle.job.specs.declared.types.Step.{Step}
-use Rattle.job.specs.declared.types.Read.{Read}
+use Rattle.job.specs.Read.{Read}
 use Rattle.job.specs.Steps.{Placed, steps}
 use Rattle.knowledge.specs.declared.types.Known.{Known}
 use Rattle.knowledge.specs.Knowledge.{nothing}
@@ -18,9 +18,9 @@ keeps_for_round n known (Step.Flag value) = false
 
 -- and what stands at a place
 unfoldable pub keeps_there : (n : ℕ) → (known : List Known) → Read → Bool
-keeps_there n known (Read.Step step next) = keeps_for_round n known step
-keeps_there n known Read.End = false
-keeps_there n known (Read.Refused why) = false
+keeps_there n known (Ok (Some (step, next))) = keeps_for_round n known step
+keeps_there n known (Ok None) = false
+keeps_there n known (Err why) = false
 
 -- some step of a job is, by what is known before it
 unfoldable pub keeps_some : (n : ℕ) → (known : List Known) → List Placed → Bool

@@ -1,7 +1,7 @@
 -- Paper 01, "Jobs": a job as the list of its steps, in their order, each with "the word index" of its first word.
 -- What is refused stands in the list too, at its place, and ends it.
-use Rattle.std.specs.Prelude.{ℕ, zero, suc, ◌+◌, List, [], ◌∷◌}
-use Rattle.job.specs.declared.types.Read.{Read}
+use Rattle.std.specs.Prelude.{ℕ, zero, suc, ◌+◌, List, [], ◌∷◌, Some, None, Ok, Err}
+use Rattle.job.specs.Read.{Read}
 use Rattle.job.specs.Step.{operands, front}
 
 pub record Placed : Type 0 where
@@ -13,9 +13,9 @@ placed place read = record { place = place; read = read }
 
 -- what comes behind: past a step's words the later steps, past what is refused none; the end has no words
 unfoldable pub behind : Read → (later : (skip : ℕ) → List Placed) → List Placed
-behind (Read.Step step next) later = later (operands step)
-behind Read.End later = later 0
-behind (Read.Refused why) later = []
+behind (Ok (Some (step, next))) later = later (operands step)
+behind (Ok None) later = later 0
+behind (Err why) later = []
 
 -- the steps of a run of words, of which the first is word `at` of the job and the first `skip` belong to the step
 -- before

@@ -11,23 +11,25 @@ pub struct Reader<'a> {
     pub place: usize,
 }
 
-// A reader that stands at a place of a job.
-pub fn stand<'a>(job: &'a [u16], place: usize) -> Reader<'a>
-    ensures { (result.job ≡ job.entry) × (result.place ≡ place) }
-{
-    Reader { job, place }
-}
+impl<'a> Reader<'a> {
+    // A reader that stands at a place of a job.
+    pub fn stand(job: &'a [u16], place: usize) -> Reader<'a>
+        ensures { (result.job ≡ job.entry) × (result.place ≡ place) }
+    {
+        Reader { job, place }
+    }
 
-// What stands at the reader's place.
-pub fn next<'a>(reader: Reader<'a>) -> Read
-    ensures { result ≡ step_at reader.entry.job.now reader.entry.place }
-{
-    step::step_at(reader.job, reader.place)
+    // What stands at the reader's place.
+    pub fn next(self) -> Read
+        ensures { result ≡ step_at self.entry.job.now self.entry.place }
+    {
+        step::step_at(self.job, self.place)
+    }
 }
 
 // What stands at a place of a job, with plain parameters: runner and folder call this one.
 pub fn read_at(job: &[u16], place: usize) -> Read
     ensures { result ≡ step_at job.now place }
 {
-    next(stand(job, place))
+    Reader::stand(job, place).next()
 }

@@ -1,37 +1,30 @@
 -- Laws of the knowledge as a list: its length, and the file of its numbers.
-use mathlib.Core.Path.{◌≡◌, refl}
-use Prim.Native.Nat.{ℕ, zero, suc, ◌<◌}
+use mathlib.Core.Path.{◌≡◌, refl, sym, ◌∙◌}
+use native.Mathlib.Omega.{arith}
+use Rattle.std.proofs.lemmas.Grind.{same_number_lists}
+use Prim.Native.Nat.{ℕ, zero, suc, ◌<◌, ◌≤◌}
 use native.Mathlib.Nat.{le_of_suc-le-suc, not-suc-le-zero}
-use mathlib.Core.List.{List, [], ◌∷◌, map}
-use lib.ListN.{length, get_or}
+use mathlib.Core.List.{List, [], ◌∷◌}
+use lib.ListN.{length, get_or, length-map}
+use Rattle.std.specs.Prelude.{Option}
 use Rattle.file.specs.Places.{blitter_length}
-use Rattle.knowledge.specs.declared.types.Known.{Known}
-use Rattle.knowledge.specs.declared.types.Known.TheVariants.{Unknown}
-use Rattle.knowledge.specs.declared.types.Knowledge.{Knowledge}
-use Rattle.knowledge.specs.Known.{number}
-use Rattle.knowledge.specs.Knowledge.{controls, halves, modulos, sources, listed, nothing, numbers}
+use Rattle.knowledge.specs.Knowledge.{known_at, nothing, number, numbers}
 
 pub nothing-length : length nothing ≡ blitter_length
 nothing-length = refl
 
 -- a register's number stands at its place
-pub numbers-at : (known : List Known) (place : ℕ) → place < length known → get_or (numbers known) place 0 ≡ number (get_or known place Unknown)
+pub numbers-at : (known : List (Option ℕ)) (place : ℕ) → place < length known → get_or (numbers known) place 0 ≡ number (known_at known place)
 unfolding numbers
 numbers-at [] place inside = absurd (not-suc-le-zero inside)
 numbers-at (first ∷ rest) zero inside = refl
 numbers-at (first ∷ rest) (suc place) inside = numbers-at rest place (le_of_suc-le-suc inside)
 
--- the file of the numbers, part by part
-pub numbers-of-parts : (knowledge : Knowledge) (control c b a d modulo source : List ℕ)
-    → control ≡ map number (controls knowledge.controls)
-    → c ≡ map number (halves knowledge.pointers.c) → b ≡ map number (halves knowledge.pointers.b)
-    → a ≡ map number (halves knowledge.pointers.a) → d ≡ map number (halves knowledge.pointers.d)
-    → modulo ≡ map number (modulos knowledge.modulos) → source ≡ map number (sources knowledge.sources)
-    → (get_or control 0 0 ∷ get_or control 1 0 ∷ get_or control 2 0 ∷ get_or control 3 0
-    ∷ get_or c 0 0 ∷ get_or c 1 0 ∷ get_or b 0 0 ∷ get_or b 1 0 ∷ get_or a 0 0 ∷ get_or a 1 0 ∷ get_or d 0 0 ∷ get_or d 1 0
-    ∷ get_or modulo 0 0 ∷ get_or modulo 1 0 ∷ get_or modulo 2 0 ∷ get_or modulo 3 0
-    ∷ get_or source 0 0 ∷ get_or source 1 0 ∷ get_or source 2 0 ∷ [])
-    ≡ numbers (listed knowledge)
+-- words that hold each register's number are the file of the numbers
+pub numbers-of-places : (known : List (Option ℕ)) (words : List ℕ) (place : ℕ)
+    → length words ≡ blitter_length → length known ≡ blitter_length → blitter_length ≤ place
+    → ((k : ℕ) → k < place → get_or words k 0 ≡ number (known_at known k)) → words ≡ numbers known
 unfolding numbers
-numbers-of-parts knowledge control c b a d modulo source is_control is_c is_b is-a is-d is-modulo is-source =
-    rw (is_control, is_c, is_b, is-a, is-d, is-modulo, is-source)
+numbers-of-places known words place long held past each =
+    same_number_lists words (numbers known) (long ∙ sym held ∙ sym (length-map known number))
+    (λ (k : ℕ) (inside : k < length words). each k (omega arith) ∙ sym (numbers-at known k (omega arith)))

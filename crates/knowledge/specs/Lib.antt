@@ -1,3 +1,2 @@
 -- What a reader must believe of the folder's knowledge.
-pub mod Known
 pub mod Knowledge

@@ -2,6 +2,4 @@
 #![tactic(auto)]
 
 pub mod knowledge;
-pub mod known;
-pub mod parts;
 pub mod types;

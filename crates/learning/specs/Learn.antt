@@ -1,38 +1,33 @@
 -- Paper 01, "Folding": what a step does to the folder's knowledge, a list of what is known of each register in the
 -- file's order.
-use Rattle.std.specs.Prelude.{ℕ, ◌+◌, Bool, true, List, get_or, set, if◌then◌else◌}
+use Rattle.std.specs.Prelude.{ℕ, ◌+◌, Bool, true, List, Option, Some, None, is_some, set, if◌then◌else◌}
 use Rattle.word.specs.declared.types.Pointer.{Pointer}
 use Rattle.word.specs.Pointer.{high, low}
 use Rattle.file.specs.File.{kept}
 use Rattle.file.specs.Places.{control0, pointer_a, pointer_b, pointer_c, pointer_d, source_a, source_b, source_c}
 use Rattle.word.specs.Types.{Uses}
 use Rattle.word.specs.Control.{uses}
-use Rattle.knowledge.specs.declared.types.Known.{Known}
-use Rattle.knowledge.specs.Known.{number, is_known}
-
--- what is known of the register at a place
-abbrev pub known_at : (known : List Known) → (place : ℕ) → Known
-known_at known place = get_or known place Known.Unknown
+use Rattle.knowledge.specs.Knowledge.{known_at, number}
 
 -- "A register write makes it known": with the bits that it keeps
-unfoldable pub written : (place value : ℕ) → (known : List Known) → List Known
-written place value known = set known place (Known.Is (kept place value))
+unfoldable pub written : (place value : ℕ) → (known : List (Option ℕ)) → List (Option ℕ)
+written place value known = set known place (Some (kept place value))
 
 -- the channels that a kept blit may use: "all channels if BLTCON0 isn't known"
-unfoldable pub may_use : (known : List Known) → Uses
+unfoldable pub may_use : (known : List (Option ℕ)) → Uses
 may_use known =
-    if is_known (known_at known control0) then uses (number (known_at known control0)) else
+    if is_some (known_at known control0) then uses (number (known_at known control0)) else
     record { a = true; b = true; c = true; d = true }
 
 -- "makes the pointer and data register of each used channel not known"
-unfoldable pub forget_pointer : (used : Bool) → (place : ℕ) → (known : List Known) → List Known
+unfoldable pub forget_pointer : (used : Bool) → (place : ℕ) → (known : List (Option ℕ)) → List (Option ℕ)
 forget_pointer used place known =
-    if used then set (set known place Known.Unknown) (place + 1) Known.Unknown else known
+    if used then set (set known place None) (place + 1) None else known
 
-unfoldable pub forget_source : (used : Bool) → (place : ℕ) → (known : List Known) → List Known
-forget_source used place known = if used then set known place Known.Unknown else known
+unfoldable pub forget_source : (used : Bool) → (place : ℕ) → (known : List (Option ℕ)) → List (Option ℕ)
+forget_source used place known = if used then set known place None else known
 
-unfoldable pub forget_used : Uses → (known : List Known) → List Known
+unfoldable pub forget_used : Uses → (known : List (Option ℕ)) → List (Option ℕ)
 forget_used uses known =
     forget_source uses.c source_c
     (forget_source uses.b source_b
@@ -43,9 +38,9 @@ forget_used uses known =
     (forget_pointer uses.a pointer_a known))))))
 
 -- after a kept 058
-unfoldable pub forgotten : (known : List Known) → List Known
+unfoldable pub forgotten : (known : List (Option ℕ)) → List (Option ℕ)
 forgotten known = forget_used (may_use known) known
 
 -- after a settled 058: "The D pointer is then known."
-unfoldable pub moved_d : Pointer → (known : List Known) → List Known
-moved_d pointer known = set (set known pointer_d (Known.Is (high pointer))) (pointer_d + 1) (Known.Is (low pointer))
+unfoldable pub moved_d : Pointer → (known : List (Option ℕ)) → List (Option ℕ)
+moved_d pointer known = set (set known pointer_d (Some (high pointer))) (pointer_d + 1) (Some (low pointer))

@@ -3,28 +3,27 @@
 
 ghost use Rattle.std.specs.Prelude.{◌≡◌, ◌<◌};
 ghost use Rattle.file.specs.Places.{file_length, pointer_a, pointer_b, pointer_c, pointer_d};
-ghost use Rattle.knowledge.specs.Knowledge.{listed};
 ghost use Rattle.learning.specs.Learn.{written, may_use, forget_pointer, forget_source, forget_used};
 ghost use Rattle.learning.specs.Learn.{forgotten, moved_d};
 
-use knowledge::types::{Knowledge, Known};
+use knowledge::types::Knowledge;
 use word::types::{Pointer, Uses};
 
 // A register write makes it known.
-pub fn written(known: Knowledge, place: u32, value: u16) -> Knowledge
-    ensures { listed result ≡ written place value (listed known) }
+#[tactic(auto, unfolding(crate::specs::Learn::written))]
+pub fn written(known: &mut Knowledge, place: u32, value: u16)
+    ensures { known.new.registers ≡ written place value known.old.registers }
 {
-    known.with(place, Known::Is(file::kept(place, value)))
+    known.put(place, Some(file::kept(place, value)));
 }
 
-fn may_use(known: Knowledge) -> Uses
-    ensures { result ≡ may_use (listed known) }
+#[tactic(auto, unfolding(crate::specs::Learn::may_use))]
+fn may_use(known: &Knowledge) -> Uses
+    ensures { result ≡ may_use known.now.registers }
 {
-    let controls = known.controls;
-    let con0 = controls.con0;
-    match con0 {
-        Known::Is(number) => word::control::uses(number),
-        Known::Unknown => Uses {
+    match known.at(file::CONTROL_0) {
+        Some(number) => word::control::uses(number),
+        None => Uses {
             a: true,
             b: true,
             c: true,
@@ -33,59 +32,63 @@ fn may_use(known: Knowledge) -> Uses
     }
 }
 
-fn forget_pointer(known: Knowledge, used: bool, place: u32) -> Knowledge
+#[tactic(auto, unfolding(crate::specs::Learn::forget_pointer))]
+fn forget_pointer(known: &mut Knowledge, used: bool, place: u32)
     requires { place < file_length }
-    ensures { listed result ≡ forget_pointer used place (listed known) }
+    ensures { known.new.registers ≡ forget_pointer used place known.old.registers }
 {
     if used {
-        let first = known.with(place, Known::Unknown);
-        return first.with(place + 1, Known::Unknown);
+        known.put(place, None);
+        known.put(place + 1, None);
     }
-    known
 }
 
-fn forget_source(known: Knowledge, used: bool, place: u32) -> Knowledge
-    ensures { listed result ≡ forget_source used place (listed known) }
+#[tactic(auto, unfolding(crate::specs::Learn::forget_source))]
+fn forget_source(known: &mut Knowledge, used: bool, place: u32)
+    ensures { known.new.registers ≡ forget_source used place known.old.registers }
 {
     if used {
-        return known.with(place, Known::Unknown);
+        known.put(place, None);
     }
-    known
 }
 
-fn forget_pointers(known: Knowledge, uses: Uses) -> Knowledge
-    ensures { listed result
+fn forget_pointers(known: &mut Knowledge, uses: Uses)
+    ensures { known.new.registers
         ≡ forget_pointer uses.d pointer_d
         (forget_pointer uses.c pointer_c
         (forget_pointer uses.b pointer_b
-        (forget_pointer uses.a pointer_a (listed known)))) }
+        (forget_pointer uses.a pointer_a known.old.registers))) }
 {
-    let no_a = forget_pointer(known, uses.a, file::POINTER_A);
-    let no_b = forget_pointer(no_a, uses.b, file::POINTER_B);
-    let no_c = forget_pointer(no_b, uses.c, file::POINTER_C);
-    forget_pointer(no_c, uses.d, file::POINTER_D)
+    forget_pointer(known, uses.a, file::POINTER_A);
+    forget_pointer(known, uses.b, file::POINTER_B);
+    forget_pointer(known, uses.c, file::POINTER_C);
+    forget_pointer(known, uses.d, file::POINTER_D);
 }
 
-fn forget_used(known: Knowledge, uses: Uses) -> Knowledge
-    ensures { listed result ≡ forget_used uses (listed known) }
+#[tactic(auto, unfolding(crate::specs::Learn::forget_used))]
+fn forget_used(known: &mut Knowledge, uses: Uses)
+    ensures { known.new.registers ≡ forget_used uses known.old.registers }
 {
-    let pointed = forget_pointers(known, uses);
-    let no_a = forget_source(pointed, uses.a, file::SOURCE_A);
-    let no_b = forget_source(no_a, uses.b, file::SOURCE_B);
-    forget_source(no_b, uses.c, file::SOURCE_C)
+    forget_pointers(known, uses);
+    forget_source(known, uses.a, file::SOURCE_A);
+    forget_source(known, uses.b, file::SOURCE_B);
+    forget_source(known, uses.c, file::SOURCE_C);
 }
 
 // After a kept 058.
-pub fn forgotten(known: Knowledge) -> Knowledge
-    ensures { listed result ≡ forgotten (listed known) }
+#[tactic(auto, unfolding(crate::specs::Learn::forgotten))]
+pub fn forgotten(known: &mut Knowledge)
+    ensures { known.new.registers ≡ forgotten known.old.registers }
 {
-    forget_used(known, may_use(known))
+    let uses = may_use(known);
+    forget_used(known, uses);
 }
 
 // After a settled 058, with the final D pointer.
-pub fn moved_d(known: Knowledge, pointer: Pointer) -> Knowledge
-    ensures { listed result ≡ moved_d pointer (listed known) }
+#[tactic(auto, unfolding(crate::specs::Learn::moved_d))]
+pub fn moved_d(known: &mut Knowledge, pointer: Pointer)
+    ensures { known.new.registers ≡ moved_d pointer known.old.registers }
 {
-    let half = known.with(file::POINTER_D, Known::Is(pointer.high()));
-    half.with(file::POINTER_D + 1, Known::Is(pointer.low()))
+    known.put(file::POINTER_D, Some(pointer.high()));
+    known.put(file::POINTER_D + 1, Some(pointer.low()));
 }

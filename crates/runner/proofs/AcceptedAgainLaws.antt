@@ -1,5 +1,6 @@
 -- What a step and a run leave is accepted again: a register keeps its bits, a store puts a word of the job into memory, a flag
 -- step sets the flag to 0 or 1, and a blit leaves what is accepted.
+use Rattle.std.specs.Prelude.{Option, Some, None, Ok, Err}
 use Rattle.word.proofs.Base.{refl, ◌∙◌, ℕ, zero, suc, ◌+◌, ◌<◌, false, ◌&&◌, eqb, leb, List, [], ◌∷◌}
 use Rattle.word.proofs.Base.{drop, length-set}
 use lib.Dec.{lit<}
@@ -15,7 +16,7 @@ use Rattle.blit.specs.Blit.{Outcome, refused}
 use Rattle.blit.proofs.AcceptedAgain as blits
 use Rattle.job.specs.declared.types.Kind.{Kind}
 use Rattle.job.specs.declared.types.Step.{Step}
-use Rattle.job.specs.declared.types.Read.{Read}
+use Rattle.job.specs.Read.{Read}
 use Rattle.job.specs.Kind.{kind}
 use Rattle.job.specs.declared.types.Refusal.{Refusal}
 use Rattle.job.specs.Step.{found, is_odd, begun, front, step_at, read_number}
@@ -28,19 +29,19 @@ use Rattle.runner.proofs.EffectLaws.{step_effect-either, step_effect-of-blit}
 
 -- what a step of words of 16 bits has: a store a word of 16 bits, a flag step 0 or 1
 abbrev OfWords : Read → Type 0
-OfWords (Read.Step (Step.Register to value) next) = Unit
-OfWords (Read.Step (Step.Size size) next) = Unit
-OfWords (Read.Step (Step.Store to value) next) = value < 65536
-OfWords (Read.Step (Step.Flag value) next) = value < 2
-OfWords Read.End = Unit
-OfWords (Read.Refused why) = Unit
+OfWords (Ok (Some (Step.Register to value, next))) = Unit
+OfWords (Ok (Some (Step.Size size, next))) = Unit
+OfWords (Ok (Some (Step.Store to value, next))) = value < 65536
+OfWords (Ok (Some (Step.Flag value, next))) = value < 2
+OfWords (Ok None) = Unit
+OfWords (Err why) = Unit
 
-abbrev FlagBit : Kind → Type 0
-FlagBit (Kind.Register to) = Unit
-FlagBit Kind.Size = Unit
-FlagBit (Kind.Store high) = Unit
-FlagBit (Kind.Flag value) = value < 2
-FlagBit Kind.Nothing = Unit
+abbrev FlagBit : Option Kind → Type 0
+FlagBit (Some (Kind.Register to)) = Unit
+FlagBit (Some Kind.Size) = Unit
+FlagBit (Some (Kind.Store high)) = Unit
+FlagBit (Some (Kind.Flag value)) = value < 2
+FlagBit None = Unit
 
 kind-of-flag : (first : ℕ) → FlagBit (kind first)
 unfolding kind
@@ -50,18 +51,18 @@ kind-of-flag first =
     (if-either FlagBit (leb 0x8000 first && leb first 0x8007) _ _ tt
     (if-either FlagBit (eqb first 0xC000) _ _ (lit< tt) (if-either FlagBit (eqb first 0xC001) _ _ (lit< tt) tt))))
 
-begun-of-words : (begins : Kind) (at : ℕ) (rest : List ℕ) → FlagBit begins → SixteenBits rest → OfWords (begun begins at rest)
+begun-of-words : (begins : Option Kind) (at : ℕ) (rest : List ℕ) → FlagBit begins → SixteenBits rest → OfWords (begun begins at rest)
 unfolding begun found
-begun-of-words Kind.Nothing at rest bit all = tt
-begun-of-words (Kind.Register to) at [] bit all = tt
-begun-of-words (Kind.Register to) at (value ∷ rest) bit all = tt
-begun-of-words Kind.Size at [] bit all = tt
-begun-of-words Kind.Size at (value ∷ rest) bit all = tt
-begun-of-words (Kind.Store high) at [] bit all = tt
-begun-of-words (Kind.Store high) at (low ∷ []) bit all = tt
-begun-of-words (Kind.Store high) at (low ∷ value ∷ rest) bit all =
-    if-either OfWords (is_odd low) (Read.Refused Refusal.OddStore) (found at (Step.Store (pointer high low).word value)) tt (all 1)
-begun-of-words (Kind.Flag value) at rest bit all = bit
+begun-of-words None at rest bit all = tt
+begun-of-words (Some (Kind.Register to)) at [] bit all = tt
+begun-of-words (Some (Kind.Register to)) at (value ∷ rest) bit all = tt
+begun-of-words (Some Kind.Size) at [] bit all = tt
+begun-of-words (Some Kind.Size) at (value ∷ rest) bit all = tt
+begun-of-words (Some (Kind.Store high)) at [] bit all = tt
+begun-of-words (Some (Kind.Store high)) at (low ∷ []) bit all = tt
+begun-of-words (Some (Kind.Store high)) at (low ∷ value ∷ rest) bit all =
+    if-either OfWords (is_odd low) (Err Refusal.OddStore) (found at (Step.Store (pointer high low).word value)) tt (all 1)
+begun-of-words (Some (Kind.Flag value)) at rest bit all = bit
 
 front-of-words : (at : ℕ) (words : List ℕ) → SixteenBits words → OfWords (front at words)
 unfolding front
@@ -80,7 +81,7 @@ module _ (n : ℕ) (memory file : List ℕ) (ready : Ready n memory file) where
 
   effect-ready : (read : Read) → OfWords read → ReadyAfter n (effect read memory file)
   unfolding ReadyAfter effect taken kept_bits registers
-  effect-ready (Read.Step (Step.Register to value) next) fine =
+  effect-ready (Ok (Some (Step.Register to value, next))) fine =
       step_effect-either (ReadyAfter n) (Step.Register to value) memory file
       (record {
         long = ready.long;
@@ -88,9 +89,9 @@ module _ (n : ℕ) (memory file : List ℕ) (ready : Ready n memory file) where
         fine = accepted-of-set file ready.fine to (kept to value) (kept_again to value);
       })
       ready-when-refused
-  effect-ready (Read.Step (Step.Size size) next) fine =
+  effect-ready (Ok (Some (Step.Size size, next))) fine =
       rw (step_effect-of-blit size memory file) ((blits.accepted-again).step n memory file size ready)
-  effect-ready (Read.Step (Step.Store to value) next) fine =
+  effect-ready (Ok (Some (Step.Store to value, next))) fine =
       step_effect-either (ReadyAfter n) (Step.Store to value) memory file
       (record {
         long = length-set memory to value ∙ ready.long;
@@ -98,7 +99,7 @@ module _ (n : ℕ) (memory file : List ℕ) (ready : Ready n memory file) where
         fine = ready.fine;
       })
       ready-when-refused
-  effect-ready (Read.Step (Step.Flag value) next) fine =
+  effect-ready (Ok (Some (Step.Flag value, next))) fine =
       step_effect-either (ReadyAfter n) (Step.Flag value) memory file
       (record {
         long = ready.long;
@@ -106,8 +107,8 @@ module _ (n : ℕ) (memory file : List ℕ) (ready : Ready n memory file) where
         fine = accepted-of-set file ready.fine flag value (kept-of-bits flag value 1 refl fine);
       })
       ready-when-refused
-  effect-ready Read.End fine = ready
-  effect-ready (Read.Refused why) fine = ready-when-refused (read_number (Read.Refused why))
+  effect-ready (Ok None) fine = ready
+  effect-ready (Err why) fine = ready-when-refused (read_number (Err why))
 
 -- the words of a job from a place on
 SixteenBits-of-drop : (job : List ℕ) (at : ℕ) → SixteenBits job → SixteenBits (drop at job)

@@ -1,10 +1,10 @@
 -- Laws of a refused run: where it stops, the words before that place are whole steps, and their run is done.
-use Rattle.std.specs.Prelude.{if◌then◌else◌}
+use Rattle.std.specs.Prelude.{if◌then◌else◌, Some, None, Ok, Err}
 use Rattle.word.proofs.Base.{◌≡◌, refl, sym, ap, ◌∙◌, ℕ, zero, suc, ◌+◌, ◌≤◌, add-zero, arith, Bool, true, false, ◌&&◌}
 use Rattle.word.proofs.Base.{eqb, eq-eqb, eqb-true, List, [], ◌∷◌, take, drop}
 use Rattle.blit.specs.Blit.{refused}
 use Rattle.job.specs.declared.types.Step.{Step}
-use Rattle.job.specs.declared.types.Read.{Read}
+use Rattle.job.specs.Read.{Read}
 use Rattle.job.specs.Step.{operands, front}
 use Rattle.job.specs.Steps.{Placed, placed, behind, steps_from}
 use Rattle.job.proofs.StepsLaws.{behind-either, read_number-of-refused}
@@ -18,7 +18,7 @@ use Rattle.runner.proofs.RunLaws.{run_steps-when-done, run_steps-when-refused}
 pub record IsStep (read : Read) : Type 0 where
   pub step : Step
   pub next : ℕ
-  pub same : read ≡ Read.Step step next
+  pub same : read ≡ Ok (Some (step, next))
 
 front-when-done : (before : Machine) (at first : ℕ) (rest : List ℕ)
     → (effect_on before (front at (first ∷ rest))).number ≡ 0 → IsStep (front at (first ∷ rest))
@@ -26,9 +26,9 @@ unfolding effect refused
 front-when-done before at first rest done = by_read (front at (first ∷ rest)) refl done
   where
     by_read : (read : Read) → front at (first ∷ rest) ≡ read → (effect_on before read).number ≡ 0 → IsStep read
-    by_read (Read.Step step next) reads done = record { step = step; next = next; same = refl }
-    by_read Read.End reads done = absurd (front-is-some at first rest reads)
-    by_read (Read.Refused why) reads done = absurd (omega (arith, read_number-of-refused why))
+    by_read (Ok (Some (step, next))) reads done = record { step = step; next = next; same = refl }
+    by_read (Ok None) reads done = absurd (front-is-some at first rest reads)
+    by_read (Err why) reads done = absurd (omega (arith, read_number-of-refused why))
 
 -- where a run of words is refused: so many words before it are whole steps, and their run is done
 pub record CutBefore (skip at : ℕ) (words : List ℕ) (before : Machine) (end : End) : Type 0 where
@@ -56,8 +56,8 @@ cut_later skip at word rest before end cut =
 
 -- a step that is done before the run
 cut-after-step : (at first : ℕ) (rest : List ℕ) (before : Machine) (end : End) (step : Step) (next : ℕ)
-    → front at (first ∷ rest) ≡ Read.Step step next → (effect_on before (Read.Step step next)).number ≡ 0
-    → CutBefore (operands step) (at + 1) rest (after before (effect_on before (Read.Step step next))) end
+    → front at (first ∷ rest) ≡ Ok (Some (step, next)) → (effect_on before (Ok (Some (step, next)))).number ≡ 0
+    → CutBefore (operands step) (at + 1) rest (after before (effect_on before (Ok (Some (step, next))))) end
     → CutBefore 0 at (first ∷ rest) before end
 unfolding steps_from behind
 cut-after-step at first rest before end step next reads taken cut =
@@ -69,8 +69,8 @@ cut-after-step at first rest before end step next reads taken cut =
       done =
           ap (λ (read : Read). run_steps (placed at read ∷ behind read (λ skip. steps_from skip (at + 1) (take cut.many rest))) before)
           (front-of-take at cut.many first rest step next reads cut.past)
-          ∙ run_steps-when-done (placed at (Read.Step step next)) (steps_from (operands step) (at + 1) (take cut.many rest)) before
-          (effect_on before (Read.Step step next)) refl taken
+          ∙ run_steps-when-done (placed at (Ok (Some (step, next)))) (steps_from (operands step) (at + 1) (take cut.many rest)) before
+          (effect_on before (Ok (Some (step, next)))) refl taken
           ∙ cut.done;
       here =
           ap (λ (to : ℕ). (effect_on end.machine (front to (drop cut.many rest))).number) (sym same)
@@ -104,12 +104,12 @@ cut-by-read : (at first : ℕ) (rest : List ℕ) (before : Machine) (read : Read
     → IsStep read → (effect_on before read).number ≡ 0 → ((onward read at rest before).number ≡ 0 → ⊥)
     → CutBefore 0 at (first ∷ rest) before (onward read at rest before)
 unfolding onward behind
-cut-by-read at first rest before (Read.Step step next) reads later found done refusal =
+cut-by-read at first rest before (Ok (Some (step, next))) reads later found done refusal =
     cut-after-step at first rest before
-    (run_steps (steps_from (operands step) (at + 1) rest) (after before (effect_on before (Read.Step step next)))) step next reads done
-    (later (operands step) (after before (effect_on before (Read.Step step next))) refusal)
-cut-by-read at first rest before Read.End reads later found done refusal = absurd (front-is-some at first rest reads)
-cut-by-read at first rest before (Read.Refused why) reads later found done refusal =
+    (run_steps (steps_from (operands step) (at + 1) rest) (after before (effect_on before (Ok (Some (step, next)))))) step next reads done
+    (later (operands step) (after before (effect_on before (Ok (Some (step, next))))) refusal)
+cut-by-read at first rest before (Ok None) reads later found done refusal = absurd (front-is-some at first rest reads)
+cut-by-read at first rest before (Err why) reads later found done refusal =
     let same = found.same in let n : ◌≡◌ {A = ℕ} 0 1 = cc in absurd (omega arith)
 
 pub cut-before : (skip at : ℕ) (words : List ℕ) (before : Machine) → ((run_steps (steps_from skip at words) before).number ≡ 0 → ⊥)

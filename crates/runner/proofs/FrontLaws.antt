@@ -1,18 +1,18 @@
 -- Laws of what stands at the front of a run of words: a step stands there too when the run is cut after it, and the end never does.
-use Rattle.std.specs.Prelude.{if◌then◌else◌}
+use Rattle.std.specs.Prelude.{if◌then◌else◌, Some, None, Ok, Err}
 use Rattle.word.proofs.Base.{◌≡◌, ap, ℕ, zero, suc, ◌≤◌, arith, Bool, true, false, List, [], ◌∷◌, length, take}
 use Rattle.word.specs.Pointer.{pointer}
 use Rattle.job.specs.declared.types.Kind.{Kind}
 use Rattle.job.specs.declared.types.Step.{Step}
 use Rattle.job.specs.declared.types.Refusal.{Refusal}
-use Rattle.job.specs.declared.types.Read.{Read}
+use Rattle.job.specs.Read.{Read}
 use Rattle.job.specs.Kind.{kind}
 use Rattle.job.specs.Step.{operands, found, is_odd, begun, front}
 use Rattle.job.proofs.StepLaws.{front-of-end}
 
 -- a step stands whole in a run of words that is cut after its last word
 begun-of-take : (begins : Kind) (at more : ℕ) (rest : List ℕ) (step : Step) (next : ℕ)
-    → begun begins at rest ≡ Read.Step step next → operands step ≤ more → begun begins at (take more rest) ≡ Read.Step step next
+    → begun begins at rest ≡ Ok (Some (step, next)) → operands step ≤ more → begun begins at (take more rest) ≡ Ok (Some (step, next))
 unfolding begun found operands
 begun-of-take Kind.Nothing at more rest step next reads fits = reads
 begun-of-take (Kind.Register place) at more [] step next reads fits = let n : ◌≡◌ {A = ℕ} 0 1 = cc in absurd (omega arith)
@@ -27,22 +27,22 @@ begun-of-take (Kind.Store high) at more [] step next reads fits = let n : ◌≡
 begun-of-take (Kind.Store high) at more (low ∷ []) step next reads fits = let n : ◌≡◌ {A = ℕ} 0 1 = cc in absurd (omega arith)
 begun-of-take (Kind.Store high) at zero (low ∷ value ∷ rest) step next reads fits = absurd (short (is_odd low) reads)
   where
-    short : (odd : Bool) → (if odd then Read.Refused Refusal.OddStore else found at (Step.Store (pointer high low).word value)) ≡ Read.Step step next → ⊥
+    short : (odd : Bool) → (if odd then Err Refusal.OddStore else found at (Step.Store (pointer high low).word value)) ≡ Ok (Some (step, next)) → ⊥
     short true reads = let n : ◌≡◌ {A = ℕ} 0 1 = cc in omega arith
     short false reads = let same : Step.Store (pointer high low).word value ≡ step = cc in omega (arith, ap operands same)
 begun-of-take (Kind.Store high) at (suc zero) (low ∷ value ∷ rest) step next reads fits = absurd (short (is_odd low) reads)
   where
-    short : (odd : Bool) → (if odd then Read.Refused Refusal.OddStore else found at (Step.Store (pointer high low).word value)) ≡ Read.Step step next → ⊥
+    short : (odd : Bool) → (if odd then Err Refusal.OddStore else found at (Step.Store (pointer high low).word value)) ≡ Ok (Some (step, next)) → ⊥
     short true reads = let n : ◌≡◌ {A = ℕ} 0 1 = cc in omega arith
     short false reads = let same : Step.Store (pointer high low).word value ≡ step = cc in omega (arith, ap operands same)
 begun-of-take (Kind.Store high) at (suc (suc more)) (low ∷ value ∷ rest) step next reads fits = reads
 begun-of-take (Kind.Flag flag) at more rest step next reads fits = reads
 
 pub front-of-take : (at more first : ℕ) (rest : List ℕ) (step : Step) (next : ℕ)
-    → front at (first ∷ rest) ≡ Read.Step step next → operands step ≤ more → front at (first ∷ take more rest) ≡ Read.Step step next
+    → front at (first ∷ rest) ≡ Ok (Some (step, next)) → operands step ≤ more → front at (first ∷ take more rest) ≡ Ok (Some (step, next))
 unfolding front
 front-of-take at more first rest step next reads fits = begun-of-take (kind first) at more rest step next reads fits
 
 -- what a first word begins is never the end
-pub front-is-some : (at first : ℕ) (rest : List ℕ) → front at (first ∷ rest) ≡ Read.End → ⊥
+pub front-is-some : (at first : ℕ) (rest : List ℕ) → front at (first ∷ rest) ≡ Ok None → ⊥
 front-is-some at first rest reads = let none : length (first ∷ rest) ≡ 0 = front-of-end at (first ∷ rest) reads in omega arith

@@ -1,12 +1,12 @@
 -- Laws of the lengths of memory and file: no step changes them, and no run changes that of memory.
-use Rattle.std.specs.Prelude.{if◌then◌else◌}
+use Rattle.std.specs.Prelude.{if◌then◌else◌, Some, None, Ok, Err}
 use Rattle.word.proofs.Base.{◌≡◌, refl, ◌∙◌, ℕ, Bool, true, false, eqb, List, [], ◌∷◌, length, length-set}
 use Rattle.file.specs.File.{kept}
 use Rattle.file.specs.Places.{flag}
 use Rattle.blit.specs.Blit.{Outcome, refused}
 use Rattle.blit.proofs.BlitLaws.{blit_step-keeps-memory-length, blit_step-keeps-file-length}
 use Rattle.job.specs.declared.types.Step.{Step}
-use Rattle.job.specs.declared.types.Read.{Read}
+use Rattle.job.specs.Read.{Read}
 use Rattle.job.specs.Steps.{Placed}
 use Rattle.runner.specs.Effect.{taken, step_effect, effect}
 use Rattle.runner.proofs.EffectLaws.{step_effect-either, step_effect-of-blit}
@@ -36,9 +36,9 @@ step_effect-keeps-lengths (Step.Flag value) memory file =
 
 effect-keeps-lengths : (read : Read) (memory file : List ℕ) → SameLengths memory file (effect read memory file)
 unfolding SameLengths effect refused
-effect-keeps-lengths (Read.Step step next) memory file = step_effect-keeps-lengths step memory file
-effect-keeps-lengths Read.End memory file = (refl, refl)
-effect-keeps-lengths (Read.Refused why) memory file = (refl, refl)
+effect-keeps-lengths (Ok (Some (step, next))) memory file = step_effect-keeps-lengths step memory file
+effect-keeps-lengths (Ok None) memory file = (refl, refl)
+effect-keeps-lengths (Err why) memory file = (refl, refl)
 
 pub effect-keeps-memory-length : (read : Read) (memory file : List ℕ) → length (effect read memory file).memory ≡ length memory
 unfolding SameLengths

@@ -1,11 +1,11 @@
 -- The yes of a run is some of its blits': each step adds its own, and only a blit has one.
-use Rattle.std.specs.Prelude.{if◌then◌else◌}
+use Rattle.std.specs.Prelude.{if◌then◌else◌, Some, None, Ok, Err}
 use Rattle.word.proofs.Base.{◌≡◌, refl, sym, ap, ◌∙◌, ℕ, Bool, true, false, ◌||◌, eqb, eqb-true, List, [], ◌∷◌, ◌++◌}
 use mathlib.Core.Bool.{or-false, or_assoc}
 use Rattle.blit.specs.Blit.{Outcome, refused}
 use Rattle.blit.proofs.BlitLaws.{done-round}
 use Rattle.job.specs.declared.types.Step.{Step}
-use Rattle.job.specs.declared.types.Read.{Read}
+use Rattle.job.specs.Read.{Read}
 use Rattle.job.specs.Steps.{Placed, steps}
 use Rattle.runner.specs.Effect.{taken, effect}
 use Rattle.runner.specs.Run.{Machine, machine, effect_on, after, ended, run_steps, start_refusal, run}
@@ -19,7 +19,7 @@ some-of-append (first ∷ rest) others =
     ap (λ (later : Bool). first || later) (some-of-append rest others) ∙ sym (or_assoc first (some rest) (some others))
 
 -- what a step that is done says is what its blit says
-taken-round : (step : Step) (next : ℕ) (memory file : List ℕ) → (taken step memory file).round ≡ some (round_here file (Read.Step step next))
+taken-round : (step : Step) (next : ℕ) (memory file : List ℕ) → (taken step memory file).round ≡ some (round_here file (Ok (Some (step, next))))
 unfolding taken round_here some
 taken-round (Step.Register place value) next memory file = refl
 taken-round (Step.Size size) next memory file = done-round memory file size ∙ sym (or-false _)
@@ -28,10 +28,10 @@ taken-round (Step.Flag value) next memory file = refl
 
 effect-round : (read : Read) (memory file : List ℕ) → (effect read memory file).number ≡ 0 → (effect read memory file).round ≡ some (round_here file read)
 unfolding effect refused round_here some
-effect-round (Read.Step step next) memory file done =
+effect-round (Ok (Some (step, next))) memory file done =
     ap (λ (outcome : Outcome). outcome.round) (step_effect-when-done step memory file done) ∙ taken-round step next memory file
-effect-round Read.End memory file done = refl
-effect-round (Read.Refused why) memory file done = refl
+effect-round (Ok None) memory file done = refl
+effect-round (Err why) memory file done = refl
 
 run_steps-round : (list : List Placed) (before : Machine) → (run_steps list before).machine.round ≡ (before.round || some (rounds_in list before))
 unfolding run_steps rounds_in some

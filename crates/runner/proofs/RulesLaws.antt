@@ -1,5 +1,5 @@
 -- Laws of the rules: the first that applies has the number that the effect has, and every number of theirs is past 3.
-use Rattle.std.specs.Prelude.{if◌then◌else◌}
+use Rattle.std.specs.Prelude.{if◌then◌else◌, Some, None, Ok, Err}
 use Rattle.word.proofs.Base.{◌≡◌, refl, sym, ◌∙◌, ℕ, ◌<◌, Bool, true, false, ◌&&◌, eqb, ltb, eqb-true, ltb-true, List}
 use Rattle.word.proofs.Base.{[], ◌∷◌, length}
 use Rattle.word.specs.Choice.{Rule, given}
@@ -9,7 +9,7 @@ use Rattle.refusal.proofs.PlanLaws.{line_or_area-cases}
 use Rattle.blit.specs.Blit.{refused}
 use Rattle.job.specs.declared.types.Refusal.{Refusal}
 use Rattle.job.specs.declared.types.Step.{Step}
-use Rattle.job.specs.declared.types.Read.{Read}
+use Rattle.job.specs.Read.{Read}
 use Rattle.job.specs.Step.{read_number}
 use Rattle.runner.specs.Effect.{own_rules, step_rules, rules_at, taken, answered, step_effect, effect}
 use Rattle.runner.specs.Run.{Machine, effect_on}
@@ -28,10 +28,10 @@ answered-number number step memory file = by-test (eqb number 0) refl
 
 pub rules_on-is-effect : (before : Machine) (read : Read) → given (rules_on before read) ≡ (effect_on before read).number
 unfolding rules_at effect step_effect given refused read_number
-rules_on-is-effect before (Read.Step step next) =
+rules_on-is-effect before (Ok (Some (step, next))) =
     answered-number (given (step_rules (length before.memory) before.file step)) step before.memory before.file
-rules_on-is-effect before Read.End = refl
-rules_on-is-effect before (Read.Refused why) = refl
+rules_on-is-effect before (Ok None) = refl
+rules_on-is-effect before (Err why) = refl
 
 -- every number is past 3, by a computed test
 abbrev late : List Rule → Bool
@@ -51,15 +51,15 @@ given-lt (rule ∷ rest) all refusal =
 
 rules_at-are-late : (n : ℕ) (file : List ℕ) (read : Read) → late (rules_at n file read) ≡ true
 unfolding rules_at own_rules
-rules_at-are-late n file (Read.Step (Step.Register place value) next) = refl
-rules_at-are-late n file (Read.Step (Step.Size size) next) =
+rules_at-are-late n file (Ok (Some (Step.Register place value, next))) = refl
+rules_at-are-late n file (Ok (Some (Step.Size size, next))) =
     line_or_area-cases (λ (rules : List Rule). late rules ≡ true) file (line_rules n file size) (area_rules n file size) (λ _. refl) (λ _. refl)
-rules_at-are-late n file (Read.Step (Step.Store to value) next) = refl
-rules_at-are-late n file (Read.Step (Step.Flag value) next) = refl
-rules_at-are-late n file Read.End = refl
-rules_at-are-late n file (Read.Refused Refusal.NoStep) = refl
-rules_at-are-late n file (Read.Refused Refusal.CutOff) = refl
-rules_at-are-late n file (Read.Refused Refusal.OddStore) = refl
+rules_at-are-late n file (Ok (Some (Step.Store to value, next))) = refl
+rules_at-are-late n file (Ok (Some (Step.Flag value, next))) = refl
+rules_at-are-late n file (Ok None) = refl
+rules_at-are-late n file (Err Refusal.NoStep) = refl
+rules_at-are-late n file (Err Refusal.CutOff) = refl
+rules_at-are-late n file (Err Refusal.OddStore) = refl
 
 pub rules_on-lt : (before : Machine) (read : Read) → (given (rules_on before read) ≡ 0 → ⊥) → 3 < given (rules_on before read)
 rules_on-lt before read = given-lt (rules_on before read) (rules_at-are-late (length before.memory) before.file read)

@@ -1,9 +1,9 @@
 -- Laws of a run that follows another: the run of two lists of steps, of words cut at a step boundary, and of a job.
-use Rattle.std.specs.Prelude.{if◌then◌else◌}
+use Rattle.std.specs.Prelude.{if◌then◌else◌, Some, None, Ok, Err}
 use Rattle.word.proofs.Base.{◌≡◌, refl, sym, ap, ◌∙◌, ℕ, ◌+◌, ◌≤◌, arith, Bool, true, false, eqb, ne_eqb, List, [], ◌∷◌}
 use Rattle.word.proofs.Base.{◌++◌, length, length-append}
 use Rattle.blit.specs.Blit.{refused}
-use Rattle.job.specs.declared.types.Read.{Read}
+use Rattle.job.specs.Read.{Read}
 use Rattle.job.specs.Length.{job_most}
 use Rattle.job.specs.Steps.{Placed, behind, steps_from, steps}
 use Rattle.job.proofs.StepsLaws.{read_number-of-refused}
@@ -49,9 +49,9 @@ cut_short number place before this other some = rw (ne_eqb number 0 some)
 run_steps-behind : (one : Placed) (read : Read) → one.read ≡ read → (later : List Placed) (before : Machine)
     → run_steps (one ∷ behind read (λ _. later)) before ≡ run_steps (one ∷ later) before
 unfolding run_steps behind effect refused
-run_steps-behind one (Read.Step step next) reads later before = refl
-run_steps-behind one Read.End reads later before = refl
-run_steps-behind one (Read.Refused why) reads later before =
+run_steps-behind one (Ok (Some (step, next))) reads later before = refl
+run_steps-behind one (Ok None) reads later before = refl
+run_steps-behind one (Err why) reads later before =
     cut_short (effect_on before one.read).number one.place before _ _
     (λ none. omega (arith, read_number-of-refused why, sym (ap (λ (read : Read). (effect_on before read).number) reads) ∙ none))
 

@@ -1,4 +1,5 @@
 -- Laws of a run: its first step, how it goes on from a place of the job by what stands there, and what is refused before the first step.
+use Rattle.std.specs.Prelude.{Some, None, Ok, Err}
 use Rattle.word.proofs.Base.{◌≡◌, refl, sym, ap, ◌∙◌, ℕ, ◌+◌, ◌*◌, ◌<◌, ◌≤◌, arith, Bool, true, false, ◌||◌, not, eq-eqb}
 use Rattle.word.proofs.Base.{ne_eqb, List, [], ◌∷◌, length, drop}
 use mir.Val.{Fits}
@@ -11,7 +12,7 @@ use Rattle.refusal.specs.declared.types.Refusal.TheVariants.{MemorySize, Registe
 use Rattle.refusal.proofs.OneAnswerLaws as blits
 use Rattle.job.specs.declared.types.Refusal as jobs
 use Rattle.job.specs.declared.types.Step.{Step}
-use Rattle.job.specs.declared.types.Read.{Read}
+use Rattle.job.specs.Read.{Read}
 use Rattle.job.specs.Length.{job_most, job_length}
 use Rattle.job.specs.Step.{step_at, read_number}
 use Rattle.job.specs.Steps.{Placed, placed, steps_from}
@@ -70,23 +71,23 @@ module _ (job : List ℕ) (at : ℕ) (memory file : List ℕ) (stored : ℕ) (ro
       sym (ap (λ (list : List Placed). run_steps list (machine memory file stored round)) (steps-at-end job at past)) ∙ so_far
 
   module _ (read : Read) (reads : read ≡ step_at job at) where
-    pub run_at-of-end : read ≡ Read.End → left (Answer.Done stored round) memory file ≡ whole
+    pub run_at-of-end : read ≡ Ok None → left (Answer.Done stored round) memory file ≡ whole
     unfolding run_steps
     run_at-of-end same =
         sym (ap (λ (list : List Placed). run_steps list (machine memory file stored round)) (steps-of-end job at (sym reads ∙ same))) ∙ so_far
 
     -- what is no step is refused with its own number
-    pub run_at-of-fault : (why : jobs.Refusal) → read ≡ Read.Refused why → left (Answer.Refused (Refusal.Step why) at stored round) memory file ≡ whole
+    pub run_at-of-fault : (why : jobs.Refusal) → read ≡ Err why → left (Answer.Refused (Refusal.Step why) at stored round) memory file ≡ whole
     unfolding effect refused read_number given
     run_at-of-fault why same =
         sym
-        (run_steps-when-refused (placed at (Read.Refused why)) [] (machine memory file stored round)
-        (refused (read_number (Read.Refused why)) memory file) refl (refusal_number-positive (Refusal.Step why)))
+        (run_steps-when-refused (placed at (Err why)) [] (machine memory file stored round)
+        (refused (read_number (Err why)) memory file) refl (refusal_number-positive (Refusal.Step why)))
         ∙ sym (ap (λ (list : List Placed). run_steps list (machine memory file stored round)) (steps-of-refused job at why (sym reads ∙ same)))
         ∙ so_far
 
     -- a step that is taken, done or refused
-    module _ (step : Step) (next : ℕ) (same : read ≡ Read.Step step next) (taken : Taken) (next_memory next_file : List ℕ)
+    module _ (step : Step) (next : ℕ) (same : read ≡ Ok (Some (step, next))) (taken : Taken) (next_memory next_file : List ℕ)
         (gives : left_by_step taken next_memory next_file ≡ step_effect step memory file) where
       pub run_at-turn : (count : ℕ) (here : Bool) → taken ≡ Taken.Done count here
           → run_at job next (machine next_memory next_file (stored + count) (round || here)) ≡ whole
@@ -94,7 +95,7 @@ module _ (job : List ℕ) (at : ℕ) (memory file : List ℕ) (stored : ℕ) (ro
       run_at-turn count here done =
           let did : left_by_step (Taken.Done count here) next_memory next_file ≡ step_effect step memory file = rw done at gives in
           sym
-          (run_steps-when-done (placed at (Read.Step step next)) (steps_from 0 next (drop next job)) (machine memory file stored round)
+          (run_steps-when-done (placed at (Ok (Some (step, next)))) (steps_from 0 next (drop next job)) (machine memory file stored round)
           (left_by_step (Taken.Done count here) next_memory next_file) did refl)
           ∙ sym
           (ap (λ (list : List Placed). run_steps list (machine memory file stored round))
@@ -112,7 +113,7 @@ module _ (job : List ℕ) (at : ℕ) (memory file : List ℕ) (stored : ℕ) (ro
           ap (λ (m : List ℕ). ended (refusal_number why) at (machine m next_file stored round)) memory-stays
           ∙ ap (λ (f : List ℕ). ended (refusal_number why) at (machine memory f stored round)) file-stays
           ∙ sym
-          (run_steps-when-refused (placed at (Read.Step step next)) (steps_from 0 next (drop next job)) (machine memory file stored round)
+          (run_steps-when-refused (placed at (Ok (Some (step, next)))) (steps_from 0 next (drop next job)) (machine memory file stored round)
           (left_by_step (Taken.Refused why) next_memory next_file) did (refusal_number-positive why))
           ∙ sym
           (ap (λ (list : List Placed). run_steps list (machine memory file stored round))
@@ -120,7 +121,7 @@ module _ (job : List ℕ) (at : ℕ) (memory file : List ℕ) (stored : ℕ) (ro
           ∙ so_far
 
 -- the count has room: a step has a word at least, and stores 65,536 at most
-module _ (job : List ℕ) (at : ℕ) (read : Read) (reads : read ≡ step_at job at) (step : Step) (next : ℕ) (same : read ≡ Read.Step step next) where
+module _ (job : List ℕ) (at : ℕ) (read : Read) (reads : read ≡ step_at job at) (step : Step) (next : ℕ) (same : read ≡ Ok (Some (step, next))) where
   module _ (stored : ℕ) (memory file next_memory next_file : List ℕ) (taken : Taken) (gives : left_by_step taken next_memory next_file ≡ step_effect step memory file)
       (count : ℕ) (here : Bool) (done : taken ≡ Taken.Done count here) (room : stored ≤ at * 65536) where
     count-le : count ≤ 65536

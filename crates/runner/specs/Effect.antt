@@ -1,13 +1,13 @@
 -- Paper 01, "Jobs" and "Numbers given back", as paper 02 leaves it: what one step does to memory and register file, how
 -- many words it stores, and its number. A refused step changes nothing.
-use Rattle.std.specs.Prelude.{ℕ, Bool, false, List, [], ◌∷◌, eqb, leb, length, set, if◌then◌else◌}
+use Rattle.std.specs.Prelude.{ℕ, Bool, false, List, [], ◌∷◌, eqb, leb, length, set, if◌then◌else◌, Some, None, Ok, Err}
 use Rattle.word.specs.Choice.{Rule, ◌when◌, given}
 use Rattle.file.specs.File.{kept}
 use Rattle.file.specs.Places.{flag}
 use Rattle.refusal.specs.Refusal.{blit_rules}
 use Rattle.blit.specs.Blit.{Outcome, done, refused}
 use Rattle.job.specs.declared.types.Step.{Step}
-use Rattle.job.specs.declared.types.Read.{Read}
+use Rattle.job.specs.Read.{Read}
 use Rattle.job.specs.Step.{read_rules, read_number}
 
 -- "10 for stores only": the store "lies at N or above"
@@ -30,9 +30,9 @@ step_rules n file step = 10 when store_outside n step ∷ own_rules n file step
 
 -- what stands at a place of the job: 4, 5, 6 where it is no step, then the step's rules; the end has none
 unfoldable pub rules_at : (n : ℕ) → (file : List ℕ) → Read → List Rule
-rules_at n file (Read.Step step next) = step_rules n file step
-rules_at n file Read.End = []
-rules_at n file (Read.Refused why) = read_rules (Read.Refused why)
+rules_at n file (Ok (Some (step, next))) = step_rules n file step
+rules_at n file (Ok None) = []
+rules_at n file (Err why) = read_rules (Err why)
 
 -- a step that is done, with the words that it stored; only a blit moves pointers
 abbrev pub did : (stored : ℕ) → (memory file : List ℕ) → Outcome
@@ -58,6 +58,6 @@ step_effect step memory file = answered (given (step_rules (length memory) file 
 
 -- what stands at a place of the job: a step, or what is refused as no step; the end does nothing
 unfoldable pub effect : Read → (memory file : List ℕ) → Outcome
-effect (Read.Step step next) memory file = step_effect step memory file
-effect Read.End memory file = did 0 memory file
-effect (Read.Refused why) memory file = refused (read_number (Read.Refused why)) memory file
+effect (Ok (Some (step, next))) memory file = step_effect step memory file
+effect (Ok None) memory file = did 0 memory file
+effect (Err why) memory file = refused (read_number (Err why)) memory file

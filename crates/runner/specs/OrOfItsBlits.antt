@@ -1,20 +1,20 @@
 -- Paper 02, W12: "Blit and runner pass up a yes exactly when some used channel (in a line, C) went round between two of
 -- its accesses in a blit that was done." The yes of a run is that of one of the blits that it does.
-use Rattle.std.specs.Prelude.{ℕ, ◌≡◌, Bool, false, ◌||◌, List, [], ◌∷◌, ◌++◌, eqb, if◌then◌else◌}
+use Rattle.std.specs.Prelude.{ℕ, ◌≡◌, Bool, false, ◌||◌, List, [], ◌∷◌, ◌++◌, eqb, if◌then◌else◌, Some, None, Ok, Err}
 use Rattle.round.specs.Round.{goes_round}
 use Rattle.job.specs.declared.types.Step.{Step}
-use Rattle.job.specs.declared.types.Read.{Read}
+use Rattle.job.specs.Read.{Read}
 use Rattle.job.specs.Steps.{Placed, steps}
 use Rattle.runner.specs.Run.{Machine, machine, effect_on, after, start_refusal, run}
 
 -- of a blit, whether it goes round, by the register file that it finds; no other step says anything
 unfoldable pub round_here : (file : List ℕ) → Read → List Bool
-round_here file (Read.Step (Step.Register place value) next) = []
-round_here file (Read.Step (Step.Size size) next) = goes_round file size ∷ []
-round_here file (Read.Step (Step.Store to value) next) = []
-round_here file (Read.Step (Step.Flag value) next) = []
-round_here file Read.End = []
-round_here file (Read.Refused why) = []
+round_here file (Ok (Some (Step.Register place value, next))) = []
+round_here file (Ok (Some (Step.Size size, next))) = goes_round file size ∷ []
+round_here file (Ok (Some (Step.Store to value, next))) = []
+round_here file (Ok (Some (Step.Flag value, next))) = []
+round_here file (Ok None) = []
+round_here file (Err why) = []
 
 -- of each blit that is done, in order; the first refused step isn't done, and what stands behind it isn't taken
 unfoldable pub rounds_in : List Placed → Machine → List Bool

@@ -1,6 +1,6 @@
--- `Knowledge::numbers` meets its contract: the numbers part by part.
-use Rattle.knowledge.proofs.KnowledgeLaws.{numbers-of-parts}
+-- `Knowledge::numbers` meets its contract: each word is written.
+use Rattle.knowledge.proofs.KnowledgeLaws.{numbers-of-places}
 use Rattle.knowledge.proofs.types.Knowledge.numbers.Goals as goal
 
 pub returns : goal.returns
-returns c = search numbers-of-parts
+returns c = search (numbers-of-places, c.loop-place.invariant.1)

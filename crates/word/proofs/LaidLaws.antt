@@ -54,6 +54,20 @@ laid-beyond [] at out past = refl
 laid-beyond (word ∷ words) at out past =
     ap (laid words (at + 1)) (set_out out at word past) ∙ laid-beyond words (at + 1) out (omega arith)
 
+-- words laid one by one: a turn of the loop, and its end
+module _ {Word : Type 0} (words run whole : List Word) (place at : ℕ) (so_far : laid (drop place words) at run ≡ whole) where
+  pub laid-turn : (word : Word) (next : List Word) (to : ℕ) → place < length words → word ≡ get_or words place word
+      → next ≡ set run at word → to ≡ at + 1 → laid (drop (place + 1) words) to next ≡ whole
+  unfolding laid
+  laid-turn word next to inside is sets moves =
+      let same : suc place ≡ place + 1 = omega arith in
+      let split : drop place words ≡ word ∷ drop (place + 1) words = drop-cons words place word inside ∙ rw (← is, same) refl in
+      rw (sets, moves) (sym (ap (λ (rest : List Word). laid rest at run) split) ∙ so_far)
+
+  pub laid-end : length words ≤ place → run ≡ whole
+  unfolding laid
+  laid-end past = sym (ap (λ (rest : List Word). laid rest at run) (drop_of_length-le words past)) ∙ so_far
+
 -- words copied one by one: a turn of the loop, and its ends
 module _ (words out whole : List ℕ) (remaining at from : ℕ) (so_far : laid (take remaining (drop from words)) at out ≡ whole) where
   pub copied-turn : 0 < remaining → from < length words

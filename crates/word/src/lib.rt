@@ -5,6 +5,7 @@
 pub mod control;
 pub mod even;
 pub mod fill;
+pub mod laying;
 pub mod logic;
 pub mod mask;
 pub mod memory;

@@ -1,11 +1,11 @@
--- Laws of a blit's stores laid into a run, word by word and row by row: of their places and of their values alike.
-use Rattle.word.proofs.Base.{◌≡◌, refl, sym, ap, ◌∙◌, ℕ, zero, suc, ◌+◌, ◌-◌, ◌*◌, ◌<◌, ◌≤◌, sub-one, arith}
+-- Laws of a blit's stores laid into a run, word by word and row by row.
+use Rattle.word.proofs.Base.{◌≡◌, refl, sym, ap, ◌∙◌, ℕ, suc, ◌+◌, ◌-◌, ◌*◌, ◌<◌, ◌≤◌, arith}
 use Rattle.word.proofs.Base.{eqb, List, [], ◌∷◌, length, set}
-use mathlib.Core.List.{map, map-append}
-use lib.ListN.{length-map}
 use Rattle.word.specs.Laid.{laid}
+use Rattle.word.specs.Repeat.{repeated}
 use Rattle.word.specs.Size.{height, width}
 use Rattle.word.proofs.LaidLaws.{laid-of-append}
+use Rattle.word.proofs.RepeatLaws.{repeated-done}
 use Rattle.word.proofs.SizeLaws.{height-le, width-le}
 use Rattle.area.specs.declared.types.Setup.{Setup}
 use Rattle.area.specs.declared.types.Flow.{Flow}
@@ -13,12 +13,11 @@ use Rattle.area.specs.Setup.{shifts, setup}
 use Rattle.area.specs.Flow.{State, state, start}
 use Rattle.area.specs.declared.types.Finished.{Finished}
 use Rattle.area.specs.With.{with_pointers, with_carry}
-use Rattle.area.specs.Fetch.{fetch}
 use Rattle.area.specs.Finish.{finish}
 use Rattle.area.specs.Store.{wait, store_pending}
 use Rattle.area.specs.Move.{stepped, move_on, row_end}
 use Rattle.area.specs.Rows.{finished_word, stored_before, one_word, words, row_start, one_row, rows}
-use Rattle.area.proofs.RowsLaws.{fetched_on, one_word-of-parts}
+use Rattle.area.proofs.RowsLaws.{fetched_on, one_word-of-parts, words-room, rows-room}
 use Rattle.stores.specs.Stores.{Store, store, row_stores, blit_stores, stores, all_zero}
 use Rattle.stores.proofs.StoresLaws.{row_stores-length, rows-allzero}
 
@@ -48,72 +47,114 @@ next_word-of-parts setup width remaining after flow fetched stored waiting end m
     ap (λ (m : List ℕ). state m end) (sym (none-is-empty after none))
     ∙ one_word-of-parts setup width remaining [] after flow fetched stored waiting end made fetches finishes stores waits moves
 
--- it waits, with the place that it is for
-module _ (setup : Setup) (width remaining : ℕ) (flow after : Flow) (does : state [] after ≡ one_word setup width remaining (state [] flow)) where
-  pub place-that-waits : (places next : List ℕ) (at : ℕ) → next ≡ set places at after.pending.place
-      → next ≡ set places at flow.pointers.d.word
-  unfolding one_word stored_before store_pending wait move_on finished_word finish fetch
-  place-that-waits places next at puts = puts ∙ ap (λ (end : State). set places at end.flow.pending.place) does
+-- it waits
+pub word-that-waits : (setup : Setup) (width remaining : ℕ) (flow after : Flow) (run next : List Store) (at : ℕ)
+    → state [] after ≡ one_word setup width remaining (state [] flow)
+    → next ≡ set run at (store flow.pointers.d after.pending.word)
+    → next ≡ set run at (store flow.pointers.d (finished_word setup width remaining (state [] flow)).word)
+unfolding one_word stored_before store_pending wait move_on
+word-that-waits setup width remaining flow after run next at does puts =
+    puts ∙ ap (λ (end : State). set run at (store flow.pointers.d end.flow.pending.word)) does
 
-  pub word-that-waits : (values next : List ℕ) (at : ℕ) → next ≡ set values at after.pending.word
-      → next ≡ set values at (finished_word setup width remaining (state [] flow)).word
-  unfolding one_word stored_before store_pending wait move_on
-  word-that-waits values next at puts = puts ∙ ap (λ (end : State). set values at end.flow.pending.word) does
+-- a turn of a loop that counts up to n: so many steps are left before it, and one fewer after it
+pub left-before : (n i : ℕ) → i < n → n - i ≡ suc (n - (i + 1))
+left-before n i more = omega arith
 
--- so much of each store, its place or its value
-module _ (part : Store → ℕ) (setup : Setup) (width : ℕ) where
+pub left-after : (n i : ℕ) → n - i - 1 ≡ n - (i + 1)
+left-after n i = omega arith
+
+pub repeated-on : {Now : Type 0} (step : ℕ → Now → Now) (n i : ℕ) (now next whole : Now)
+    → i < n → next ≡ step (n - i - 1) now → repeated step (n - i) now ≡ whole → repeated step (n - (i + 1)) next ≡ whole
+unfolding repeated
+repeated-on step n i now next whole more turn same =
+    rw (turn, left-after n i) (sym (ap (λ (left : ℕ). repeated step left now) (left-before n i more)) ∙ same)
+
+pub repeated-over : {Now : Type 0} (step : ℕ → Now → Now) (n i : ℕ) (now whole : Now)
+    → n ≤ i → repeated step (n - i) now ≡ whole → now ≡ whole
+repeated-over step n i now whole none same = repeated-done step (n - i) now whole (omega arith) same
+
+pub words-room-on : (setup : Setup) (width i : ℕ) (flow next : Flow)
+    → i < width → state [] next ≡ one_word setup width (width - i - 1) (state [] flow)
+    → flow.stored + (width - i) < 4294967296 → next.stored + (width - (i + 1)) < 4294967296
+words-room-on setup width i flow next more word room =
+    let after = words-room setup width (width - i) [] [] flow next (omega arith) word room in
+    omega arith
+
+pub rows-room-on : (setup : Setup) (width height i : ℕ) (flow next : Flow)
+    → i < height → width ≤ 64 → state [] next ≡ one_row setup width (state [] flow)
+    → flow.stored + (height - i) * 64 < 4294967296 → next.stored + (height - (i + 1)) * 64 < 4294967296
+rows-room-on setup width height i flow next more narrow row room =
+    let after = rows-room setup width (height - i) [] [] flow next (omega arith) narrow row room in
+    omega arith
+
+module _ (setup : Setup) (width : ℕ) where
   -- a word of a row
-  pub row-turn : (remaining at : ℕ) (flow after : Flow) (run next whole : List ℕ)
-      → 0 < remaining
-      → next ≡ set run at (part (store flow.pointers.d (finished_word setup width (remaining - 1) (state [] flow)).word))
-      → state [] after ≡ one_word setup width (remaining - 1) (state [] flow)
-      → laid (map part (row_stores setup width remaining (state [] flow))) at run ≡ whole
-      → laid (map part (row_stores setup width (remaining - 1) (state [] after))) (at + 1) next ≡ whole
+  row-step : (n at : ℕ) (flow : Flow) (run : List Store)
+      → laid (row_stores setup width (suc n) (state [] flow)) at run
+      ≡ laid (row_stores setup width n (one_word setup width n (state [] flow))) (at + 1)
+      (set run at (store flow.pointers.d (finished_word setup width n (state [] flow)).word))
   unfolding row_stores laid
-  row-turn zero at flow after run next whole more lays does so_far = absurd (omega arith)
-  row-turn (suc remaining) at flow after run next whole more lays does so_far =
-      let here : next ≡ set run at (part (store flow.pointers.d (finished_word setup width remaining (state [] flow)).word)) = rw sub-one at lays in
-      let done : state [] after ≡ one_word setup width remaining (state [] flow) = rw sub-one at does in
-      rw (sub-one, here, done) so_far
+  row-step n at flow run = refl
 
-  pub row_done : (remaining at : ℕ) (flow : Flow) (run whole : List ℕ)
-      → remaining ≤ 0 → laid (map part (row_stores setup width remaining (state [] flow))) at run ≡ whole → run ≡ whole
+  pub row-turn : (i at to : ℕ) (flow after : Flow) (run next whole : List Store)
+      → i < width
+      → next ≡ set run at (store flow.pointers.d (finished_word setup width (width - i - 1) (state [] flow)).word)
+      → to ≡ at + 1
+      → state [] after ≡ one_word setup width (width - i - 1) (state [] flow)
+      → laid (row_stores setup width (width - i) (state [] flow)) at run ≡ whole
+      → laid (row_stores setup width (width - (i + 1)) (state [] after)) to next ≡ whole
+  row-turn i at to flow after run next whole more lays moves does so_far =
+      rw (lays, moves, does, left-after width i)
+      (sym (row-step (width - (i + 1)) at flow run)
+      ∙ sym (ap (λ (left : ℕ). laid (row_stores setup width left (state [] flow)) at run) (left-before width i more))
+      ∙ so_far)
+
+  pub row-end : (i at : ℕ) (flow : Flow) (run whole : List Store)
+      → width ≤ i → laid (row_stores setup width (width - i) (state [] flow)) at run ≡ whole → run ≡ whole
   unfolding row_stores laid
-  row_done zero at flow run whole none so_far = so_far
-  row_done (suc remaining) at flow run whole none so_far = absurd (omega arith)
+  row-end i at flow run whole none so_far =
+      let over : width - i ≡ 0 = omega arith in
+      sym (ap (λ (left : ℕ). laid (row_stores setup width left (state [] flow)) at run) over) ∙ so_far
 
   -- a row with its start
-  pub row-of-started : (at : ℕ) (flow started : Flow) (run next : List ℕ)
+  pub row-of-started : (at : ℕ) (flow started : Flow) (run next : List Store)
       → started ≡ with_carry setup.carry flow
-      → next ≡ laid (map part (row_stores setup width width (state [] started))) at run
-      → next ≡ laid (map part (row_stores setup width width (row_start setup (state [] flow)))) at run
+      → next ≡ laid (row_stores setup width width (state [] started)) at run
+      → next ≡ laid (row_stores setup width width (row_start setup (state [] flow))) at run
   unfolding row_start
   row-of-started at flow started run next starts lays = rw starts at lays
 
   -- a row of a blit
-  pub blit-turn : (remaining at : ℕ) (flow after : Flow) (run next whole : List ℕ)
-      → 0 < remaining
-      → next ≡ laid (map part (row_stores setup width width (row_start setup (state [] flow)))) at run
-      → state [] after ≡ one_row setup width (state [] flow)
-      → laid (map part (blit_stores setup width remaining (state [] flow))) at run ≡ whole
-      → laid (map part (blit_stores setup width (remaining - 1) (state [] after))) (at + width) next ≡ whole
+  blit-step : (n at : ℕ) (flow : Flow) (run : List Store)
+      → laid (blit_stores setup width (suc n) (state [] flow)) at run
+      ≡ laid (blit_stores setup width n (one_row setup width (state [] flow))) (at + width)
+      (laid (row_stores setup width width (row_start setup (state [] flow))) at run)
   unfolding blit_stores
-  blit-turn zero at flow after run next whole more lays does so_far = absurd (omega arith)
-  blit-turn (suc remaining) at flow after run next whole more lays does so_far =
+  blit-step n at flow run =
       let row : List Store = row_stores setup width width (row_start setup (state [] flow)) in
-      let rest : List Store = blit_stores setup width remaining (one_row setup width (state [] flow)) in
-      let long : length (map part row) ≡ width = length-map row part ∙ row_stores-length setup width width (row_start setup (state [] flow)) in
-      rw (sub-one, lays, does)
-      (ap (λ (many : ℕ). laid (map part rest) (at + many) (laid (map part row) at run)) (sym long)
-      ∙ sym (laid-of-append (map part row) (map part rest) at run)
-      ∙ ap (λ (list : List ℕ). laid list at run) (sym (map-append part row rest))
+      let rest : List Store = blit_stores setup width n (one_row setup width (state [] flow)) in
+      laid-of-append row rest at run
+      ∙ ap (λ (many : ℕ). laid rest (at + many) (laid row at run)) (row_stores-length setup width width (row_start setup (state [] flow)))
+
+  pub blit-turn : (height i at to : ℕ) (flow after : Flow) (run next whole : List Store)
+      → i < height
+      → next ≡ laid (row_stores setup width width (row_start setup (state [] flow))) at run
+      → to ≡ at + width
+      → state [] after ≡ one_row setup width (state [] flow)
+      → laid (blit_stores setup width (height - i) (state [] flow)) at run ≡ whole
+      → laid (blit_stores setup width (height - (i + 1)) (state [] after)) to next ≡ whole
+  blit-turn height i at to flow after run next whole more lays moves does so_far =
+      rw (lays, moves, does)
+      (sym (blit-step (height - (i + 1)) at flow run)
+      ∙ sym (ap (λ (left : ℕ). laid (blit_stores setup width left (state [] flow)) at run) (left-before height i more))
       ∙ so_far)
 
-  pub blit-done : (remaining at : ℕ) (flow : Flow) (run whole : List ℕ)
-      → remaining ≤ 0 → laid (map part (blit_stores setup width remaining (state [] flow))) at run ≡ whole → run ≡ whole
+  pub blit-end : (height i at : ℕ) (flow : Flow) (run whole : List Store)
+      → height ≤ i → laid (blit_stores setup width (height - i) (state [] flow)) at run ≡ whole → run ≡ whole
   unfolding blit_stores laid
-  blit-done zero at flow run whole none so_far = so_far
-  blit-done (suc remaining) at flow run whole none so_far = absurd (omega arith)
+  blit-end height i at flow run whole none so_far =
+      let over : height - i ≡ 0 = omega arith in
+      sym (ap (λ (left : ℕ). laid (blit_stores setup width left (state [] flow)) at run) over) ∙ so_far
 
 pub one_row-of-started : (setup : Setup) (width : ℕ) (flow started end after : Flow)
     → started ≡ with_carry setup.carry flow
@@ -146,11 +187,10 @@ module _ (file : List ℕ) (size wide tall : ℕ) (set-up : Setup) (flow : Flow)
   pub stores-low : tall ≤ 1024
   stores-low = rw is-tall (height-le size)
 
-  pub stores-laid : (part : Store → ℕ) (run next : List ℕ)
-      → next ≡ laid (map part (blit_stores set-up wide tall (state [] flow))) 0 run
-      → next ≡ laid (map part (stores file size)) 0 run
+  pub stores-laid : (run next : List Store)
+      → next ≡ laid (blit_stores set-up wide tall (state [] flow)) 0 run → next ≡ laid (stores file size) 0 run
   unfolding stores
-  stores-laid part run next lays = rw (is_set, is-flow, is_IsWide, is-tall) at lays
+  stores-laid run next lays = rw (is_set, is-flow, is_IsWide, is-tall) at lays
 
   pub stores-allzero : (end : Flow) → state [] end ≡ rows set-up wide tall (state [] flow) → end.allzero ≡ all_zero (stores file size)
   unfolding stores start

@@ -1,7 +1,7 @@
 -- Paper 01, "Folding": a blit's "stores in the blit's order", as a list, without a memory; whether "every final word was
 -- zero"; and "the final D pointer". The words are the blit's own. A blit that uses D alone fetches nothing, so that memory
 -- has no part in them.
-use Rattle.std.specs.Prelude.{ℕ, zero, suc, Bool, true, ◌&&◌, List, [], ◌∷◌, ◌++◌, map, eqb}
+use Rattle.std.specs.Prelude.{ℕ, zero, suc, Bool, true, ◌&&◌, List, [], ◌∷◌, ◌++◌, eqb}
 use Rattle.word.specs.declared.types.Pointer.{Pointer}
 use Rattle.word.specs.Repeat.{repeated}
 use Rattle.word.specs.Pointer.{next_row}
@@ -10,12 +10,9 @@ use Rattle.area.specs.declared.types.Setup.{Setup}
 use Rattle.area.specs.Setup.{setup}
 use Rattle.area.specs.Flow.{State, state, pointers, start}
 use Rattle.area.specs.Rows.{finished_word, one_word, row_start, one_row}
+pub use Rattle.stores.specs.declared.types.Store.{Store}
 
 -- a word that is stored, and where it goes
-pub record Store : Type 0 where
-  pub to : Pointer
-  pub value : ℕ
-
 abbrev pub store : (to : Pointer) → (value : ℕ) → Store
 store to value = record { to = to; value = value }
 
@@ -36,13 +33,6 @@ blit_stores setup width (suc remaining) now =
 -- the stores of a blit
 unfoldable pub stores : (file : List ℕ) → (size : ℕ) → List Store
 stores file size = blit_stores (setup file) (width size) (height size) (state [] (start file))
-
--- their word numbers, and their values
-abbrev pub places : List Store → List ℕ
-places list = map (λ (one : Store). one.to.word) list
-
-abbrev pub values : List Store → List ℕ
-values list = map (λ (one : Store). one.value) list
 
 -- "every final word was zero"
 unfoldable pub all_zero : List Store → Bool

@@ -1,13 +1,13 @@
 -- Laws of words laid into a run: one after the other, and what the run then holds.
 use Rattle.word.proofs.Base.{◌≡◌, refl, sym, ap, ◌∙◌, ℕ, zero, suc, ◌+◌, ◌-◌, ◌<◌, ◌≤◌, add-zero, arith}
-use Rattle.word.proofs.Base.{List, [], ◌∷◌, ◌++◌, length, set, take, drop, length-set, set_out, drop_of_length-le, length-take-le}
+use Rattle.word.proofs.Base.{List, [], ◌∷◌, ◌++◌, length, get_or, set, take, drop, length-set, set_out, drop_of_length-le, length-take-le}
 use Rattle.word.proofs.Base.{Bool, true, false, ◌||◌, leb, leb-true}
 use Rattle.std.proofs.Common.{min}
 use Rattle.std.proofs.lemmas.List.{length-drop}
 use borrow.Rule.Slice.PartMut.{put_mid}
 use native.Mathlib.Nat.{le_of_suc-le-suc}
 use mathlib.Core.List.{append-nil}
-use lib.Seq.{drop-length}
+use lib.Seq.{drop-length, drop-cons}
 use Rattle.word.specs.Laid.{laid}
 
 pub laid-of-append : {Word : Type 0} (words more : List Word) (at : ℕ) (out : List Word)
@@ -57,6 +57,20 @@ unfolding laid
 laid-beyond [] at out past = refl
 laid-beyond (word ∷ words) at out past =
     ap (laid words (at + 1)) (set_out out at word past) ∙ laid-beyond words (at + 1) out (omega arith)
+
+-- words laid one by one: a turn of the loop, and its end
+module _ {Word : Type 0} (words run whole : List Word) (place at : ℕ) (so_far : laid (drop place words) at run ≡ whole) where
+  pub laid-turn : (word : Word) (next : List Word) (to : ℕ) → place < length words → word ≡ get_or words place word
+      → next ≡ set run at word → to ≡ at + 1 → laid (drop (place + 1) words) to next ≡ whole
+  unfolding laid
+  laid-turn word next to inside is sets moves =
+      let same : suc place ≡ place + 1 = omega arith in
+      let split : drop place words ≡ word ∷ drop (place + 1) words = drop-cons words place word inside ∙ rw (← is, same) refl in
+      rw (sets, moves) (sym (ap (λ (rest : List Word). laid rest at run) split) ∙ so_far)
+
+  pub laid-end : length words ≤ place → run ≡ whole
+  unfolding laid
+  laid-end past = sym (ap (λ (rest : List Word). laid rest at run) (drop_of_length-le words past)) ∙ so_far
 
 -- words that fit, laid from a place on, stand there between what stood before and behind them
 laid-inside : (words out : List ℕ) (at : ℕ) → at + length words ≤ length out

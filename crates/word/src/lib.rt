@@ -6,6 +6,7 @@ pub mod bits;
 pub mod control;
 pub mod even;
 pub mod fill;
+pub mod laying;
 pub mod logic;
 pub mod mask;
 pub mod memory;

@@ -1,9 +1,9 @@
 use Rattle.word.proofs.Base.{rules}
-use Rattle.word.proofs.RepeatLaws.{repeated-turn, repeated-done}
+use Rattle.stores.proofs.LaidLaws.{repeated-on, repeated-over}
 use Rattle.stores.proofs.rows_on.Goals as goal
 
-pub loop-remaining-preserved : goal.loop-remaining-preserved
-loop-remaining-preserved c = (search repeated-turn, search rules)
+pub loop-row-preserved : goal.loop-row-preserved
+loop-row-preserved c = (search repeated-on, search rules)
 
 pub returns : goal.returns
-returns c = search repeated-done
+returns c = search repeated-over

@@ -1,7 +1,8 @@
--- `stores::next_word` meets its contract: its five calls are the definition's parts, and a memory of no words stays so.
+-- `stores::rows::Rows::next_word` meets its contract: its five calls are the definition's parts, and a memory of no words
+-- stays so.
 use Rattle.area.proofs.RowsLaws.{finished-room}
 use Rattle.stores.proofs.LaidLaws.{next_word-of-parts}
-use Rattle.stores.proofs.next_word.Goals as goal
+use Rattle.stores.proofs.rows.Rows.next_word.Goals as goal
 
 pub store_pending-stored-requires : goal.store_pending-stored-requires
 store_pending-stored-requires c = search finished-room

@@ -1,7 +1,7 @@
 -- Laws of the fill of a block's rows: a carry turns a prefix over, and either way of filling goes by the carries.
 use Rattle.std.specs.Prelude.{if◌then◌else◌}
 use Rattle.word.proofs.Base.{◌≡◌, refl, sym, ap, ◌∙◌, ℕ, zero, suc, ◌+◌, ◌-◌, ◌*◌, ◌/◌, ◌%◌, ◌<◌, ◌≤◌, add-zero}
-use Rattle.word.proofs.Base.{add-suc, add-one, arith, Bool, true, false, eqb, List, length, get_or, set, length-set, bit_xor}
+use Rattle.word.proofs.Base.{add-suc, add-one, arith, Bool, true, false, eqb, List, length, get_or, set, bit_or, bit_xor}
 use native.Mathlib.Nat.{add_assoc}
 use lib.Bits.{xor_zero_r}
 use Rattle.word.specs.declared.types.Fill.{Fill}
@@ -10,9 +10,9 @@ use Rattle.word.specs.Fill.{exclusive, filled}
 use Rattle.word.proofs.FillLaws.{doubled, prefix, exclusive-is-prefix, carry-lt, carry-is-top-bit, inclusive-is-or}
 use Rattle.quiet.specs.Words.{word_before, carry_to, filled_at}
 use Rattle.quiet.proofs.StreamLaws.{word_of, carry_to-first, carry_to-next}
-use Rattle.block.specs.Inner.Each.{at, Each, Kept, prefix_at, either_at, filled_word_at}
+use Rattle.block.specs.Inner.Each.{at, Each, Kept, prefix_at, filled_word_at}
 use Rattle.block.specs.Inner.Carry.{over_in, RowFilled, RowsFilled}
-use Rattle.block.proofs.EachLaws.{each_none, each_turn, kept-all, kept-turn, Reached, reached-fits}
+use Rattle.block.proofs.EachLaws.{each-no-row, each_turn, kept-all, kept-turn, row-fits, next-start}
 
 -- no fill
 carry_to-off : (start width k : ℕ) (word : ℕ → ℕ) → carry_to Off start width word k ≡ start
@@ -43,8 +43,8 @@ unfolding filled_at filled
 carry-of-inclusive start width k word = rw (carry_to-inclusive start width k word)
 
 pub fill-of-inclusive : (start width n : ℕ) (words filled' out : List ℕ) → ((j : ℕ) → get_or words j 0 < 65536) → Each n filled' (filled_word_at Exclusive start width (at words))
-    → Each n out (either_at (at filled') (at words)) → Each n out (filled_word_at Inclusive start width (at words))
-unfolding filled_word_at filled_at filled either_at at Each
+    → ((j : ℕ) → j < n → get_or out j 0 ≡ bit_or (get_or filled' j 0) (get_or words j 0)) → Each n out (filled_word_at Inclusive start width (at words))
+unfolding filled_word_at filled_at filled at Each
 fill-of-inclusive start width n words filled' out small filling all j below =
     all j below
     ∙ rw (filling j below, carry_to-inclusive start width j (at words)) (inclusive-is-or (carry_to Inclusive start width (at words) j) (get_or words j 0) (small j))
@@ -65,18 +65,17 @@ over_in-is start width row s (suc i) word at-s below =
     (omega (arith, carry-lt (carry_to Exclusive start width word (s + i)) (word (s + i)) 16))
 
 -- along a row
-pub row-filled-none : {start width s : ℕ} {words : List ℕ} → length words ≡ 80 → RowFilled start width s 0 (start % 2 * 65535) words words
+pub row-filled-none : {start width s : ℕ} {words : List ℕ} → RowFilled start width s 0 (start % 2 * 65535) words words
 unfolding over_in word_before
-row-filled-none {s = s} long =
-    record { long = long; kept = kept-all _ _; fills = λ word row at-s small prefixes all. (rw (add-zero s) all, refl) }
+row-filled-none {s = s} =
+    record { kept = kept-all _ _; fills = λ word row at-s small prefixes all. (rw (add-zero s) all, refl) }
 
-pub row-filled-turn : {start width s i over here next : ℕ} {words before : List ℕ} → i < width → s + i < 80
+pub row-filled-turn : {start width s i over here next : ℕ} {words before : List ℕ} → i < width → s + i < length words
     → here ≡ bit_xor (get_or words (s + i) 0) over → next ≡ here / 32768 * 65535
     → RowFilled start width s i over words before → RowFilled start width s (i + 1) next (set words (s + i) here) before
 unfolding Kept over_in word_before prefix_at filled_word_at filled_at filled
 row-filled-turn {start} {width} {s} {i} {over} {here} {next} {words} {before} below inside turns spreads so_far =
     record {
-      long = length-set words (s + i) here ∙ so_far.long;
       kept = rw (← add_assoc s i 1) (kept-turn (s + i) here words before so_far.kept);
       fills =
           λ word row at-s small prefixes all.
@@ -91,32 +90,30 @@ row-filled-turn {start} {width} {s} {i} {over} {here} {next} {words} {before} be
           );
     }
 
-pub row-filled-done : {start width s i over : ℕ} {words before : List ℕ} → i ≤ width → width ≤ i → RowFilled start width s i over words before → RowFilled start width s width over words before
-row-filled-done {width = width} {i = i} most least so_far = let end : i ≡ width = omega arith in rw end at so_far
-
 -- and along all rows
-pub rows-filled-none : {start width n : ℕ} {words : List ℕ} → length words ≡ 80 → RowsFilled start width n 0 0 words words
-rows-filled-none long = record { long = long; kept = kept-all _ _; fills = λ word small prefixes. (each_none _ _, λ none. absurd (omega arith)) }
+pub rows-filled-none : {start width n : ℕ} {words : List ℕ} → RowsFilled start width n (0 * width) 0 words words
+unfolding Kept
+rows-filled-none {width = width} = record { kept = λ j past. refl; fills = λ word small prefixes. (each-no-row width _ _, λ none. absurd (omega arith)) }
 
-pub rows-filled-turn : {start width rows row s over next : ℕ} {words before after : List ℕ} → 1 ≤ width → row < rows → Reached width rows row s
-    → RowsFilled start width (rows * width) s over words before → RowFilled start width s width next after words
-    → RowsFilled start width (rows * width) (s + width) next after before
+pub rows-filled-turn : {start width rows row over next : ℕ} {words before after : List ℕ} → 1 ≤ width → row < rows
+    → RowsFilled start width (rows * width) (row * width) over words before → RowFilled start width (row * width) width next after words
+    → RowsFilled start width (rows * width) ((row + 1) * width) next after before
 unfolding Kept Each over_in word_before
-rows-filled-turn {start} {width} {rows} {row} {s} some below reached so_far filling =
-    record {
-      long = filling.long;
+rows-filled-turn {start} {width} {rows} {row} some below so_far filling =
+    let room = row-fits rows width row below in
+    rw (next-start row width)
+    (record {
       kept = λ j past. filling.kept j past ∙ so_far.kept j (omega arith);
       fills =
           λ word small prefixes.
-          let room = reached-fits reached below in
           let done =
-          filling.fills word row reached.here small (λ i below. so_far.kept (s + i) (omega arith) ∙ prefixes (s + i) (omega arith)) (so_far.fills word small prefixes).0 in
-          (done.0, λ more. done.1 ∙ last word width some);
-    }
+          filling.fills word row refl small (λ i below. so_far.kept (row * width + i) (omega arith) ∙ prefixes (row * width + i) (omega arith)) (so_far.fills word small prefixes).0 in
+          (done.0, λ more. done.1 ∙ last (row * width) word width some);
+    })
   where
-    last : (word : ℕ → ℕ) (i : ℕ) → 1 ≤ i → over_in start width s word i ≡ (filled_at Exclusive start width word (s + i - 1)).carry * 65535
-    last word zero none = absurd (omega arith)
-    last word (suc i) more = let is : s + suc i - 1 ≡ s + i = omega arith in rw is
+    last : (s : ℕ) (word : ℕ → ℕ) (i : ℕ) → 1 ≤ i → over_in start width s word i ≡ (filled_at Exclusive start width word (s + i - 1)).carry * 65535
+    last s word zero none = absurd (omega arith)
+    last s word (suc i) more = let is : s + suc i - 1 ≡ s + i = omega arith in rw is
 
 -- all rows: the words, and the last carry from what turns the next word over
 module _ (start width n over : ℕ) (o q after : List ℕ) (some : 1 ≤ n) (small : (j : ℕ) → get_or o j 0 < 65536)

@@ -1,5 +1,5 @@
 -- Laws of A's masks in an array: two words of each row are touched.
-use Rattle.word.proofs.Base.{◌≡◌, refl, sym, ap, ◌∙◌, ℕ, ◌+◌, ◌-◌, ◌%◌, ◌<◌, ◌≤◌, arith, Bool, true, false, eqb, ◌&&◌}
+use Rattle.word.proofs.Base.{◌≡◌, refl, sym, ap, ◌∙◌, ℕ, ◌+◌, ◌-◌, ◌*◌, ◌%◌, ◌<◌, ◌≤◌, arith, Bool, true, false, eqb, ◌&&◌}
 use Rattle.word.proofs.ChoiceLaws.{and_left, and_right}
 use Rattle.word.proofs.Base.{eq-eqb, ne_eqb, eqb-true, eqb-false, List, length, get_or, length-set, get_or-set_same}
 use Rattle.word.proofs.Base.{get_or-set_other, bit_and, dec_lt}
@@ -9,7 +9,7 @@ use Rattle.area.specs.declared.types.Masks.{Masks}
 use Rattle.quiet.specs.Words.{masked_at}
 use Rattle.quiet.proofs.StreamLaws.{word_of}
 use Rattle.block.specs.Inner.Each.{at, Each, Kept, masked_in}
-use Rattle.block.proofs.EachLaws.{Reached, reached-fits}
+use Rattle.block.proofs.EachLaws.{next-start}
 
 -- a word masked where it stands
 masked_in-at : (place mask j : ℕ) (words : List ℕ) → place < length words → get_or (masked_in place mask words) j 0 ≡ masked_when (eqb j place) mask (get_or words j 0)
@@ -36,12 +36,11 @@ same_test a b c d there back = by (eqb c d) refl
     by true told = eq-eqb a b (back (eqb-true c d told)) ∙ sym told
     by false told = ne_eqb a b (λ same. eqb-false c d told (there same)) ∙ sym told
 
-module _ (masks : Masks) {width rows row s : ℕ} (words before after : List ℕ) (some : 1 ≤ width) (below : row < rows) (reached : Reached width rows row s)
-    (long : length words ≡ 80) (does : after ≡ masked_in (s + width - 1) masks.last (masked_in s masks.first words)) (kept : Kept s words before) where
+module _ (masks : Masks) (width row s : ℕ) (words before after : List ℕ) (some : 1 ≤ width) (here : s ≡ row * width)
+    (inside : s + width ≤ length words) (does : after ≡ masked_in (s + width - 1) masks.last (masked_in s masks.first words)) (kept : Kept s words before) where
   -- any word of the array
   touched : (j : ℕ) → get_or after j 0 ≡ masked_when (eqb j (s + width - 1)) masks.last (masked_when (eqb j s) masks.first (get_or words j 0))
   touched j =
-      let room = reached-fits reached below in
       ap (λ (after : List ℕ). get_or after j 0) does
       ∙ masked_in-at (s + width - 1) masks.last j (masked_in s masks.first words) (omega (arith, masked_in-keeps-length s masks.first words))
       ∙ ap (masked_when (eqb j (s + width - 1)) masks.last) (masked_in-at s masks.first j words (omega arith))
@@ -51,9 +50,12 @@ module _ (masks : Masks) {width rows row s : ℕ} (words before after : List ℕ
   unfolding masked_when
   untouched j elsewhere = touched j ∙ rw (ne_eqb j (s + width - 1) (λ same. absurd (omega (arith, elsewhere (omega arith)))), ne_eqb j s (λ same. absurd (omega (arith, elsewhere (omega arith)))))
 
-  pub mask-turn : Each s words (masked_at masks width (at before)) → Kept (s + width) after before × Each (s + width) after (masked_at masks width (at before))
+  pub mask-turn : Each s words (masked_at masks width (at before))
+      → Kept ((row + 1) * width) after before × Each ((row + 1) * width) after (masked_at masks width (at before))
   unfolding Each masked_at at masked Kept
-  mask-turn all = (λ j past. untouched j (λ here. past) ∙ kept j (omega arith), λ j within. by j within (dec_lt j s))
+  mask-turn all =
+      let next = next-start row width in
+      (λ j past. untouched j (λ later. omega arith) ∙ kept j (omega arith), λ j within. by j (omega arith) (dec_lt j s))
     where
       by : (j : ℕ) → j < s + width → Dec (j < s) → get_or after j 0 ≡ masked_at masks width (at before) j
       by j within (yes early) = untouched j (λ here. absurd (omega arith)) ∙ all j early

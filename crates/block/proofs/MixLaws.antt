@@ -13,9 +13,9 @@ use Rattle.word.proofs.LogicLaws.{bit-of-logic, logic-lt}
 use Rattle.quiet.specs.Words.{mixed_at}
 use Rattle.block.specs.Inner.Types.{Needs}
 use Rattle.block.specs.declared.types.Terms.{Terms}
-use Rattle.block.specs.Inner.Each.{at, Each, turned_at}
+use Rattle.block.specs.Inner.Each.{at, Each}
 use Rattle.block.specs.Inner.Ignores.{Ignores, differs, needed}
-use Rattle.block.specs.Inner.Terms.{terms, joined, joined_at}
+use Rattle.block.specs.Inner.Terms.{terms, joined}
 
 -- the sum of single bits, m i being what the setting i gives
 abbrev summed : (a b c m0 m1 m2 m3 m4 m5 m6 m7 : ℕ) → ℕ
@@ -87,12 +87,12 @@ module _ (by : Terms) (x : ℕ) where
   joined-of-c = simp (and_zero_l, xor_zero_r)
 
 module _ (f n : ℕ) (by : Terms) (need : Needs) (a b c o : List ℕ) (ignores : Ignores f need) (is : by ≡ terms f) where
-  pub mix-of-three : Each n o (joined_at by (at a) (at b) (at c)) → Each n o (mixed_at f (at a) (at b) (at c))
-  unfolding Each joined_at mixed_at
-  mix-of-three all j below = all j below ∙ rw is (joined-is-logic f (at a j) (at b j) (at c j))
+  pub mix-of-three : ((j : ℕ) → j < n → get_or o j 0 ≡ joined by (get_or a j 0) (get_or b j 0) (get_or c j 0)) → Each n o (mixed_at f (at a) (at b) (at c))
+  unfolding Each mixed_at at
+  mix-of-three all j below = all j below ∙ rw is (joined-is-logic f (get_or a j 0) (get_or b j 0) (get_or c j 0))
 
-  pub mix-of-a : need.b ≡ false → need.c ≡ false → Each n o (turned_at by.none by.a (at a)) → Each n o (mixed_at f (at a) (at b) (at c))
-  unfolding Each turned_at mixed_at at
+  pub mix-of-a : need.b ≡ false → need.c ≡ false → ((j : ℕ) → j < n → get_or o j 0 ≡ bit_xor by.none (bit_and (get_or a j 0) by.a)) → Each n o (mixed_at f (at a) (at b) (at c))
+  unfolding Each mixed_at at
   mix-of-a no-b no-c all j below =
       all j below
       ∙ rw is
@@ -101,8 +101,8 @@ module _ (f n : ℕ) (by : Terms) (need : Needs) (a b c o : List ℕ) (ignores :
       ∙ ignores.b no-b (get_or a j 0) 0 (get_or b j 0) 0
       ∙ ignores.c no-c (get_or a j 0) (get_or b j 0) 0 (get_or c j 0))
 
-  pub mix-of-b : need.a ≡ false → need.c ≡ false → Each n o (turned_at by.none by.b (at b)) → Each n o (mixed_at f (at a) (at b) (at c))
-  unfolding Each turned_at mixed_at at
+  pub mix-of-b : need.a ≡ false → need.c ≡ false → ((j : ℕ) → j < n → get_or o j 0 ≡ bit_xor by.none (bit_and (get_or b j 0) by.b)) → Each n o (mixed_at f (at a) (at b) (at c))
+  unfolding Each mixed_at at
   mix-of-b no-a no-c all j below =
       all j below
       ∙ rw is
@@ -111,8 +111,8 @@ module _ (f n : ℕ) (by : Terms) (need : Needs) (a b c o : List ℕ) (ignores :
       ∙ ignores.a no-a 0 (get_or a j 0) (get_or b j 0) 0
       ∙ ignores.c no-c (get_or a j 0) (get_or b j 0) 0 (get_or c j 0))
 
-  pub mix-of-c : need.a ≡ false → need.b ≡ false → Each n o (turned_at by.none by.c (at c)) → Each n o (mixed_at f (at a) (at b) (at c))
-  unfolding Each turned_at mixed_at at
+  pub mix-of-c : need.a ≡ false → need.b ≡ false → ((j : ℕ) → j < n → get_or o j 0 ≡ bit_xor by.none (bit_and (get_or c j 0) by.c)) → Each n o (mixed_at f (at a) (at b) (at c))
+  unfolding Each mixed_at at
   mix-of-c no-a no-b all j below =
       all j below
       ∙ rw is

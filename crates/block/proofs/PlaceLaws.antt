@@ -12,7 +12,7 @@ use Rattle.quiet.proofs.StreamLaws.{row_of, word_of}
 use Rattle.block.specs.declared.types.Size.{Size}
 use Rattle.block.specs.Inner.Each.{at, from_at, Each, Laid}
 use Rattle.block.specs.Inner.Place.{row_at, place_in, Reaches, place_at, EvenRows, Lies, Gapless, AsLying, fetched_in, fetched_at}
-use Rattle.block.proofs.EachLaws.{laid-turn, Reached, reached-none, reached-turn}
+use Rattle.block.proofs.EachLaws.{laid-turn, next-start}
 
 -- rows start evenly
 pub row_at-first : (far from : ℕ) → from < pointer_end → from ≡ row_at far from 0
@@ -43,24 +43,21 @@ pub rows-far : (rows far : ℕ) → rows ≤ 64 → far < pointer_end → rows *
 rows-far rows far few short = mul-le-mul {m₂ = pointer_end} few (omega arith)
 
 -- a loop has come to a row of them
-pub record Walks (size : Size) (far from start s number : ℕ) : Type 0 where
-  pub rows : Reached size.width size.height number s
+pub record Walks (far from start number : ℕ) : Type 0 where
   pub small : start < pointer_end
   pub starts : start ≡ row_at far from number
 
 module _ {n : ℕ} {direction : Direction} {far from : ℕ} {size : Size} (lies : Lies n direction far from size) where
-  pub walks-none : Walks size far from from 0 0
-  walks-none = record { rows = reached-none lies.room; small = lies.starts; starts = row_at-first far from lies.starts }
+  pub walks-none : Walks far from from 0
+  walks-none = record { small = lies.starts; starts = row_at-first far from lies.starts }
 
-  pub walks-inside : {length start s number : ℕ} → length ≡ n → number < size.height → Walks size far from start s number
+  pub walks-inside : {length start number : ℕ} → length ≡ n → number < size.height → Walks far from start number
       → RowInside length direction size.width (record { word = start })
   unfolding EvenRows
   walks-inside kept below walks = rw (kept, walks.starts) (lies.inside _ below)
 
-pub walks_turn : {size : Size} {far from start s number : ℕ} → number < size.height → Walks size far from start s number
-    → Walks size far from ((start + far) % pointer_end) (s + size.width) (number + 1)
-walks_turn below walks =
-    record { rows = reached-turn walks.rows below; small = omega arith; starts = row_at-next _ _ _ _ walks.starts }
+pub walks_turn : {far from start number : ℕ} → Walks far from start number → Walks far from ((start + far) % pointer_end) (number + 1)
+walks_turn walks = record { small = omega arith; starts = row_at-next _ _ _ _ walks.starts }
 
 -- a word of a row
 pub place-reaches : (n width start word : ℕ) (direction : Direction) → RowInside n direction width (record { word = start }) → word < width → n < 18446744073709551616
@@ -94,8 +91,9 @@ pub laid_at-none : (place word : ℕ → ℕ) (memory : List ℕ) → memory ≡
 unfolding laid_at
 laid_at-none place word memory = refl
 
-pub laid_at-done : (place word : ℕ → ℕ) (i n : ℕ) (memory before : List ℕ) → i ≤ n → n ≤ i → memory ≡ laid_at place word i before → memory ≡ laid_at place word n before
-laid_at-done place word i n memory before most least is = let end : i ≡ n = omega arith in is ∙ ap (λ (n : ℕ). laid_at place word n before) end
+pub laid_at-no-row : (place word : ℕ → ℕ) (width : ℕ) (memory : List ℕ) → memory ≡ laid_at place word (0 * width) memory
+unfolding laid_at
+laid_at-no-row place word width memory = rw (zero-mul width)
 
 -- turns of the loops along a row
 pub fetch-turn : (memory words before : List ℕ) (direction : Direction) (start s i place : ℕ) → s + i < length words → place ≡ place_in direction start i
@@ -112,31 +110,29 @@ unfolding laid_at from_at
 store-turn memory before words direction start s i place at is = rw (add-one, is, at)
 
 -- and row by row
-place_at-here : {size : Size} {far from start s number : ℕ} (direction : Direction) (i : ℕ) → i < size.width → Walks size far from start s number
-    → place_at direction size.width far from (s + i) ≡ place_in direction start i
-unfolding place_at
-place_at-here {size = size} {s = s} {number = number} direction i short walks =
-    rw (row_of size.width number i (s + i) short (omega arith), word_of size.width number i (s + i) short (omega arith), walks.starts)
+module _ (width : ℕ) {far from start number : ℕ} (direction : Direction) (words before : List ℕ) (walks : Walks far from start number) where
+  place_at-here : (i : ℕ) → i < width → place_at direction width far from (number * width + i) ≡ place_in direction start i
+  unfolding place_at
+  place_at-here i short = rw (row_of width number i (number * width + i) short refl, word_of width number i (number * width + i) short refl, walks.starts)
 
-module _ {size : Size} {far from start s number : ℕ} (direction : Direction) (words before : List ℕ) where
-  pub fetch-rows-turn : (memory : List ℕ) → Walks size far from start s number
-      → Each s before (fetched_at direction size.width far from memory) → Laid s size.width words before (fetched_in direction memory start)
-      → Each (s + size.width) words (fetched_at direction size.width far from memory)
+  pub fetch-rows-turn : (memory : List ℕ) → Each (number * width) before (fetched_at direction width far from memory)
+      → Laid (number * width) width words before (fetched_in direction memory start)
+      → Each ((number + 1) * width) words (fetched_at direction width far from memory)
   unfolding fetched_in fetched_at Laid
-  fetch-rows-turn memory walks all laid =
-      laid _ all (λ i short. ap (λ (place : ℕ). get_or memory place 0) (sym (place_at-here direction i short walks)))
+  fetch-rows-turn memory all laid =
+      rw (next-start number width) (laid _ all (λ i short. ap (λ (place : ℕ). get_or memory place 0) (sym (place_at-here i short))))
 
-  pub store-rows-turn : (memory after : List ℕ) → Walks size far from start s number
-      → memory ≡ laid_at (place_at direction size.width far from) (at words) s before
-      → after ≡ laid_at (place_in direction start) (from_at s words) size.width memory
-      → after ≡ laid_at (place_at direction size.width far from) (at words) (s + size.width) before
+  pub store-rows-turn : (memory after : List ℕ) → memory ≡ laid_at (place_at direction width far from) (at words) (number * width) before
+      → after ≡ laid_at (place_in direction start) (from_at (number * width) words) width memory
+      → after ≡ laid_at (place_at direction width far from) (at words) ((number + 1) * width) before
   unfolding at from_at
-  store-rows-turn memory after walks so_far puts =
+  store-rows-turn memory after so_far puts =
       puts
-      ∙ ap (laid_at (place_in direction start) (from_at s words) size.width) so_far
-      ∙ laid_at-same (place_in direction start) (λ i. place_at direction size.width far from (s + i)) (from_at s words) (λ i. at words (s + i)) size.width _
-      (λ i short. sym (place_at-here direction i short walks)) (λ i short. refl)
-      ∙ sym (laid_at-more (place_at direction size.width far from) (at words) s size.width before)
+      ∙ ap (laid_at (place_in direction start) (from_at (number * width) words) width) so_far
+      ∙ laid_at-same (place_in direction start) (λ i. place_at direction width far from (number * width + i)) (from_at (number * width) words) (λ i. at words (number * width + i)) width _
+      (λ i short. sym (place_at-here i short)) (λ i short. refl)
+      ∙ sym (laid_at-more (place_at direction width far from) (at words) (number * width) width before)
+      ∙ ap (λ (k : ℕ). laid_at (place_at direction width far from) (at words) k before) (sym (next-start number width))
 
 -- a width that is known
 pub lies-when : {n : ℕ} {direction : Direction} {far from known : ℕ} {size : Size} → size.width ≡ known → Lies n direction far from size

@@ -1,30 +1,25 @@
 // The same word all along, and whether all words are nought.
-ghost use Rattle.std.specs.Prelude.{◌≡◌, ◌≤◌, eqb, length};
+ghost use Rattle.std.specs.Prelude.{◌≡◌, ◌≤◌};
 ghost use Rattle.block.specs.Inner.Each.{at, Each, level_at, nought};
 
 use crate::types::Words;
 
+#[tactic(auto, unfolding(crate::specs::Inner::Each::Each, crate::specs::Inner::Each::level_at))]
 pub fn level(word: u16, n: usize, x: &mut Words)
-    requires { (n ≤ 80) × (length x.old ≡ 80) }
-    ensures { (length x.new ≡ 80) × Each n x.new (level_at word) }
+    requires { n ≤ 80 }
+    ensures { Each n x.new (level_at word) }
 {
-    let mut i: usize = 0;
-    while i < n {
-        x[i] = word;
-        i = i + 1;
-    }
+    x[..n].fill(word);
 }
 
-// Nought where all the words are.
-pub fn any(n: usize, o: &Words) -> u16
+// Words are nought where no bit of any is set.
+pub fn nought(n: usize, o: &Words) -> bool
     requires { n ≤ 80 }
-    ensures { eqb result 0 ≡ nought n (at o.now) }
+    ensures { result ≡ nought n (at o.now) }
 {
-    let mut all = 0;
-    let mut i: usize = 0;
-    while i < n {
-        all = all | o[i];
-        i = i + 1;
+    let mut any = 0;
+    for i in 0..n {
+        any |= o[i];
     }
-    all
+    any == 0
 }

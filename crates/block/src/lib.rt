@@ -2,6 +2,7 @@
 // stored by loops that do one thing to every word.
 #![tactic(auto)]
 
+mod each;
 pub mod fetch;
 pub mod fill;
 pub mod level;

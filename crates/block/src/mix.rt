@@ -1,10 +1,11 @@
 // The logic function over a block's words.
-ghost use Rattle.std.specs.Prelude.{◌≡◌, ◌≤◌, length};
+ghost use Rattle.std.specs.Prelude.{◌≡◌, ◌≤◌};
 ghost use Rattle.quiet.specs.Words.{mixed_at};
-ghost use Rattle.block.specs.Inner.Each.{at, Each, turned_at};
-ghost use Rattle.block.specs.Inner.Terms.{terms, joined, joined_at};
+ghost use Rattle.block.specs.Inner.Each.{at, Each};
+ghost use Rattle.block.specs.Inner.Terms.{terms, joined};
 ghost use Rattle.block.specs.Inner.Ignores.{Ignores};
 
+use crate::each::each;
 use crate::types::{Needs, Terms, Words};
 
 // Bit i of the function, spread over a word, is what the sources' setting i gives.
@@ -38,63 +39,20 @@ fn joined(by: Terms, a: u16, b: u16, c: u16) -> u16
         ^ (a & (by.a ^ (c & by.ac) ^ (b & (by.ab ^ (c & by.abc)))))
 }
 
-// B's words stand where the mix goes.
-fn mix_three(by: Terms, n: usize, a: &Words, c: &Words, o: &mut Words)
-    requires { (n ≤ 80) × (length o.old ≡ 80) }
-    ensures { (length o.new ≡ 80)
-        × Each n o.new (joined_at by (at a.now) (at o.old) (at c.now)) }
-{
-    let mut i: usize = 0;
-    while i < n {
-        o[i] = joined(by, a[i], o[i], c[i]);
-        i = i + 1;
-    }
-}
-
-// Of one source: the word that nought makes, turned over where the source's bits are 1.
-fn mix_one(none: u16, turns: u16, n: usize, x: &Words, o: &mut Words)
-    requires { (n ≤ 80) × (length o.old ≡ 80) }
-    ensures { (length o.new ≡ 80)
-        × Each n o.new (turned_at none turns (at x.now)) }
-{
-    let mut i: usize = 0;
-    while i < n {
-        o[i] = none ^ (x[i] & turns);
-        i = i + 1;
-    }
-}
-
-// Of B alone, whose words stand where the mix goes.
-fn mix_own(none: u16, turns: u16, n: usize, o: &mut Words)
-    requires { (n ≤ 80) × (length o.old ≡ 80) }
-    ensures { (length o.new ≡ 80)
-        × Each n o.new (turned_at none turns (at o.old)) }
-{
-    let mut i: usize = 0;
-    while i < n {
-        o[i] = none ^ (o[i] & turns);
-        i = i + 1;
-    }
-}
-
-// A source that the function ignores isn't read. B's words stand where the mix goes.
+// A source that the function ignores isn't read. B's words stand where the mix goes. Of one source: the word that nought
+// makes, turned over where the source's bits are 1.
 pub fn mix(function: u16, need: Needs, n: usize, a: &Words, c: &Words, o: &mut Words)
-    requires { Ignores function need × (n ≤ 80) × (length o.old ≡ 80) }
-    ensures { (length o.new ≡ 80)
-        × Each n o.new (mixed_at function (at a.now) (at o.old) (at c.now)) }
+    requires { Ignores function need × (n ≤ 80) }
+    ensures { Each n o.new (mixed_at function (at a.now) (at o.old) (at c.now)) }
 {
     let by = terms(function);
     if (need.b & (need.a | need.c)) | (need.a & need.c) {
-        mix_three(by, n, a, c, o);
-        return;
+        each(n, |i, b| joined(by, a[i], b, c[i]), o);
+    } else if need.b {
+        each(n, |_, b| by.none ^ (b & by.b), o);
+    } else if need.a {
+        each(n, |i, _| by.none ^ (a[i] & by.a), o);
+    } else {
+        each(n, |i, _| by.none ^ (c[i] & by.c), o);
     }
-    if need.b {
-        mix_own(by.none, by.b, n, o);
-        return;
-    }
-    if need.a {
-        mix_one(by.none, by.a, n, a, o);
-        return;
-    }
-    mix_one(by.none, by.c, n, c, o);
 }

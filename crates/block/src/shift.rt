@@ -1,5 +1,5 @@
 // The shift of a block's words: the first with the word before the block, each other with the one before it.
-ghost use Rattle.std.specs.Prelude.{◌≡◌, true, ℕ, ◌+◌, ◌<◌, ◌≤◌, length};
+ghost use Rattle.std.specs.Prelude.{◌≡◌, true, ℕ, ◌+◌, ◌<◌, ◌≤◌};
 ghost use Rattle.word.specs.Shift.{shifted};
 ghost use Rattle.quiet.specs.Words.{shifted_at};
 ghost use Rattle.block.specs.Inner.Each.{at, Each};
@@ -19,20 +19,17 @@ fn drawn(direction: Direction, by: u32, earlier: u16, this: u16) -> u16
     }
 }
 
+#[tactic(auto, unfolding(crate::specs::Inner::Each::Each, crate::specs::Inner::Each::at))]
 pub fn copied(n: usize, x: &Words, y: &mut Words)
-    requires { (n ≤ 80) × (length y.old ≡ 80) }
-    ensures { (length y.new ≡ 80) × Each n y.new (at x.now) }
+    requires { n ≤ 80 }
+    ensures { Each n y.new (at x.now) }
 {
-    let mut i: usize = 0;
-    while i < n {
-        y[i] = x[i];
-        i = i + 1;
-    }
+    y[..n].copy_from_slice(&x[..n]);
 }
 
 // A shift by nought leaves every word as it is, whatever stands before it.
 pub fn unmoved(direction: Direction, by: u32, earlier: u16, x: &Words)
-    requires { (by ≡ 0) × (length x.now ≡ 80) }
+    requires { by ≡ 0 }
     ensures { (n : ℕ) → Each n x.now (shifted_at direction by earlier (at x.now)) }
 {
     crate::mask::first_word(x);
@@ -48,9 +45,8 @@ pub fn shift(
     x: &Words,
     y: &mut Words,
 )
-    requires { (by < 16) × (n ≤ 64) × (length x.now ≡ 80) × (length y.old ≡ 80) }
-    ensures { (length y.new ≡ 80)
-        × (need ≡ true → Each (n + 1) y.new (shifted_at direction by earlier (at x.now))) }
+    requires { (by < 16) × (n ≤ 64) }
+    ensures { need ≡ true → Each (n + 1) y.new (shifted_at direction by earlier (at x.now)) }
 {
     if !need {
         return;
@@ -61,9 +57,7 @@ pub fn shift(
         return;
     }
     y[0] = drawn(direction, by, earlier, x[0]);
-    let mut i: usize = 0;
-    while i < n {
+    for i in 0..n {
         y[i + 1] = drawn(direction, by, x[i], x[i + 1]);
-        i = i + 1;
     }
 }

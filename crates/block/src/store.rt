@@ -1,5 +1,5 @@
 // A block's words stored in memory row by row; no row goes round.
-ghost use Rattle.std.specs.Prelude.{◌≡◌, ◌+◌, ◌*◌, ◌<◌, ◌≤◌, length};
+ghost use Rattle.std.specs.Prelude.{◌≡◌, ◌+◌, ◌*◌, ◌≤◌, length};
 ghost use Rattle.word.specs.Inner.Even.{RowInside};
 ghost use Rattle.quiet.specs.Stream.{laid_at};
 ghost use Rattle.block.specs.Inner.Each.{at, from_at};
@@ -14,45 +14,33 @@ fn row(direction: Direction, ram: &mut [u16], start: usize, width: usize, s: usi
     ensures { ram.new
         ≡ laid_at (place_in direction start) (from_at s x.now) width ram.old }
 {
-    let mut i: usize = 0;
-    while i < width {
+    for i in 0..width {
         ram[crate::place::place(direction, start, i)] = x[s + i];
-        i = i + 1;
     }
 }
 
-pub fn rows(direction: Direction, ram: &mut [u16], from: usize, far: usize, size: Size, x: &Words)
-    requires { Lies (length ram.old) direction far from size }
-    ensures { ram.new
-        ≡ laid_at (place_at direction size.width far from) (at x.now) (size.height * size.width) ram.old }
-{
-    let mut start = from;
-    let mut s: usize = 0;
-    let mut number: usize = 0;
-    while number < size.height {
-        row(direction, ram, start, size.width, s, x);
-        start = (start + far) % INDEX_END;
-        s = s + size.width;
-        number = number + 1;
-    }
-}
-
-// Rows of one, two or three words: a width that the compiler knows makes a row one move.
-pub fn narrow_rows(direction: Direction, ram: &mut [u16], course: Course, size: Size, x: &Words)
-    requires { Lies (length ram.old) direction course.far course.from size × (size.width < 4) }
+fn each_row(direction: Direction, ram: &mut [u16], course: Course, size: Size, x: &Words)
+    requires { Lies (length ram.old) direction course.far course.from size }
     ensures { ram.new
         ≡ laid_at (place_at direction size.width course.far course.from) (at x.now) (size.height * size.width) ram.old }
 {
-    let from = course.from;
-    let far = course.far;
-    let height = size.height;
-    if size.width == 1 {
-        rows(direction, ram, from, far, Size { width: 1, height }, x);
-        return;
+    let mut start = course.from;
+    for number in 0..size.height {
+        row(direction, ram, start, size.width, number * size.width, x);
+        start = (start + course.far) % INDEX_END;
     }
-    if size.width == 2 {
-        rows(direction, ram, from, far, Size { width: 2, height }, x);
-        return;
+}
+
+// A width that the compiler knows makes a row one move.
+pub fn rows(direction: Direction, ram: &mut [u16], course: Course, size: Size, x: &Words)
+    requires { Lies (length ram.old) direction course.far course.from size }
+    ensures { ram.new
+        ≡ laid_at (place_at direction size.width course.far course.from) (at x.now) (size.height * size.width) ram.old }
+{
+    match size.width {
+        1 => each_row(direction, ram, course, Size { width: 1, ..size }, x),
+        2 => each_row(direction, ram, course, Size { width: 2, ..size }, x),
+        3 => each_row(direction, ram, course, Size { width: 3, ..size }, x),
+        _ => each_row(direction, ram, course, size, x),
     }
-    rows(direction, ram, from, far, Size { width: 3, height }, x);
 }

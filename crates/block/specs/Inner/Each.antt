@@ -1,6 +1,6 @@
 -- The words of a block in a local array, one by one.
 use Rattle.std.specs.Prelude.{ℕ, ◌+◌, ◌<◌, ◌≤◌, ◌≡◌, Bool, List, eqb, get_or, set}
-use Rattle.std.specs.Int.Bits.{bit_and, bit_or, bit_xor}
+use Rattle.std.specs.Int.Bits.{bit_and}
 use Rattle.word.specs.declared.types.Fill.{Fill}
 use Rattle.word.specs.Choice.{every}
 use Rattle.word.specs.Fill.{exclusive}
@@ -37,17 +37,9 @@ level_at word j = word
 unfoldable pub masked_in : (place mask : ℕ) → (words : List ℕ) → List ℕ
 masked_in place mask words = set words place (bit_and (get_or words place 0) mask)
 
--- a word whose bits turn some bits of another over
-unfoldable pub turned_at : (none turns : ℕ) → (word : ℕ → ℕ) → (j : ℕ) → ℕ
-turned_at none turns word j = bit_xor none (bit_and (word j) turns)
-
 -- word j filled exclusively from nought
 unfoldable pub prefix_at : (word : ℕ → ℕ) → (j : ℕ) → ℕ
 prefix_at word j = exclusive 0 (word j)
-
--- the bits of two words
-unfoldable pub either_at : (one other : ℕ → ℕ) → (j : ℕ) → ℕ
-either_at one other j = bit_or (one j) (other j)
 
 -- the words of a fill, and the final ones
 unfoldable pub filled_word_at : Fill → (start width : ℕ) → (word : ℕ → ℕ) → (j : ℕ) → ℕ

@@ -34,6 +34,3 @@ joined by a b c =
     bit_xor
     (bit_xor (bit_xor by.none (bit_and c by.c)) (bit_and b (bit_xor by.b (bit_and c by.bc))))
     (bit_and a (bit_xor (bit_xor by.a (bit_and c by.ac)) (bit_and b (bit_xor by.ab (bit_and c by.abc)))))
-
-unfoldable pub joined_at : Terms → (a b c : ℕ → ℕ) → (j : ℕ) → ℕ
-joined_at by a b c j = joined by (a j) (b j) (c j)

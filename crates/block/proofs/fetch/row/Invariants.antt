@@ -1,11 +1,7 @@
 -- `block::fetch::row` meets its contract: each turn fetches one word more.
-use Rattle.word.proofs.Base.{◌≡◌, ◌-◌, ◌≤◌, length}
 use Rattle.block.specs.Inner.Each.{Laid}
 use Rattle.block.specs.Inner.Place.{fetched_in}
 use Rattle.block.proofs.fetch.row.Given as goal
 
 abbrev pub invariant-loop-i : goal.invariant-loop-i
-invariant-loop-i l = (l.i ≤ l.width) × (length l.x ≡ 80) × Laid l.s l.i l.x l.initial.x (fetched_in l.direction l.ram l.start)
-
-abbrev pub decreases-loop-i : goal.decreases-loop-i
-decreases-loop-i l = l.width - l.i
+invariant-loop-i l = Laid l.s l.i l.x l.initial.x (fetched_in l.direction l.ram l.start)

@@ -5,10 +5,10 @@ use Rattle.block.proofs.FillLaws.{fill-of-off, carry-of-off, fill-of-inclusive, 
 use Rattle.block.proofs.fill.fill.Goals as goal
 
 pub returns-in-Off : goal.returns-in-Off
-returns-in-Off c = (search rules, search rules, fill-of-off _ _ _ _ _ (search rules), carry-of-off _ _ _ _ _ (search rules))
+returns-in-Off c = (fill-of-off _ _ _ _ _ (search rules), carry-of-off _ _ _ _ _ (search rules))
 
 pub returns-in-Inclusive : goal.returns-in-Inclusive
-returns-in-Inclusive c = let filling = c.exclusive-carry.ensures in let kind = c.in-Inclusive.is in (search rules, search rules, rw kind (fill-of-inclusive _ _ _ _ _ _ filling.3 filling.1 c.either.ensures.1), rw kind (filling.2 ∙ carry-of-inclusive _ _ _ _))
+returns-in-Inclusive c = let filling = c.exclusive-carry.ensures in let kind = c.in-Inclusive.is in (rw kind (fill-of-inclusive _ _ _ _ _ _ filling.2 filling.0 (λ j below. let h = c.each.ensures j below in search rules)), rw kind (filling.1 ∙ carry-of-inclusive _ _ _ _))
 
 pub returns-in-Exclusive : goal.returns-in-Exclusive
-returns-in-Exclusive c = let filling = c.exclusive-carry-in-Exclusive.ensures in let kind = c.in-Exclusive.is in (search rules, search rules, rw kind (each-copied _ _ _ _ filling.1 c.copied.ensures.1), rw kind filling.2)
+returns-in-Exclusive c = let filling = c.exclusive-carry-in-Exclusive.ensures in let kind = c.in-Exclusive.is in (rw kind (each-copied _ _ _ _ filling.0 c.copied.ensures), rw kind filling.1)

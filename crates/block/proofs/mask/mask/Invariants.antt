@@ -1,12 +1,8 @@
 -- `block::mask::mask` meets its contract: masks of all ones leave every word, and others change two of a row.
-use Rattle.word.proofs.Base.{◌≡◌, ◌-◌, length}
+use Rattle.word.proofs.Base.{◌≡◌, ◌*◌, length}
 use Rattle.quiet.specs.Words.{masked_at}
 use Rattle.block.specs.Inner.Each.{at, Each, Kept}
-use Rattle.block.proofs.EachLaws.{Reached}
 use Rattle.block.proofs.mask.mask.Given as goal
 
 abbrev pub invariant-loop-row : goal.invariant-loop-row
-invariant-loop-row l = Reached l.width l.rows l.row l.s × (length l.x ≡ 80) × Kept l.s l.x l.initial.x × Each l.s l.x (masked_at l.masks l.width (at l.initial.x))
-
-abbrev pub decreases-loop-row : goal.decreases-loop-row
-decreases-loop-row l = l.rows - l.row
+invariant-loop-row l = (length l.x ≡ 80) × Kept (l.row * l.size.width) l.x l.initial.x × Each (l.row * l.size.width) l.x (masked_at l.masks l.size.width (at l.initial.x))

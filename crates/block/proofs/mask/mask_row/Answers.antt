@@ -1,8 +1,8 @@
 -- `block::mask::mask_row` meets its contract.
-use Rattle.word.proofs.Base.{refl, rules}
+use Rattle.word.proofs.Base.{refl}
 use Rattle.block.specs.Inner.Each.{masked_in}
 use Rattle.block.proofs.mask.mask_row.Goals as goal
 
 pub returns : goal.returns
 unfolding masked_in
-returns c = (search rules, refl)
+returns c = refl

@@ -5,16 +5,20 @@ use Rattle.block.proofs.MixLaws.{mix-of-three, mix-of-a, mix-of-b, mix-of-c}
 use Rattle.block.proofs.mix.mix.Goals as goal
 
 pub returns-then-need : goal.returns-then-need
-returns-then-need c = (search rules, mix-of-three _ _ _ _ _ _ _ _ c.requires.0 c.terms-by.ensures c.mix_three.ensures.1)
+returns-then-need c = mix-of-three _ _ _ _ _ _ _ _ c.requires.0 c.terms-by.ensures (λ j below. let is = c.each.ensures j below in search rules)
 
 pub returns-then-need-2 : goal.returns-then-need-2
 returns-then-need-2 c = let need = c.args.need in
     let others = rw c.if-need-2.true at (or_left (need.b && (need.a || need.c)) (need.a && need.c) c.if-need.false) in
-    (search rules, mix-of-b _ _ _ _ _ _ _ _ c.requires.0 c.terms-by.ensures (or_left _ _ others) (or_right need.a _ others) c.mix_own.ensures.1)
+    mix-of-b _ _ _ _ _ _ _ _ c.requires.0 c.terms-by.ensures (or_left _ _ others) (or_right need.a _ others)
+    (λ j below. let is = c.each-then-need-2.ensures j below in search rules)
 
 pub returns-then-need-3 : goal.returns-then-need-3
 returns-then-need-3 c = let need = c.args.need in
-    (search rules, mix-of-a _ _ _ _ _ _ _ _ c.requires.0 c.terms-by.ensures c.if-need-2.false (rw c.if-need-3.true at (or_right (need.b && (need.a || need.c)) _ c.if-need.false)) c.mix_one.ensures.1)
+    mix-of-a _ _ _ _ _ _ _ _ c.requires.0 c.terms-by.ensures c.if-need-2.false (rw c.if-need-3.true at (or_right (need.b && (need.a || need.c)) _ c.if-need.false))
+    (λ j below. let is = c.each-then-need-3.ensures j below in search rules)
 
-pub returns : goal.returns
-returns c = (search rules, mix-of-c _ _ _ _ _ _ _ _ c.requires.0 c.terms-by.ensures c.if-need-3.false c.if-need-2.false c.mix_one-2.ensures.1)
+pub returns-else-need-3 : goal.returns-else-need-3
+returns-else-need-3 c =
+    mix-of-c _ _ _ _ _ _ _ _ c.requires.0 c.terms-by.ensures c.if-need-3.false c.if-need-2.false
+    (λ j below. let is = c.each-else-need-3.ensures j below in search rules)

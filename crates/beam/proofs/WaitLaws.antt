@@ -36,19 +36,27 @@ first_satisfied-on first second place next on inside none =
     ∙ ap (first_satisfied first second (frame_end - next)) end)
 
 -- one place passed
-pub first_satisfied-past-place : (first second place : ℕ) → place < frame_end → satisfied first second place ≡ false
+first_satisfied-past-one : (first second place : ℕ) → place < frame_end → satisfied first second place ≡ false
     → first_satisfied first second (frame_end - (place + 1)) (place + 1) ≡ first_satisfied first second (frame_end - place) place
-first_satisfied-past-place first second place inside fails =
+first_satisfied-past-one first second place inside fails =
     first_satisfied-on first second place (place + 1) (omega arith) (omega (arith, inside))
     (λ k near. let here : place + k ≡ place = omega (arith, near) in ap (satisfied first second) here ∙ fails)
+
+-- the same by the line's start
+pub first_satisfied-past-place : (first second place : ℕ) → place < frame_end → satisfied first second place ≡ false
+    → first_satisfied first second (frame_end - (place / 227 * 227 + (place % 227 + 1))) (place / 227 * 227 + (place % 227 + 1))
+    ≡ first_satisfied first second (frame_end - place) place
+first_satisfied-past-place first second place inside fails =
+    let same : place + 1 ≡ place / 227 * 227 + (place % 227 + 1) = omega arith in
+    rw (← same) (first_satisfied-past-one first second place inside fails)
 
 -- the rest of a line passed that lies below
 pub first_satisfied-past-line : (first second place : ℕ) (below : Bool) → place < frame_end
     → below ≡ line_below first second (line place) → below ≡ true
-    → first_satisfied first second (frame_end - (place / 227 + 1) * 227) ((place / 227 + 1) * 227)
+    → first_satisfied first second (frame_end - (place / 227 * 227 + 227)) (place / 227 * 227 + 227)
     ≡ first_satisfied first second (frame_end - place) place
 first_satisfied-past-line first second place below inside is holds =
-    first_satisfied-on first second place ((place / 227 + 1) * 227) (omega arith) (omega (arith, inside))
+    first_satisfied-on first second place (place / 227 * 227 + 227) (omega arith) (omega (arith, inside))
     (λ k near. let same : line (place + k) ≡ line place = omega (arith, near) in
     satisfied-on-line-below first second (place + k)
     (ap (line_below first second) same ∙ sym is ∙ holds))
@@ -82,16 +90,24 @@ pub first_satisfied-turn : (first second place next whole : ℕ)
 first_satisfied-turn first second place next whole passes so_far = passes ∙ so_far
 
 -- a turn of the loop along a line: a position below the first word's, masked
-pub first_satisfied-on-line : (first second place next at bits least whole : ℕ)
+pub first_satisfied-on-line : (first second place start at bits least whole : ℕ)
     → bits ≡ mask second % 256 → least ≡ bit_and (first % 256) bits → satisfied first second place ≡ false → place < frame_end
-    → next ≡ place / 227 * 227 + at → at < 227 → bit_and at bits < least
-    → first_satisfied first second (frame_end - next) next ≡ whole
-    → first_satisfied first second (frame_end - (next + 1)) (next + 1) ≡ whole
-first_satisfied-on-line first second place next at bits least whole is-bits is-least fails inside here short low so_far =
-    let same : line next ≡ line place = omega (arith, here, short) in
-    let there : position next ≡ at = omega (arith, here, short) in
-    let below : bit_and (position next) (mask second % 256) < bit_and (first % 256) (mask second % 256) =
+    → start ≡ place / 227 * 227 → at < 227 → bit_and at bits < least
+    → first_satisfied first second (frame_end - (start + at)) (start + at) ≡ whole
+    → first_satisfied first second (frame_end - (start + (at + 1))) (start + (at + 1)) ≡ whole
+first_satisfied-on-line first second place start at bits least whole is-bits is-least fails inside here short low so_far =
+    let same : line (start + at) ≡ line place = omega (arith, here, short) in
+    let there : position (start + at) ≡ at = omega (arith, here, short) in
+    let below : bit_and (position (start + at)) (mask second % 256) < bit_and (first % 256) (mask second % 256) =
     rw (there, ← is-bits, ← is-least) low in
-    first_satisfied-past-place first second next (omega (arith, here, short, inside))
-    (satisfied-on-line-of first second place next fails same below)
+    let next : start + at + 1 ≡ start + (at + 1) = omega arith in
+    rw (← next) (first_satisfied-past-one first second (start + at) (omega (arith, here, short, inside))
+    (satisfied-on-line-of first second place (start + at) fails same below))
     ∙ so_far
+
+-- the loop's end behind the line
+pub first_satisfied-past-positions : (first second start at whole : ℕ) → at ≤ 227 → 227 ≤ at
+    → first_satisfied first second (frame_end - (start + at)) (start + at) ≡ whole
+    → first_satisfied first second (frame_end - (start + 227)) (start + 227) ≡ whole
+first_satisfied-past-positions first second start at whole most least so_far =
+    let all : at ≡ 227 = omega (arith, most, least) in rw all at so_far

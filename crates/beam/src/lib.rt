@@ -47,24 +47,22 @@ fn next_tried(first: u16, second: u16, place: u32) -> u32
     ensures { (place < result) × (result ≤ frame_end)
         × (first_satisfied first second (frame_end - result) result ≡ first_satisfied first second (frame_end - place) place) }
 {
+    let start = place / 227 * 227;
     if line_below(first, second, place) {
-        return (place / 227 + 1) * 227;
+        return start + 227;
     }
     let bits = mask(second) % 256;
     let least = (first as u32) % 256 & bits;
-    let mut next = place + 1;
-    let mut position = place % 227 + 1;
-    while position < 227 {
+    for position in place % 227 + 1..227 {
         if least <= position & bits {
-            return next;
+            return start + position;
         }
-        next = next + 1;
-        position = position + 1;
     }
-    next
+    start + 227
 }
 
-// The first place at or after one where a comparison is satisfied; past the frame where there is none.
+// The first place at or after one where a comparison is satisfied; past the frame where there is none. From place to place
+// it goes by what is to be tried next, which no range counts.
 fn first_satisfied(first: u16, second: u16, from: u32) -> u32
     ensures { result ≡ first_satisfied first second (frame_end - from) from }
 {

@@ -14,7 +14,6 @@ use Rattle.runner.specs.Run.{Machine, machine, effect_on, after, End, ended, run
 use Rattle.runner.proofs.StartLaws.{start_refusal-is-none, run-when-started, run-when-unstarted}
 use Rattle.widen.specs.Widen as widenings
 use Rattle.widen.specs.Widen.{widening}
-use Rattle.picture.specs.declared.types.Answer as picture_answer
 use Rattle.playfield.specs.Playfield.{Playfield}
 use Rattle.picture.specs.Picture as pictures
 use Rattle.picture.specs.Picture.{picture}
@@ -173,7 +172,7 @@ pub widening-of-answer : (old target next : List ℕ) (number : ℕ) (answer : w
     → record { number = number; target = next } ≡ widening old target
 widening-of-answer old target next number answer is_number gives = rw is_number gives
 
-pub picture-of-answer : (memory file : List ℕ) (field : Playfield) (out next : List ℕ) (number : ℕ) (answer : picture_answer.Answer)
+pub picture-of-answer : (memory file : List ℕ) (field : Playfield) (out next : List ℕ) (number : ℕ) (answer : pictures.Answer)
     → number ≡ pictures.answer_number answer → pictures.left answer next ≡ picture memory file field out
     → record { number = number; out = next } ≡ picture memory file field out
 picture-of-answer memory file field out next number answer is_number gives = rw is_number gives

@@ -1,29 +1,29 @@
 -- Two answers that meet the promise are equal: the six numbers differ.
 use Rattle.std.specs.Prelude.{if◌then◌else◌}
 use Rattle.word.proofs.Base.{◌≡◌, refl, sym, ap, ◌∙◌, ℕ, eqb}
-use Rattle.picture.specs.declared.types.Answer.{Answer}
-use Rattle.picture.specs.declared.types.Answer.TheVariants.{Done, MemorySize, RegisterFile, BadPlayfield, TooShort, Leaves}
-use Rattle.picture.specs.Picture.{Picture, answer_number}
+use Rattle.std.specs.Prelude.{Ok, Err}
+use Rattle.picture.specs.declared.types.Refusal.TheVariants.{MemorySize, RegisterFile, BadPlayfield, TooShort, Leaves}
+use Rattle.picture.specs.Picture.{Answer, Picture, answer_number}
 use Rattle.picture.specs.OneAnswer.{OneAnswer}
 
 -- the answer with a number
 answer_of : ℕ → Answer
 answer_of number =
-    if eqb number 0 then Done else
-    if eqb number 1 then MemorySize else
-    if eqb number 2 then RegisterFile else
-    if eqb number 24 then BadPlayfield else
-    if eqb number 25 then TooShort else
-    Leaves
+    if eqb number 0 then Ok tt else
+    if eqb number 1 then Err MemorySize else
+    if eqb number 2 then Err RegisterFile else
+    if eqb number 24 then Err BadPlayfield else
+    if eqb number 25 then Err TooShort else
+    Err Leaves
 
 answer_number-tells : (answer : Answer) → answer_of (answer_number answer) ≡ answer
 unfolding answer_of
-answer_number-tells Done = refl
-answer_number-tells MemorySize = refl
-answer_number-tells RegisterFile = refl
-answer_number-tells BadPlayfield = refl
-answer_number-tells TooShort = refl
-answer_number-tells Leaves = refl
+answer_number-tells (Ok done) = refl
+answer_number-tells (Err MemorySize) = refl
+answer_number-tells (Err RegisterFile) = refl
+answer_number-tells (Err BadPlayfield) = refl
+answer_number-tells (Err TooShort) = refl
+answer_number-tells (Err Leaves) = refl
 
 pub one_answer : OneAnswer
 one_answer memory file field out first second promise again =

@@ -11,7 +11,8 @@ use Rattle.word.proofs.ChoiceLaws.{or_left, or_right, within-when-passed, every-
 use Rattle.word.proofs.WordLaws.{of_bits-is-pointwise}
 use Rattle.playfield.specs.Playfield.{most_planes, most_words, most_delay, Playfield, plane_delay, pixel_at, colour_number}
 use Rattle.picture.specs.Line.{colour, pixel_colour, line_pixels, shown_line}
-use Rattle.picture.specs.declared.types.Answer.TheVariants.{Done, MemorySize, RegisterFile, BadPlayfield, TooShort, Leaves}
+use Rattle.std.specs.Prelude.{Ok, Err}
+use Rattle.picture.specs.declared.types.Refusal.TheVariants.{MemorySize, RegisterFile, BadPlayfield, TooShort, Leaves}
 use Rattle.picture.specs.Refusal.{refusal, bad_playfield, too_short, leaves}
 use Rattle.picture.specs.Refusal as refusals
 use Rattle.picture.specs.Picture.{with_line, picture, left}
@@ -30,7 +31,7 @@ numbered-is-colour_number memory field numbers all i within =
     (λ place _. words_pixel-within memory (get_or field.planes place 0) (plane_delay field.odd field.even (place + 1)) field.words i (omega arith))
 
 pub with_line-of-numbers : (memory file : List ℕ) (field : Playfield) (numbers out next : List ℕ) → Numbered memory field (length field.planes) numbers
-    → line_pixels field ≤ length out → next ≡ painted (number_colour file numbers) 0 (line_pixels field) out → next ≡ with_line memory file field out
+    → line_pixels field ≤ length out → next ≡ painted (number_colour file numbers) (line_pixels field) out → next ≡ with_line memory file field out
 unfolding with_line shown_line number_colour
 with_line-of-numbers memory file field numbers out next all fits writes =
     writes
@@ -41,38 +42,38 @@ with_line-of-numbers memory file field numbers out next all fits writes =
 
 -- the answers in their order
 module _ (memory file : List ℕ) (field : Playfield) (out : List ℕ) (size : Bool) (of_size : size ≡ memory_size (length memory)) where
-  pub picture-of-memory_size : size ≡ true → left MemorySize out ≡ picture memory file field out
+  pub picture-of-memory_size : size ≡ true → left (Err MemorySize) out ≡ picture memory file field out
   unfolding picture refusal given
   picture-of-memory_size refused = rw (← of_size, refused)
 
   module _ (fine : Bool) (of-file : fine ≡ accepted file) (passed : size ≡ false) where
-    pub picture-of-file : not fine ≡ true → left RegisterFile out ≡ picture memory file field out
+    pub picture-of-file : not fine ≡ true → left (Err RegisterFile) out ≡ picture memory file field out
     unfolding picture refusal given
     picture-of-file refused = rw (← of_size, passed, ← of-file, refused)
 
     module _ (bad : Bool) (of-playfield : bad ≡ bad_playfield field) (good : not fine ≡ false) where
-      pub picture-of-playfield : bad ≡ true → left BadPlayfield out ≡ picture memory file field out
+      pub picture-of-playfield : bad ≡ true → left (Err BadPlayfield) out ≡ picture memory file field out
       unfolding picture refusal given
       picture-of-playfield refused = rw (← of_size, passed, ← of-file, good, ← of-playfield, refused)
 
       module _ (lawful : bad ≡ false) where
-        pub picture-of-too_short : length out < line_pixels field → left TooShort out ≡ picture memory file field out
+        pub picture-of-too_short : length out < line_pixels field → left (Err TooShort) out ≡ picture memory file field out
         unfolding picture refusal given too_short
         picture-of-too_short short = rw (← of_size, passed, ← of-file, good, ← of-playfield, lawful, lt-ltb (length out) (line_pixels field) short)
 
         module _ (inside : Bool)
             (of-planes : inside ≡ every (refusals.inside (length memory) field.words field.planes) (length field.planes))
             (room : line_pixels field ≤ length out) where
-          pub picture-of-leaves : not inside ≡ true → left Leaves out ≡ picture memory file field out
+          pub picture-of-leaves : not inside ≡ true → left (Err Leaves) out ≡ picture memory file field out
           unfolding picture refusal given too_short leaves
           picture-of-leaves refused =
               rw (← of_size, passed, ← of-file, good, ← of-playfield, lawful, le-ltb (length out) (line_pixels field) room, ← of-planes, refused)
 
-          pub picture-when-done : (next : List ℕ) → not inside ≡ false → next ≡ with_line memory file field out → left Done next ≡ picture memory file field out
+          pub picture-when-done : (next : List ℕ) → not inside ≡ false → next ≡ with_line memory file field out → left (Ok tt) next ≡ picture memory file field out
           unfolding picture refusal given too_short leaves
           picture-when-done next stays writes =
               rw (← of_size, passed, ← of-file, good, ← of-playfield, lawful, le-ltb (length out) (line_pixels field) room, ← of-planes, stays)
-              (ap (left Done) writes)
+              (ap (left (Ok tt)) writes)
 
 -- what passes the tests can be drawn
 pub file-length-told : (file : List ℕ) (fine : Bool) → fine ≡ accepted file → not fine ≡ false → length file ≡ file_length

@@ -1,8 +1,7 @@
 -- Paper 01, "What each answer commits to": "Show that two answers meeting it are equal".
 use Rattle.std.specs.Prelude.{ℕ, ◌≡◌, List}
-use Rattle.picture.specs.declared.types.Answer.{Answer}
 use Rattle.playfield.specs.Playfield.{Playfield}
-use Rattle.picture.specs.Picture.{picture, left}
+use Rattle.picture.specs.Picture.{Answer, picture, left}
 
 -- an answer with what the lent run holds as it is given
 pub record Result : Type 0 where

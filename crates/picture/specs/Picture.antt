@@ -1,8 +1,7 @@
 -- Paper 02, W9: what the call gives, and the lent run as it leaves it.
-use Rattle.std.specs.Prelude.{ℕ, List, ◌++◌, eqb, drop, if◌then◌else◌}
-use Rattle.picture.specs.declared.types.Answer.{Answer}
-use Rattle.picture.specs.declared.types.Answer.TheVariants.{Done, MemorySize, RegisterFile, BadPlayfield}
-use Rattle.picture.specs.declared.types.Answer.TheVariants.{TooShort, Leaves}
+use Rattle.std.specs.Prelude.{ℕ, ⊤, Result, Ok, Err, List, ◌++◌, eqb, drop, if◌then◌else◌}
+use Rattle.picture.specs.declared.types.Refusal.{Refusal}
+use Rattle.picture.specs.declared.types.Refusal.TheVariants.{MemorySize, RegisterFile, BadPlayfield, TooShort, Leaves}
 use Rattle.playfield.specs.Playfield.{Playfield}
 use Rattle.picture.specs.Line.{line_pixels, shown_line}
 use Rattle.picture.specs.Refusal.{refusal}
@@ -24,14 +23,18 @@ picture memory file field out =
     if eqb (refusal memory file field out) 0 then ended 0 (with_line memory file field out) else
     ended (refusal memory file field out) out
 
+-- done, or refused
+abbrev pub Answer : Type 0
+Answer = Result ⊤ Refusal
+
 -- the paper's number for each case of the answer
 abbrev pub answer_number : Answer → ℕ
-answer_number Done = 0
-answer_number MemorySize = 1
-answer_number RegisterFile = 2
-answer_number BadPlayfield = 24
-answer_number TooShort = 25
-answer_number Leaves = 10
+answer_number (Ok _) = 0
+answer_number (Err MemorySize) = 1
+answer_number (Err RegisterFile) = 2
+answer_number (Err BadPlayfield) = 24
+answer_number (Err TooShort) = 25
+answer_number (Err Leaves) = 10
 
 -- an answer, and what the run holds as it is given
 abbrev pub left : Answer → (out : List ℕ) → Picture

@@ -2,17 +2,13 @@
 ghost use Rattle.std.specs.Prelude.{◌≡◌};
 ghost use Rattle.picture.specs.Picture.{answer_number};
 
-use crate::types::Answer;
+use crate::types::Refusal;
 
-pub fn number(answer: Answer) -> u32
+pub fn number(answer: Result<(), Refusal>) -> u32
     ensures { result ≡ answer_number answer }
 {
     match answer {
-        Answer::Done => 0,
-        Answer::MemorySize => 1,
-        Answer::RegisterFile => 2,
-        Answer::BadPlayfield => 24,
-        Answer::TooShort => 25,
-        Answer::Leaves => 10,
+        Ok(()) => 0,
+        Err(refusal) => refusal as u32,
     }
 }

@@ -4,6 +4,8 @@ ghost use Rattle.word.specs.Choice.{every};
 ghost use Rattle.playfield.specs.Playfield.{playfield};
 ghost use Rattle.picture.specs.Refusal.{bad, bad_playfield, inside};
 
+use playfield::types::Playfield;
+
 pub const MOST_PLANES: usize = 5;
 
 pub const MOST_WORDS: usize = 40;
@@ -16,13 +18,13 @@ fn bad(number: usize, most: usize) -> bool
     (number == 0) | (most < number)
 }
 
-pub fn bad_playfield(planes: &[u32], words: usize, odd: usize, even: usize) -> bool
-    ensures { result ≡ bad_playfield (playfield planes.now words odd even) }
+pub fn bad_playfield(field: Playfield) -> bool
+    ensures { result ≡ bad_playfield (playfield field.entry.planes.now field.entry.words field.entry.odd field.entry.even) }
 {
-    bad(planes.len(), MOST_PLANES)
-        | bad(words, MOST_WORDS)
-        | (MOST_DELAY < odd)
-        | (MOST_DELAY < even)
+    bad(field.planes.len(), MOST_PLANES)
+        | bad(field.words, MOST_WORDS)
+        | (MOST_DELAY < field.odd)
+        | (MOST_DELAY < field.even)
 }
 
 // The word behind a plane's last. The sum is taken in 64 bits: nothing goes round.
@@ -37,10 +39,8 @@ pub fn all_inside(n: usize, planes: &[u32], words: u32) -> bool
     ensures { result ≡ every (inside n words planes.now) (length planes.now) }
 {
     let mut fine = true;
-    let mut place: usize = 0;
-    while place < planes.len() {
-        fine = (end(planes[place], words) <= n) & fine;
-        place = place + 1;
+    for start in planes {
+        fine &= end(*start, words) <= n;
     }
     fine
 }

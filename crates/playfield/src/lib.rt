@@ -6,22 +6,14 @@ pub mod types;
 
 ghost use Rattle.std.specs.Prelude.{◌≡◌, ◌+◌, ◌-◌, ◌*◌, ◌^◌, ◌<◌, ◌≤◌, length};
 ghost use Rattle.word.specs.Word.{bit};
-ghost use Rattle.playfield.specs.Playfield.{most_planes, most_words, most_delay, playfield, plane_delay};
+ghost use Rattle.playfield.specs.Playfield.{most_words, most_delay, playfield, plane_delay};
 ghost use Rattle.playfield.specs.Inner.Numbers.{room, Drawable, word_pixel, words_pixel, Grown, UpTo, Numbered};
 
-use crate::types::Numbers;
+use crate::types::{Numbers, Playfield};
 
-// The leftmost pixel is bit 15.
-fn mask(pixel: usize) -> u16
-    requires { pixel < 16 }
-    ensures { result ≡ 2 ^ (15 - pixel) }
-{
-    1 << (15 - pixel)
-}
-
-// Plane 1 is the lowest bit of the colour number.
-fn weight(place: usize) -> u16
-    requires { place < most_planes }
+// The number with one bit set.
+fn one_bit(place: usize) -> u16
+    requires { place < 16 }
     ensures { result ≡ 2 ^ place }
 {
     1 << place
@@ -37,36 +29,25 @@ fn delay(odd: usize, even: usize, place: usize) -> usize
     even
 }
 
-// What a word's pixel adds to its colour number.
+// What a word's pixel adds to its colour number. The leftmost pixel is bit 15.
 fn share(word: u16, pixel: usize, weight: u16) -> u16
     requires { pixel < 16 }
     ensures { result ≡ bit word (15 - pixel) * weight }
 {
-    if word & mask(pixel) == 0 {
+    if word & one_bit(15 - pixel) == 0 {
         return 0;
     }
     weight
 }
 
-// Where a word's pixel stands, the first one at s. What a delay pushes past the line's end has its place behind the
-// line.
-fn pixel_place(s: usize, pixel: usize) -> usize
-    requires { s + pixel < room }
-    ensures { result ≡ s + pixel }
-{
-    s + pixel
-}
-
-// The sixteen pixels of a word, from pixel s on.
+// The sixteen pixels of a word, from pixel s on. What a delay pushes past the line's end has its place behind the line.
 fn lay_word(word: u16, weight: u16, s: usize, numbers: &mut Numbers)
-    requires { (weight ≤ 16) × (s + 16 ≤ room) × (length numbers.old ≡ room) × UpTo 31 numbers.old }
+    requires { (weight ≤ 16) × (s + 16 ≤ room) × UpTo 31 numbers.old }
     ensures { Grown weight (word_pixel word s 16) numbers.old numbers.new }
 {
-    let mut pixel: usize = 0;
-    while pixel < 16 {
-        let at = pixel_place(s, pixel);
-        numbers[at] = numbers[at] + share(word, pixel, weight);
-        pixel = pixel + 1;
+    for pixel in 0..16 {
+        let at = s + pixel;
+        numbers[at] += share(word, pixel, weight);
     }
 }
 
@@ -79,42 +60,26 @@ fn lay_plane(
     numbers: &mut Numbers,
 )
     requires { (start + words ≤ length ram.now) × (words ≤ most_words) × (delay ≤ most_delay) × (weight ≤ 16)
-        × (length numbers.old ≡ room) × UpTo 15 numbers.old }
+        × UpTo 15 numbers.old }
     ensures { Grown weight (words_pixel ram.now start delay words)
         numbers.old numbers.new }
 {
-    let mut word: usize = 0;
-    while word < words {
+    for word in 0..words {
         lay_word(ram[start + word], weight, delay + 16 * word, numbers);
-        word = word + 1;
     }
 }
 
-fn word_number(start: u32) -> usize
-    ensures { result ≡ start }
+// The planes one after the other, plane 1 first, which is the lowest bit of the colour number.
+pub fn lay_planes(ram: &[u16], field: Playfield, numbers: &mut Numbers)
+    requires { Drawable (length ram.now) (playfield field.planes.now field.words field.odd field.even)
+        × UpTo 0 numbers.old }
+    ensures { Numbered ram.now (playfield field.entry.planes.now field.entry.words field.entry.odd field.entry.even)
+        (length field.entry.planes.now) numbers.new }
 {
-    start as usize
-}
-
-// The planes one after the other, plane 1 first.
-pub fn lay_planes(
-    ram: &[u16],
-    planes: &[u32],
-    words: usize,
-    odd: usize,
-    even: usize,
-    numbers: &mut Numbers,
-)
-    requires { Drawable (length ram.now) (playfield planes.now words odd even)
-        × (length numbers.old ≡ room) × UpTo 0 numbers.old }
-    ensures { Numbered ram.now (playfield planes.now words odd even)
-        (length planes.now) numbers.new }
-{
-    let mut place: usize = 0;
-    while place < planes.len() {
-        let start = word_number(planes[place]);
-        let by = delay(odd, even, place);
-        lay_plane(ram, start, words, by, weight(place), numbers);
-        place = place + 1;
+    for place in 0..field.planes.len() {
+        let start = field.planes[place] as usize;
+        let by = delay(field.odd, field.even, place);
+        let weight = one_bit(place);
+        lay_plane(ram, start, field.words, by, weight, numbers);
     }
 }

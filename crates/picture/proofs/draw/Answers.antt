@@ -1,5 +1,4 @@
 -- `picture::draw` meets its contract: the planes make the pixels' colour numbers, which are written as colours.
-use Rattle.word.proofs.Base.{refl}
 use Rattle.playfield.specs.Inner.Numbers.{room}
 use Rattle.playfield.proofs.NumbersLaws.{zeros-small}
 use Rattle.playfield.proofs.PlanesLaws.{numbered-small}
@@ -7,7 +6,7 @@ use Rattle.picture.proofs.PictureLaws.{with_line-of-numbers}
 use Rattle.picture.proofs.draw.Goals as goal
 
 pub lay_planes-requires : goal.lay_planes-requires
-lay_planes-requires c = (c.requires.0, refl, zeros-small room)
+lay_planes-requires c = (c.requires.0, zeros-small room)
 
 pub show-requires : goal.show-requires
 show-requires c = let pre = c.requires in

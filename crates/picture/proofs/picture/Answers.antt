@@ -14,8 +14,8 @@ returns-then-not-accepted c = search picture-of-file
 pub returns-then-bad_playfield : goal.returns-then-bad_playfield
 returns-then-bad_playfield c = search picture-of-playfield
 
-pub returns-then-out-words : goal.returns-then-out-words
-returns-then-out-words c = search picture-of-too_short
+pub returns-then-out-field : goal.returns-then-out-field
+returns-then-out-field c = search picture-of-too_short
 
 pub returns-then-not-all_inside : goal.returns-then-not-all_inside
 returns-then-not-all_inside c = search picture-of-leaves

@@ -1,10 +1,10 @@
--- Pixels written into a run one after the other, from a place on.
-use Rattle.std.specs.Prelude.{ℕ, zero, suc, ◌+◌, List, get_or, set}
+-- Pixels written into a run one after the other, from its front on.
+use Rattle.std.specs.Prelude.{ℕ, zero, suc, List, get_or, set}
 use Rattle.picture.specs.Line.{colour}
 
-unfoldable pub painted : (pixel : ℕ → ℕ) → (s n : ℕ) → (run : List ℕ) → List ℕ
-painted pixel s zero run = run
-painted pixel s (suc n) run = set (painted pixel s n run) (s + n) (pixel (s + n))
+unfoldable pub painted : (pixel : ℕ → ℕ) → (n : ℕ) → (run : List ℕ) → List ℕ
+painted pixel zero run = run
+painted pixel (suc n) run = set (painted pixel n run) n (pixel n)
 
 -- the colour of the number that stands at pixel i of an array
 unfoldable pub number_colour : (file numbers : List ℕ) → (i : ℕ) → ℕ

@@ -4,15 +4,15 @@ use Rattle.playfield.proofs.PlanesLaws.{words_pixel-none, words_pixel-lt, grown-
 use Rattle.playfield.proofs.lay_plane.Goals as goal
 
 pub loop-word-init : goal.loop-word-init
-loop-word-init c = (search rules, grown-none _ _ _ (search rules) (words_pixel-none _ _ _))
+loop-word-init c = grown-none _ _ _ (search rules) (words_pixel-none _ _ _)
 
 pub lay_word-requires : goal.lay_word-requires
-lay_word-requires c = let so_far = c.loop-word.invariant.1 in
+lay_word-requires c = let so_far = c.loop-word.invariant in
     let pre = c.requires in
-    (search rules, search rules, so_far.long, grown-small _ 15 31 _ _ _ (words_pixel-lt _ _ _ _) (search rules) pre.5 so_far)
+    (search rules, search rules, grown-small _ 15 31 _ _ _ (words_pixel-lt _ _ _ _) (search rules) pre.4 so_far)
 
 pub loop-word-preserved : goal.loop-word-preserved
-loop-word-preserved c = (search rules, plane-turn _ _ _ _ _ _ _ _ c.loop-word.invariant.1 c.lay_word.ensures)
+loop-word-preserved c = plane-turn _ _ _ _ _ _ _ _ c.loop-word.invariant c.lay_word.ensures
 
 pub returns : goal.returns
-returns c = let all : c.loop-word.word ≡ c.args.words = omega arith in rw all at c.loop-word.invariant.1
+returns c = let all : c.loop-word.word ≡ c.args.words = omega arith in rw all at c.loop-word.invariant

@@ -28,8 +28,8 @@ module _ (word pixel weight mask : ℕ) (is : mask ≡ 2 ^ (15 - pixel)) where
       bit-cases (λ b. (b * 2 ^ (15 - pixel) ≡ 0 → ⊥) → weight ≡ b * weight) (λ clear. absurd (clear (omega arith)))
       (λ _. omega arith) (bit word (15 - pixel)) (bit-lt word (15 - pixel)) (λ none. some (masked ∙ none))
 
-pub returns-then-word-mask-eq0 : goal.returns-then-word-mask-eq0
-returns-then-word-mask-eq0 c = search share-of-none
+pub returns-then-word-one_bit-eq0 : goal.returns-then-word-one_bit-eq0
+returns-then-word-one_bit-eq0 c = search share-of-none
 
 pub returns : goal.returns
 returns c = search share-of-some

@@ -1,15 +1,14 @@
-use Rattle.word.proofs.Base.{arith, rules}
-use Rattle.picture.proofs.PaintedLaws.{painted-none, painted-done, words-turn, words-as-long}
+use Rattle.word.proofs.Base.{refl, rules}
+use Rattle.picture.specs.Inner.Painted.{number_colour}
+use Rattle.picture.proofs.PaintedLaws.{painted-none, painted-turn, painted-done}
 use Rattle.picture.proofs.show.show.Goals as goal
 
-pub loop-word-init : goal.loop-word-init
-loop-word-init c = (search rules, painted-none _ _ _, search rules)
+pub loop-pixel-init : goal.loop-pixel-init
+loop-pixel-init c = painted-none _ _
 
-pub show_word-requires : goal.show_word-requires
-show_word-requires c = (search rules, c.requires.1, omega arith, omega arith)
-
-pub loop-word-preserved : goal.loop-word-preserved
-loop-word-preserved c = (search rules, search words-turn, search words-as-long)
+pub loop-pixel-preserved : goal.loop-pixel-preserved
+unfolding number_colour
+loop-pixel-preserved c = painted-turn _ _ _ _ _ c.loop-pixel.invariant refl
 
 pub returns : goal.returns
-returns c = painted-done _ _ _ _ _ _ (omega arith) (omega arith) c.loop-word.invariant.1
+returns c = painted-done _ _ _ _ _ (search rules) (search rules) c.loop-pixel.invariant

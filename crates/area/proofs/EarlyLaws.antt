@@ -2,13 +2,11 @@
 use Rattle.word.proofs.Base.{◌≡◌, refl, ap, ℕ, zero, suc, ◌≤◌, arith, Bool, true, false, List, get_or-set_other}
 use mathlib.Core.Logic.{◌≢◌}
 use Rattle.word.specs.declared.types.Pointer.{Pointer}
-use Rattle.word.specs.declared.types.Uses.{Uses}
+use Rattle.word.specs.Types.{Uses}
 use Rattle.word.specs.Repeat.{repeated}
 use Rattle.area.specs.declared.types.Setup.{Setup}
 use Rattle.area.specs.declared.types.Pending.{Pending}
-use Rattle.area.specs.declared.types.Pointers.{Pointers}
-use Rattle.area.specs.declared.types.Sources.{Sources}
-use Rattle.area.specs.declared.types.Earlier.{Earlier}
+use Rattle.area.specs.Types.{Pointers, Sources, Earlier}
 use Rattle.area.specs.declared.types.Flow.{Flow}
 use Rattle.area.specs.Flow.{State, state, nothing}
 use Rattle.area.specs.Fetch.{fetched, fetch}

@@ -3,7 +3,7 @@
 -- "The data register of each used source holds the last word it fetched, unmasked."
 use Rattle.std.specs.Prelude.{ℕ, Bool, List, get_or, if◌then◌else◌}
 use Rattle.word.specs.declared.types.Pointer.{Pointer}
-use Rattle.word.specs.declared.types.Uses.{Uses}
+use Rattle.word.specs.Types.{Uses}
 use Rattle.area.specs.declared.types.Flow.{Flow}
 use Rattle.area.specs.With.{with_sources}
 

@@ -2,8 +2,7 @@
 use Rattle.std.specs.Prelude.{ℕ, true, false, List, get_or}
 use Rattle.file.specs.Places.{pointer_a, pointer_b, pointer_c, pointer_d, source_a, source_b, source_c}
 use Rattle.file.specs.Pointers.{pointer_at}
-use Rattle.area.specs.declared.types.Pointers.{Pointers}
-use Rattle.area.specs.declared.types.Sources.{Sources}
+use Rattle.area.specs.Types.{Pointers, Sources}
 use Rattle.area.specs.declared.types.Pending.{Pending}
 use Rattle.area.specs.declared.types.Flow.{Flow}
 

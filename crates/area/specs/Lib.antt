@@ -1,4 +1,5 @@
 -- What a reader must believe of an area blit's words, in the order of paper 01.
+pub mod Types
 pub mod Setup
 pub mod Flow
 pub mod With

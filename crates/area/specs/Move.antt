@@ -3,8 +3,8 @@ use Rattle.std.specs.Prelude.{ℕ, Bool, if◌then◌else◌}
 use Rattle.word.specs.declared.types.Direction.{Direction}
 use Rattle.word.specs.declared.types.Pointer.{Pointer}
 use Rattle.word.specs.Pointer.{moved, passed}
-use Rattle.word.specs.declared.types.Uses.{Uses}
-use Rattle.area.specs.declared.types.Modulos.{Modulos}
+use Rattle.word.specs.Types.{Uses}
+use Rattle.area.specs.Types.{Modulos}
 use Rattle.area.specs.declared.types.Flow.{Flow}
 use Rattle.area.specs.With.{with_pointers}
 

@@ -8,9 +8,9 @@ use Rattle.word.specs.Control.{shift, uses, function, exclusive_fill, inclusive_
 use Rattle.word.specs.Pointer.{half}
 use Rattle.file.specs.File.{con0, con1}
 use Rattle.file.specs.Places.{first_mask, last_mask, modulo_a, modulo_b, modulo_c, modulo_d}
-use Rattle.area.specs.declared.types.Modulos.{Modulos}
+use Rattle.area.specs.Types.{Modulos}
 use Rattle.area.specs.declared.types.Masks.{Masks}
-use Rattle.area.specs.declared.types.Shifts.{Shifts}
+use Rattle.area.specs.Types.{Shifts}
 use Rattle.area.specs.declared.types.Setup.{Setup}
 
 -- the shift of A and of B

@@ -1,8 +1,6 @@
 -- A flow with one part changed, all others as they are.
 use Rattle.std.specs.Prelude.{ℕ, Bool}
-use Rattle.area.specs.declared.types.Pointers.{Pointers}
-use Rattle.area.specs.declared.types.Sources.{Sources}
-use Rattle.area.specs.declared.types.Earlier.{Earlier}
+use Rattle.area.specs.Types.{Pointers, Sources, Earlier}
 use Rattle.area.specs.declared.types.Pending.{Pending}
 use Rattle.area.specs.declared.types.Flow.{Flow}
 

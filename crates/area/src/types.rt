@@ -1,14 +1,8 @@
 // The types that the definitions of a blit speak of.
-use word::types::{Direction, Fill, Pointer, Uses};
+use word::types::{Channels, Direction, Fill, Inputs, Pair, Pointer, Uses};
 
 // Half of each channel's modulo, in words modulo 262,144.
-#[derive(Clone, Copy)]
-pub struct Modulos {
-    pub a: u32,
-    pub b: u32,
-    pub c: u32,
-    pub d: u32,
-}
+pub type Modulos = Channels<u32>;
 
 // BLTAFWM and BLTALWM.
 #[derive(Clone, Copy)]
@@ -18,11 +12,7 @@ pub struct Masks {
 }
 
 // The shift of A and of B.
-#[derive(Clone, Copy)]
-pub struct Shifts {
-    pub a: u32,
-    pub b: u32,
-}
+pub type Shifts = Pair<u32>;
 
 // What a blit doesn't change. The carry is the fill carry in.
 #[derive(Clone, Copy)]
@@ -38,29 +28,14 @@ pub struct Setup {
 }
 
 // The pointer of each channel.
-#[derive(Clone, Copy)]
-pub struct Pointers {
-    pub a: Pointer,
-    pub b: Pointer,
-    pub c: Pointer,
-    pub d: Pointer,
-}
+pub type Pointers = Channels<Pointer>;
 
 // What each source gives: the data register, which holds the last word fetched.
-#[derive(Clone, Copy)]
-pub struct Sources {
-    pub a: u16,
-    pub b: u16,
-    pub c: u16,
-}
+pub type Sources = Inputs<u16>;
 
 // The earlier word of A, as masked, and of B. A flow made of another copies them one by one, so that each has a register
 // of its own.
-#[derive(Clone, Copy)]
-pub struct Earlier {
-    pub a: u16,
-    pub b: u16,
-}
+pub type Earlier = Pair<u16>;
 
 // The final word that waits to be stored, and the place it is for. Nothing is pending where none waits.
 #[derive(Clone, Copy)]

@@ -9,8 +9,8 @@ use Rattle.word.specs.Word.{SixteenBits}
 use Rattle.file.specs.File.{registers, kept_bits, accepted}
 use Rattle.file.specs.Places.{file_length, pointer_a, pointer_b, pointer_c, pointer_d, modulo_a, modulo_b, source_a, source_b, source_c, flag}
 use Rattle.file.proofs.FileLaws.{kept-of-bits, kept-of-high, kept-of-low, kept-of-even, accepted-word-lt, accepted-even, accepted-of-set}
-use Rattle.word.specs.declared.types.Uses.{Uses}
-use Rattle.area.specs.declared.types.Pointers.{Pointers}
+use Rattle.word.specs.Types.{Uses}
+use Rattle.area.specs.Types.{Pointers}
 use Rattle.area.specs.Setup.{setup}
 use Rattle.area.specs.Flow.{State, state, sources, start}
 use Rattle.area.proofs.SixteenBitsLaws.{Bounded, area_blit-bounded}

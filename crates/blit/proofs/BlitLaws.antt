@@ -4,7 +4,7 @@ use Rattle.word.proofs.Base.{◌≡◌, refl, ap, ℕ, ◌+◌, ◌*◌, ◌<◌
 use Rattle.word.proofs.Base.{length-set}
 use native.Mathlib.Nat.{mul-one, mul-zero}
 use Rattle.word.specs.declared.types.Pointer.{Pointer}
-use Rattle.word.specs.declared.types.Uses.{Uses}
+use Rattle.word.specs.Types.{Uses}
 use Rattle.word.specs.Pointer.{pointer_end}
 use Rattle.word.specs.Size.{height, width}
 use Rattle.word.proofs.SizeLaws.{height-le, words-le}

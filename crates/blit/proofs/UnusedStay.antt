@@ -6,9 +6,8 @@ use Rattle.word.specs.declared.types.Pointer.{Pointer}
 use Rattle.word.specs.Pointer.{high, low}
 use Rattle.word.proofs.ChoiceLaws.{or_left, or_right}
 use Rattle.file.specs.Places.{pointer_a, pointer_b, pointer_c, pointer_d, source_a, source_b, source_c, flag}
-use Rattle.word.specs.declared.types.Uses.{Uses}
-use Rattle.area.specs.declared.types.Pointers.{Pointers}
-use Rattle.area.specs.declared.types.Sources.{Sources}
+use Rattle.word.specs.Types.{Uses}
+use Rattle.area.specs.Types.{Pointers, Sources}
 use Rattle.area.specs.Setup.{setup}
 use Rattle.line.specs.declared.types.Drawn.{Drawn}
 use Rattle.line.specs.Leave.{leave}

@@ -2,7 +2,7 @@
 -- register.
 use Rattle.std.specs.Prelude.{ℕ, ◌+◌, ◌≡◌, Bool, false, List, [], ◌∷◌, ◌++◌, get_or, if◌then◌else◌}
 use Rattle.file.specs.Places.{pointer_a, pointer_b, pointer_c, pointer_d, source_a, source_b, source_c, flag}
-use Rattle.word.specs.declared.types.Uses.{Uses}
+use Rattle.word.specs.Types.{Uses}
 use Rattle.area.specs.Setup.{setup}
 use Rattle.refusal.specs.Touch.{among}
 use Rattle.blit.specs.Blit.{blit}

@@ -3,9 +3,8 @@ use Rattle.std.specs.Prelude.{ℕ, Bool, List, set, if◌then◌else◌}
 use Rattle.word.specs.declared.types.Pointer.{Pointer}
 use Rattle.file.specs.Places.{pointer_a, pointer_b, pointer_c, pointer_d, source_a, source_b, source_c}
 use Rattle.file.specs.Pointers.{with_pointer, put_flag}
-use Rattle.word.specs.declared.types.Uses.{Uses}
-use Rattle.area.specs.declared.types.Pointers.{Pointers}
-use Rattle.area.specs.declared.types.Sources.{Sources}
+use Rattle.word.specs.Types.{Uses}
+use Rattle.area.specs.Types.{Pointers, Sources}
 use Rattle.area.specs.declared.types.Flow.{Flow}
 
 -- "Unused pointers stay"; a used one is written to its two registers

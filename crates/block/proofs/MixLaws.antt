@@ -11,7 +11,7 @@ use Rattle.word.proofs.ChoiceLaws.{every-at}
 use Rattle.word.proofs.WordLaws.{bit-lt, bit-of-and, bit-of-xor, bit-of-spread, bit-of-remainder, bits-are-enough, of_bits-is-unique, bit-cases}
 use Rattle.word.proofs.LogicLaws.{bit-of-logic, logic-lt}
 use Rattle.quiet.specs.Words.{mixed_at}
-use Rattle.block.specs.declared.types.Needs.{Needs}
+use Rattle.block.specs.Inner.Types.{Needs}
 use Rattle.block.specs.declared.types.Terms.{Terms}
 use Rattle.block.specs.Inner.Each.{at, Each, turned_at}
 use Rattle.block.specs.Inner.Ignores.{Ignores, differs, needed}

@@ -1,4 +1,5 @@
 // The types that a block's loops speak of.
+use word::types::Inputs;
 
 // A block's words. There are 16 more than a block has, so that a loop may go on to a multiple of 8.
 pub type Words = [u16; 80];
@@ -18,12 +19,7 @@ pub struct Course {
 }
 
 // Whether a function depends on each source.
-#[derive(Clone, Copy)]
-pub struct Needs {
-    pub a: bool,
-    pub b: bool,
-    pub c: bool,
-}
+pub type Needs = Inputs<bool>;
 
 // A logic function as a sum without carries: what stands where no source has a 1, and what each product of sources turns
 // over.

@@ -4,7 +4,7 @@ use Rattle.word.specs.declared.types.Fill.{Fill}
 use Rattle.word.specs.declared.types.Filled.{Filled}
 use Rattle.word.specs.Logic.{logic}
 use Rattle.quiet.specs.Words.{word_before, shifted_at, mixed_at, carry_to, filled_at, result_at}
-use Rattle.block.specs.declared.types.Needs.{Needs}
+use Rattle.block.specs.Inner.Types.{Needs}
 use Rattle.block.specs.Inner.Each.{filled_word_at}
 use Rattle.block.specs.Inner.Ignores.{Ignores}
 use Rattle.block.proofs.MixLaws.{ignores-of}

@@ -28,7 +28,7 @@ use Rattle.quiet.specs.Words.{word_before, masked_at, shifted_at, mixed_at, fill
 use Rattle.quiet.specs.Stream.{standing, at_a, at_d, laid_at}
 use Rattle.quiet.specs.Quiet.{memory_of, flow_of, Found}
 use Rattle.quiet.proofs.QuietLaws.{found-blit}
-use Rattle.block.specs.declared.types.Needs.{Needs}
+use Rattle.block.specs.Inner.Types.{Needs}
 use Rattle.block.specs.declared.types.Size.{Size}
 use Rattle.block.specs.Inner.Ignores.{Ignores, needed}
 use Rattle.block.specs.Inner.Place.{row_at, place_in, place_at, EvenRows, Gapless}
@@ -39,7 +39,7 @@ use Rattle.block.proofs.FillLaws.{carry-of-off}
 use Rattle.apart.specs.Inner.Placed.{Channel}
 use Rattle.apart.specs.Inner.Spans.{Known}
 use Rattle.apart.proofs.PlacedLaws.{channel-place, channel-rows}
-use Rattle.apart.specs.declared.types.Strides.{Strides}
+use Rattle.apart.specs.Inner.Types.{Strides}
 use Rattle.by_word.specs.Inner.Smear.{Alone, Smearing, smeared_word, Smear, smeared_to, fetched_word, made_word, SmearedBy}
 
 -- what the test tells

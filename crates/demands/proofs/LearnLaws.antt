@@ -3,9 +3,8 @@ use Rattle.std.specs.Prelude.{if◌then◌else◌}
 use Rattle.word.proofs.Base.{◌≡◌, refl, sym, ap, ◌∙◌, ℕ, arith, Bool, true, false, List, length, length-set}
 use Rattle.file.specs.Places.{blitter_length, control0, pointer_a, pointer_b, pointer_c, pointer_d, source_a, source_b, source_c}
 use Rattle.word.specs.declared.types.Pointer.{Pointer}
-use Rattle.word.specs.declared.types.Uses.{Uses}
-use Rattle.area.specs.declared.types.Pointers.{Pointers}
-use Rattle.area.specs.declared.types.Sources.{Sources}
+use Rattle.word.specs.Types.{Uses}
+use Rattle.area.specs.Types.{Pointers, Sources}
 use Rattle.area.specs.Setup.{setup}
 use Rattle.file.specs.File.{con0}
 use Rattle.word.specs.Control.{uses}

@@ -5,7 +5,7 @@ use lib.Dec.{lit<}
 use Rattle.word.specs.Size.{height, width}
 use Rattle.word.proofs.ChoiceLaws.{and_left, and_right}
 use Rattle.file.specs.Places.{blitter_length, control0, control1, first_mask, last_mask, pointer_d, modulo_d, source_a, source_b, source_c}
-use Rattle.word.specs.declared.types.Uses.{Uses}
+use Rattle.word.specs.Types.{Uses}
 use Rattle.area.specs.Setup.{setup}
 use Rattle.file.specs.File.{con0, con1}
 use Rattle.word.specs.Control.{uses, function, line}

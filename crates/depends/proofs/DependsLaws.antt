@@ -9,7 +9,7 @@ use Rattle.word.specs.Word.{bit}
 use Rattle.word.specs.Logic.{logic}
 use Rattle.word.proofs.ChoiceLaws.{or_left, or_right, every-at}
 use Rattle.word.proofs.WordLaws.{bit-lt, bit-of-remainder, of_bits-is-pointwise}
-use Rattle.depends.specs.declared.types.Depends.{Depends}
+use Rattle.depends.specs.Types.{Depends}
 use Rattle.depends.specs.Depends.{some, settings, flipped, changes, counts, depends, entry}
 
 some-is-pointwise : (test test' : ℕ → Bool) (n : ℕ) → ((k : ℕ) → k < n → test k ≡ test' k) → some test n ≡ some test' n

@@ -5,7 +5,7 @@
 use Rattle.std.specs.Prelude.{ℕ, zero, suc, ◌+◌, Bool, false, not, ◌||◌, eqb, if◌then◌else◌}
 use Rattle.std.specs.Int.Bits.{bit_xor}
 use Rattle.word.specs.Word.{bit}
-use Rattle.depends.specs.declared.types.Depends.{Depends}
+use Rattle.depends.specs.Types.{Depends}
 
 -- the test holds at some number below n
 abbrev pub some : (test : ℕ → Bool) → (n : ℕ) → Bool

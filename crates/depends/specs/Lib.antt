@@ -1,2 +1,3 @@
 -- What a reader must believe of dependence.
+pub mod Types
 pub mod Depends

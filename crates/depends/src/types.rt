@@ -1,9 +1,5 @@
 // The type that the definition of dependence speaks of.
+use word::types::Inputs;
 
 // Which of the sources the logic function depends on.
-#[derive(Clone, Copy)]
-pub struct Depends {
-    pub a: bool,
-    pub b: bool,
-    pub c: bool,
-}
+pub type Depends = Inputs<bool>;

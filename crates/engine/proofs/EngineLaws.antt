@@ -5,7 +5,7 @@ use Rattle.area.specs.declared.types.Setup.{Setup}
 use Rattle.area.specs.declared.types.Flow.{Flow}
 use Rattle.area.specs.Flow.{nothing}
 use Rattle.block.specs.declared.types.Size.{Size}
-use Rattle.apart.specs.declared.types.Strides.{Strides}
+use Rattle.apart.specs.Inner.Types.{Strides}
 use Rattle.apart.specs.Inner.Spans.{Evenly, Known}
 
 -- a few words: 1,024 rows of 64 at most

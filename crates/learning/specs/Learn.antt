@@ -5,7 +5,7 @@ use Rattle.word.specs.declared.types.Pointer.{Pointer}
 use Rattle.word.specs.Pointer.{high, low}
 use Rattle.file.specs.File.{kept}
 use Rattle.file.specs.Places.{control0, pointer_a, pointer_b, pointer_c, pointer_d, source_a, source_b, source_c}
-use Rattle.word.specs.declared.types.Uses.{Uses}
+use Rattle.word.specs.Types.{Uses}
 use Rattle.word.specs.Control.{uses}
 use Rattle.knowledge.specs.declared.types.Known.{Known}
 use Rattle.knowledge.specs.Known.{number, is_known}

@@ -6,7 +6,7 @@ use Rattle.word.proofs.ChoiceLaws.{if-either}
 use Rattle.word.proofs.LogicLaws.{logic-lt}
 use Rattle.word.proofs.RepeatLaws.{repeated-holds, repeated-keeps}
 use Rattle.word.proofs.WordLaws.{SixteenBits-of-set}
-use Rattle.line.specs.declared.types.Gains.{Gains}
+use Rattle.line.specs.Types.{Gains}
 use Rattle.line.specs.declared.types.Line.{Line}
 use Rattle.line.specs.declared.types.Dot.{Dot}
 use Rattle.line.specs.Word.{dot_word}

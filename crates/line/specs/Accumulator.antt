@@ -2,7 +2,7 @@
 -- modulo, modulo 65,536, and its bit 15 is the new sign".
 use Rattle.std.specs.Prelude.{ℕ, ◌+◌, ◌%◌, Bool, if◌then◌else◌}
 use Rattle.word.specs.Word.{is_set}
-use Rattle.line.specs.declared.types.Gains.{Gains}
+use Rattle.line.specs.Types.{Gains}
 
 abbrev pub gained : Gains → (sign : Bool) → (accumulator : ℕ) → ℕ
 gained gains sign accumulator = (accumulator + (if sign then gains.b else gains.a)) % 65536

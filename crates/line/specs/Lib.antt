@@ -1,4 +1,5 @@
 -- What a reader must believe of a line, in the order of paper 01, and what is proved of it; Inner apart.
+pub mod Types
 pub mod Setup
 pub mod Dot
 pub mod Texture

@@ -7,7 +7,7 @@ use Rattle.word.specs.Pointer.{half}
 use Rattle.file.specs.File.{con0, con1}
 use Rattle.file.specs.Places.{first_mask, modulo_a, modulo_b, modulo_c, source_a, source_b}
 use Rattle.line.specs.declared.types.Octant.{Octant}
-use Rattle.line.specs.declared.types.Gains.{Gains}
+use Rattle.line.specs.Types.{Gains}
 use Rattle.line.specs.declared.types.Line.{Line}
 
 -- "SING (bit 1)"

@@ -1,5 +1,5 @@
 // The types that the definitions of a line speak of.
-use word::types::Pointer;
+use word::types::{Pair, Pointer};
 
 // SUD, SUL and AUL of BLTCON1, the manual's octant code.
 #[derive(Clone, Copy)]
@@ -10,11 +10,7 @@ pub struct Octant {
 }
 
 // What the accumulator gains: the whole modulos of A and B.
-#[derive(Clone, Copy)]
-pub struct Gains {
-    pub a: u16,
-    pub b: u16,
-}
+pub type Gains = Pair<u16>;
 
 // What a line is set up with, and no dot changes. A's data is masked; a row is half of C's modulo, in words modulo
 // 262,144.

@@ -9,7 +9,7 @@ use Rattle.word.specs.Choice.{every}
 use Rattle.word.specs.Repeat.{repeated}
 use Rattle.word.proofs.ChoiceLaws.{if-either}
 use Rattle.area.specs.declared.types.Pending.{Pending}
-use Rattle.area.specs.declared.types.Pointers.{Pointers}
+use Rattle.area.specs.Types.{Pointers}
 use Rattle.area.specs.declared.types.Setup.{Setup}
 use Rattle.area.specs.declared.types.Flow.{Flow}
 use Rattle.area.specs.Flow.{State, state, nothing}

@@ -3,9 +3,7 @@
 use Rattle.std.specs.Prelude.{ℕ, ◌+◌, ◌-◌, ◌*◌, ◌<◌, ◌≤◌, ◌≡◌, Bool, true, ◌&&◌, List, eqb, if◌then◌else◌}
 use Rattle.word.specs.declared.types.Pointer.{Pointer}
 use Rattle.word.specs.Choice.{every}
-use Rattle.area.specs.declared.types.Pointers.{Pointers}
-use Rattle.area.specs.declared.types.Sources.{Sources}
-use Rattle.area.specs.declared.types.Earlier.{Earlier}
+use Rattle.area.specs.Types.{Pointers, Sources, Earlier}
 use Rattle.area.specs.declared.types.Setup.{Setup}
 use Rattle.area.specs.declared.types.Flow.{Flow}
 use Rattle.area.specs.Fetch.{fetched}

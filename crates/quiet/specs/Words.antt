@@ -9,7 +9,7 @@ use Rattle.word.specs.Shift.{shifted}
 use Rattle.word.specs.Logic.{logic}
 use Rattle.word.specs.Fill.{filled}
 use Rattle.area.specs.declared.types.Masks.{Masks}
-use Rattle.area.specs.declared.types.Earlier.{Earlier}
+use Rattle.area.specs.Types.{Earlier}
 use Rattle.area.specs.declared.types.Setup.{Setup}
 
 -- the word before word k; before the first stands a given one

@@ -6,7 +6,7 @@ use Rattle.word.specs.Pointer.{pointer_end, pointer}
 use Rattle.word.specs.Size.{height, width}
 use Rattle.word.proofs.ChoiceLaws.{and_left, and_right, or_right}
 use Rattle.word.proofs.SizeLaws.{height-positive, height-le, width-le, width_positive}
-use Rattle.word.specs.declared.types.Uses.{Uses}
+use Rattle.word.specs.Types.{Uses}
 use Rattle.file.specs.File.{accepted, con0, con1}
 use Rattle.file.specs.Places.{pointer_a, pointer_b, pointer_c, pointer_d}
 use Rattle.word.specs.Control.{uses, line}

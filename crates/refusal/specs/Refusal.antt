@@ -5,7 +5,7 @@ use Rattle.std.specs.Prelude.{ℕ, Bool, not, ◌&&◌, ◌||◌, List, [], ◌�
 use Rattle.word.specs.Choice.{Rule, ◌when◌, given}
 use Rattle.word.specs.declared.types.Pointer.{Pointer}
 use Rattle.word.specs.Memory.{memory_size}
-use Rattle.word.specs.declared.types.Uses.{Uses}
+use Rattle.word.specs.Types.{Uses}
 use Rattle.word.specs.Size.{height, width}
 use Rattle.word.specs.Control.{uses, exclusive_fill, inclusive_fill, descending}
 use Rattle.file.specs.Places.{pointer_c, pointer_d}

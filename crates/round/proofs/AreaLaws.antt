@@ -2,7 +2,7 @@
 use Rattle.word.proofs.Base.{◌≡◌, sym, ap, ◌∙◌, ℕ, Bool, true, false}
 use Rattle.word.specs.declared.types.Direction.{Direction}
 use Rattle.word.specs.declared.types.Pointer.{Pointer}
-use Rattle.word.specs.declared.types.Uses.{Uses}
+use Rattle.word.specs.Types.{Uses}
 use Rattle.refusal.specs.declared.types.AreaPlan.{AreaPlan}
 use Rattle.refusal.specs.declared.types.Channel.{Channel}
 use Rattle.refusal.specs.Inner.Channels.{IsChannel}

@@ -6,7 +6,7 @@ use Rattle.word.specs.Choice.{given}
 use Rattle.word.specs.Pointer.{pointer, half}
 use Rattle.word.specs.Size.{height, width}
 use Rattle.file.specs.Places.{first_mask, last_mask, pointer_d, modulo_d, source_a, source_b, source_c}
-use Rattle.word.specs.declared.types.Uses.{Uses}
+use Rattle.word.specs.Types.{Uses}
 use Rattle.area.specs.Setup.{shifts, direction, fill, masks, modulos, setup}
 use Rattle.file.specs.File.{con0, con1}
 use Rattle.word.specs.Control.{uses, function, carry_in, line}

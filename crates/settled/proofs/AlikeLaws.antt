@@ -8,7 +8,7 @@ use Rattle.word.specs.Shift.{shifted}
 use Rattle.word.specs.Logic.{logic}
 use Rattle.word.specs.Fill.{filled}
 use Rattle.area.specs.declared.types.Masks.{Masks}
-use Rattle.area.specs.declared.types.Shifts.{Shifts}
+use Rattle.area.specs.Types.{Shifts}
 use Rattle.area.specs.declared.types.Setup.{Setup}
 use Rattle.area.specs.declared.types.Flow.{Flow}
 use Rattle.area.specs.Finish.{masked_a, result_word, final, finish}

@@ -5,7 +5,7 @@ use Rattle.word.proofs.Base.{not-true, arith, List, get_or}
 use Rattle.word.specs.Size.{height, width}
 use Rattle.word.proofs.ChoiceLaws.{and_left, and_right, and_none}
 use Rattle.file.specs.Places.{control0, control1, first_mask, last_mask, pointer_d, modulo_d, source_a, source_b, source_c}
-use Rattle.word.specs.declared.types.Uses.{Uses}
+use Rattle.word.specs.Types.{Uses}
 use Rattle.file.specs.File.{con0}
 use Rattle.word.specs.Control.{uses, function}
 use Rattle.refusal.specs.declared.types.Refusal.{Refusal}
@@ -14,7 +14,7 @@ use Rattle.refusal.specs.declared.types.Verdict.{Verdict}
 use Rattle.refusal.specs.Refusal.{step_refusal, verdict_number}
 use Rattle.refusal.proofs.RefusalLaws.{refusal-is-some}
 use Rattle.round.specs.Round.{goes_round}
-use Rattle.depends.specs.declared.types.Depends.{Depends}
+use Rattle.depends.specs.Types.{Depends}
 use Rattle.depends.specs.Depends.{depends}
 use Rattle.knowledge.specs.declared.types.Known.{Known}
 use Rattle.knowledge.specs.Knowledge.{numbers}

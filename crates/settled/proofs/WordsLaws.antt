@@ -8,9 +8,8 @@ use Rattle.word.specs.declared.types.Pointer.{Pointer}
 use Rattle.word.specs.Pointer.{high, low}
 use Rattle.word.specs.Size.{height, width}
 use Rattle.file.specs.Places.{pointer_a, pointer_b, pointer_c, pointer_d, source_a, source_b, source_c, flag}
-use Rattle.word.specs.declared.types.Uses.{Uses}
-use Rattle.area.specs.declared.types.Pointers.{Pointers}
-use Rattle.area.specs.declared.types.Sources.{Sources}
+use Rattle.word.specs.Types.{Uses}
+use Rattle.area.specs.Types.{Pointers, Sources}
 use Rattle.area.specs.Setup.{setup}
 use Rattle.area.specs.Flow.{state, pointers, start}
 use Rattle.area.specs.Store.{memory_with, count_with, store_pending}

@@ -8,7 +8,7 @@ use Rattle.word.specs.Size.{height, width}
 use Rattle.word.proofs.SizeLaws.{width-le}
 use Rattle.file.specs.Places.{pointer_d}
 use Rattle.area.specs.declared.types.Setup.{Setup}
-use Rattle.area.specs.declared.types.Pointers.{Pointers}
+use Rattle.area.specs.Types.{Pointers}
 use Rattle.area.specs.Setup.{setup}
 use Rattle.area.specs.Flow.{State, state, pointers, start}
 use Rattle.area.specs.Fetch.{fetch}

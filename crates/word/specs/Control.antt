@@ -1,6 +1,6 @@
 -- Paper 01, "The area blit": what the bits of BLTCON0 and BLTCON1 say.
 use Rattle.std.specs.Prelude.{ℕ, ◌/◌, ◌%◌, Bool}
-use Rattle.word.specs.declared.types.Uses.{Uses}
+use Rattle.word.specs.Types.{Uses}
 use Rattle.word.specs.Word.{bit, is_set}
 
 -- "BLTCON0: bits 15-12 shift of A; 11, 10, 9, 8 use A, B, C, D; 7-0 logic function."

@@ -1,4 +1,5 @@
 -- What a reader must believe of one word, in the order of paper 01, and what is proved of it; Inner apart.
+pub mod Types
 pub mod Choice
 pub mod Repeat
 pub mod Word

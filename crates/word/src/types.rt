@@ -35,11 +35,29 @@ pub struct Filled {
     pub carry: u16,
 }
 
-// The channels in use.
+// A thing for each channel.
 #[derive(Clone, Copy)]
-pub struct Uses {
-    pub a: bool,
-    pub b: bool,
-    pub c: bool,
-    pub d: bool,
+pub struct Channels<T> {
+    pub a: T,
+    pub b: T,
+    pub c: T,
+    pub d: T,
 }
+
+// A thing for each channel that the logic function reads.
+#[derive(Clone, Copy)]
+pub struct Inputs<T> {
+    pub a: T,
+    pub b: T,
+    pub c: T,
+}
+
+// A thing for A and one for B.
+#[derive(Clone, Copy)]
+pub struct Pair<T> {
+    pub a: T,
+    pub b: T,
+}
+
+// The channels in use.
+pub type Uses = Channels<bool>;

@@ -7,7 +7,7 @@ pub use Rattle.area.specs.declared.types.Setup.{Setup}
 pub use Rattle.area.specs.declared.types.Flow.{Flow}
 pub use Rattle.area.specs.Flow.{nothing}
 use Rattle.block.specs.Inner.Place.{EvenRows}
-pub use Rattle.apart.specs.declared.types.Strides.{Strides}
+pub use Rattle.apart.specs.Inner.Types.{Strides}
 
 -- a channel's rows are evenly apart, so many words; if it is used, they lie inside memory and none goes round
 pub record Channel (n : ℕ) (direction : Direction) (width rows modulo : ℕ) (used : Bool) (pointer : Pointer) (far : ℕ) : Type 0 where

@@ -4,7 +4,7 @@ use Rattle.std.specs.Int.Bits.{bit_and, bit_or, bit_xor}
 use Rattle.word.specs.declared.types.Fill.{Fill}
 use Rattle.word.specs.Choice.{every}
 use Rattle.word.specs.Fill.{exclusive}
-use Rattle.area.specs.declared.types.Earlier.{Earlier}
+use Rattle.area.specs.Types.{Earlier}
 use Rattle.area.specs.declared.types.Setup.{Setup}
 use Rattle.quiet.specs.Words.{filled_at, final_at}
 

@@ -2,7 +2,7 @@
 use Rattle.std.specs.Prelude.{ℕ, ◌/◌, ◌≡◌, Bool, false, not, eqb}
 use Rattle.std.specs.Int.Bits.{bit_and}
 use Rattle.word.specs.Logic.{logic}
-use Rattle.block.specs.declared.types.Needs.{Needs}
+use Rattle.block.specs.Inner.Types.{Needs}
 
 -- a source that isn't needed may be any word
 pub record Ignores (function : ℕ) (need : Needs) : Type 0 where

@@ -1,18 +1,16 @@
 -- One block: what its sources give, and the arrays of those at rest, which are laid once a blit.
 use Rattle.std.specs.Prelude.{ℕ, ◌-◌, ◌*◌, ◌≤◌, ◌≡◌, Bool, true, false, ◌&&◌, not, List, length, if◌then◌else◌}
 pub use Rattle.area.specs.declared.types.Masks.{Masks}
-pub use Rattle.area.specs.declared.types.Earlier.{Earlier}
-pub use Rattle.area.specs.declared.types.Pointers.{Pointers}
-pub use Rattle.area.specs.declared.types.Sources.{Sources}
+pub use Rattle.area.specs.Types.{Earlier, Pointers, Sources}
 unfoldable pub use Rattle.quiet.specs.Words.{masked_at}
 unfoldable pub use Rattle.block.specs.Inner.Each.{at, Each, level_at, final_word_at, nought}
 pub use Rattle.block.specs.Inner.Place.{Lies, AsLying}
 unfoldable pub use Rattle.block.specs.Inner.Place.{row_at, fetched_at}
-pub use Rattle.block.specs.declared.types.Needs.{Needs}
+pub use Rattle.block.specs.Inner.Types.{Needs}
 pub use Rattle.block.specs.Inner.Ignores.{needed}
 pub use Rattle.apart.specs.Inner.Placed.{Direction, Pointer, Setup, Flow, pointer_end, nothing, Channel, Placed}
 pub use Rattle.apart.specs.Inner.Apart.{AllApart}
-pub use Rattle.apart.specs.declared.types.Strides.{Strides}
+pub use Rattle.apart.specs.Inner.Types.{Strides}
 pub use Rattle.apart.specs.Inner.Spans.{Size}
 pub use Rattle.blocks.specs.declared.types.Source.{Source}
 pub use Rattle.blocks.specs.declared.types.Made.{Made}

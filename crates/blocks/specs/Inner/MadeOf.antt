@@ -1,12 +1,11 @@
 -- The words of a block made of what its sources give, and what it hands on.
 use Rattle.std.specs.Prelude.{ℕ, ◌-◌, ◌*◌, ◌≤◌, ◌≡◌, Bool, true, ◌&&◌, List, length, if◌then◌else◌}
-use Rattle.area.specs.declared.types.Earlier.{Earlier}
-use Rattle.area.specs.declared.types.Pointers.{Pointers}
+use Rattle.area.specs.Types.{Earlier, Pointers}
 use Rattle.quiet.specs.Words.{masked_at, final_at}
 use Rattle.block.specs.Inner.Each.{at, Each, final_word_at, nought}
 use Rattle.block.specs.Inner.Place.{row_at}
 use Rattle.apart.specs.Inner.Placed.{Pointer, Setup, Flow}
-use Rattle.apart.specs.declared.types.Strides.{Strides}
+use Rattle.apart.specs.Inner.Types.{Strides}
 use Rattle.apart.specs.Inner.Spans.{Size}
 use Rattle.blocks.specs.declared.types.Made.{Made}
 use Rattle.blocks.specs.Inner.Block.{Sources, needed, masking, Supplied}

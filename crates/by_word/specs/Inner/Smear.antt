@@ -11,7 +11,7 @@ use Rattle.area.specs.declared.types.Flow.{Flow}
 use Rattle.block.specs.declared.types.Size.{Size}
 use Rattle.block.specs.declared.types.Terms.{Terms}
 use Rattle.block.specs.Inner.Terms.{terms}
-use Rattle.apart.specs.declared.types.Strides.{Strides}
+use Rattle.apart.specs.Inner.Types.{Strides}
 
 -- a function of A alone, unmasked and unfilled, upward
 pub record Alone (setup : Setup) : Type 0 where

@@ -1,8 +1,8 @@
 -- `blit::registers::put_pointers` meets its contract: channel after channel.
 use Rattle.word.proofs.Base.{◌≡◌, refl, ℕ, List}
 use Rattle.file.specs.Places.{pointer_a, pointer_b, pointer_c, pointer_d}
-use Rattle.word.specs.declared.types.Uses.{Uses}
-use Rattle.area.specs.declared.types.Pointers.{Pointers}
+use Rattle.word.specs.Types.{Uses}
+use Rattle.area.specs.Types.{Pointers}
 use Rattle.blit.specs.WriteBack.{put_pointer, put_pointers}
 use Rattle.blit.proofs.registers.put_pointers.Goals as goal
 

@@ -1,8 +1,8 @@
 -- `blit::registers::put_sources` meets its contract: source after source.
 use Rattle.word.proofs.Base.{◌≡◌, refl, ℕ, List}
 use Rattle.file.specs.Places.{source_a, source_b, source_c}
-use Rattle.word.specs.declared.types.Uses.{Uses}
-use Rattle.area.specs.declared.types.Sources.{Sources}
+use Rattle.word.specs.Types.{Uses}
+use Rattle.area.specs.Types.{Sources}
 use Rattle.blit.specs.WriteBack.{put_source, put_sources}
 use Rattle.blit.proofs.registers.put_sources.Goals as goal
 

@@ -51,6 +51,7 @@ fn area_plan(file: &[u16], size: u16) -> AreaPlan
 }
 
 // One channel's test.
+#[inline(always)]
 fn stays(n: usize, channel: Channel, why: Refusal) -> Result<(), Refusal>
     requires { n < pointer_end }
     ensures { result

@@ -110,7 +110,7 @@ fn farthest(row: u32, dots: u32) -> u32
     dots * reach(row)
 }
 
-pub fn by_dots(line: Line, dots: u32, first: Dot) -> bool
+fn by_dots(line: Line, dots: u32, first: Dot) -> bool
     requires { LineRange dots first }
     ensures { result ≡ went_round (line_moves line dots first) }
 {

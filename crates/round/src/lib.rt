@@ -58,15 +58,7 @@ pub fn area_round(by: AreaPlan) -> bool
     area_by_rows(by)
 }
 
-// A line's C, dot by dot.
-pub fn line_by_dots(by: LinePlan) -> bool
-    requires { LineRange by.dots by.first }
-    ensures { result ≡ line_round by }
-{
-    crate::course::by_dots(by.line, by.dots as u32, by.first)
-}
-
-// The same, at once where its dots can't come near an end.
+// A line's C, dot by dot; at once where its dots can't come near an end.
 pub fn line_round(by: LinePlan) -> bool
     requires { LineRange by.dots by.first }
     ensures { result ≡ line_round by }

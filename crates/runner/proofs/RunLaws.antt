@@ -9,7 +9,7 @@ use Rattle.file.specs.File.{accepted}
 use Rattle.word.specs.Memory.{memory_size}
 use Rattle.blit.specs.Blit.{Outcome, refused}
 use Rattle.refusal.specs.declared.types.Refusal.TheVariants.{MemorySize, RegisterFile}
-use Rattle.refusal.proofs.OneAnswerLaws as blits
+use Rattle.refusal.proofs.RefusalLaws as blits
 use Rattle.job.specs.declared.types.Refusal as jobs
 use Rattle.job.specs.declared.types.Step.{Step}
 use Rattle.job.specs.Read.{Read}

@@ -8,7 +8,7 @@ fn refusal_number(why: Refusal) -> u32
     ensures { result ≡ refusal_number why }
 {
     match why {
-        Refusal::Blit(reason) => refusal::refusal_number(reason),
+        Refusal::Blit(reason) => reason.number(),
         Refusal::JobLength => 3,
         Refusal::Step(reason) => job::number::refusal_number(reason),
         Refusal::StoreOutside => 10,

@@ -21,8 +21,8 @@ fn size_step(ram: &mut [u16], file: &mut [u16], size: u16) -> Taken
         ≡ blit_step ram.old file.old size }
 {
     match blit::blit_step(ram, file, size) {
-        blit::types::Answer::Done(stored, round) => Taken::Done(stored, round),
-        blit::types::Answer::Refused(why) => Taken::Refused(Refusal::Blit(why)),
+        Ok(done) => Taken::Done(done.stored, done.round),
+        Err(why) => Taken::Refused(Refusal::Blit(why)),
     }
 }
 

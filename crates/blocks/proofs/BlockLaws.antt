@@ -5,6 +5,7 @@ use Rattle.word.proofs.Base.{◌%◌, dec_lt, ◌&&◌, not, false, eqb, eq-eqb,
 use Rattle.word.specs.Choice.{every}
 use Rattle.word.specs.Mask.{masked}
 use Rattle.word.proofs.ChoiceLaws.{and_left}
+use Rattle.area.specs.declared.types.Pending.{Pending}
 use Rattle.area.specs.Flow.{state}
 use Rattle.area.specs.Fetch.{fetched}
 use Rattle.area.specs.Rows.{area_blit}
@@ -17,7 +18,7 @@ use Rattle.block.specs.Inner.Place.{place_at, EvenRows}
 use Rattle.block.proofs.PlaceLaws.{some-rows, last-of-rows, laid_at-same, as-lying-laid}
 use Rattle.apart.specs.Inner.Apart.{Apart}
 use Rattle.apart.proofs.PlacedLaws.{stride-lt, channel-place, channel-rows}
-use Rattle.blocks.specs.Inner.Block.{Pointer, Sources, Earlier, Pointers, Setup, Flow, Strides, Size, Made, pointer_end, nothing}
+use Rattle.blocks.specs.Inner.Block.{Pointer, Sources, Earlier, Pointers, Setup, Flow, Strides, Size, Inputs, pointer_end, nothing}
 use Rattle.blocks.specs.Inner.Block.{Channel, masked_at, at, Each, level_at, final_word_at, nought, Lies, AsLying, fetched_at}
 use Rattle.blocks.specs.Inner.Block.{Masks, supplied_at, masking, source_of, Rested, Asked, Fits}
 use Rattle.blocks.specs.Inner.MadeOf.{Stand, last_words, MadeOf, rows_on, pointers_on}
@@ -84,6 +85,12 @@ fits-quiet {size = size} fits =
       λ i j below early. fits.apart.c i j (omega arith) (omega arith) (omega (arith, fits.within)),
     )
 
+-- a block made doesn't hang on the pointers after it, nor on how many words are stored
+pub made-as : {setup : Setup} {size : Size} {far : Strides} {flow : Flow} {memory : List ℕ} {x : Inputs (List ℕ)} {o : List ℕ} {end : Flow} (pointers : Pointers) (stored : ℕ)
+    → MadeOf setup size far flow memory x o end
+    → MadeOf setup size far flow memory x o (record { pointers = pointers; sources = end.sources; earlier = end.earlier; carry = end.carry; allzero = end.allzero; stored = stored; pending = end.pending })
+made-as pointers stored made = record { supplied = made.supplied; earlier = made.earlier; words = made.words; carry = made.carry; zero = made.zero }
+
 -- the last of some words
 before_last : (first : ℕ) (word : ℕ → ℕ) (n : ℕ) → 1 ≤ n → word_before first word n ≡ word (n - 1)
 unfolding word_before
@@ -117,13 +124,13 @@ same-sources first second third = rw (first, second, third)
 same-earlier : {a b a' b' : ℕ} → a ≡ a' → b ≡ b' → ◌≡◌ {A = Earlier} (record { a = a; b = b }) (record { a = a'; b = b' })
 same-earlier first second = rw (first, second)
 
-module _ {n : ℕ} {setup : Setup} {size : Size} {far : Strides} {flow : Flow} {memory xa xb xc ya o : List ℕ} {end : Made} (fits : Fits n setup size flow far)
-    (finished : MadeOf setup size far flow memory xa xb xc ya o end) where
+module _ {n : ℕ} {setup : Setup} {size : Size} {far : Strides} {flow : Flow} {memory : List ℕ} {x : Inputs (List ℕ)} {o : List ℕ} {end : Flow} (fits : Fits n setup size flow far)
+    (finished : MadeOf setup size far flow memory x o end) where
   abbrev count : ℕ
   count = size.height * size.width
 
   -- the sources by what they fetch
-  stands : Stand setup size.width count xa xb xc (word_a setup size.width memory flow) (word_b setup size.width memory flow) (word_c setup size.width memory flow)
+  stands : Stand setup size.width count x (word_a setup size.width memory flow) (word_b setup size.width memory flow) (word_c setup size.width memory flow)
   unfolding Each masked_at level_at word_a word_b word_c
   stands =
       record {
@@ -161,17 +168,18 @@ module _ {n : ℕ} {setup : Setup} {size : Size} {far : Strides} {flow : Flow} {
       ∙ sym (before_last _ _ count fits.some))
       (before_last _ _ count fits.some ∙ sym (before_last _ _ count fits.some))
 
-  pub block-is : {after : List ℕ} {pointers : Pointers} {stored : ℕ} {rows : Size}
+  pub block-is : {after : List ℕ} {pointers : Pointers} {stored : ℕ} {pending : Pending} {rows : Size}
       → (Lies n setup.direction far.d flow.pointers.d.word size → AsLying n setup.direction far.d flow.pointers.d.word size rows)
       → after ≡ (if setup.uses.d then laid_at (place_at setup.direction rows.width far.d flow.pointers.d.word) (at o) (rows.height * rows.width) memory else memory)
-      → pointers ≡ pointers_on setup far size.height flow.pointers → stored ≡ flow.stored + (if setup.uses.d then count else 0)
-      → state after (record { pointers = pointers; sources = end.sources; earlier = end.earlier; carry = end.carry; allzero = end.allzero; stored = stored; pending = nothing })
+      → pointers ≡ pointers_on setup far size.height flow.pointers → stored ≡ flow.stored + (if setup.uses.d then count else 0) → pending ≡ nothing
+      → state after (record { pointers = pointers; sources = end.sources; earlier = end.earlier; carry = end.carry; allzero = end.allzero; stored = stored; pending = pending })
       ≡ area_blit setup size.width size.height (state memory flow)
-  block-is lying stores moves counts =
+  block-is lying stores moves counts waits =
       rw (
         stores ∙ if-same setup.uses.d _ _ memory (λ uses. as-lying-laid (lying (lies-of fits fits.placed.d uses)) o memory ∙ laid_at-same _ _ _ _ count memory (λ i below. sym (place_is fits fits.placed.d uses i below)) final-here),
         moves,
         counts,
+        waits,
         sources-after,
         earlier-after,
         finished.zero,

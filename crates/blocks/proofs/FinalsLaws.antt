@@ -8,7 +8,7 @@ use Rattle.block.specs.Inner.Types.{Needs}
 use Rattle.block.specs.Inner.Each.{filled_word_at}
 use Rattle.block.specs.Inner.Ignores.{Ignores}
 use Rattle.block.proofs.MixLaws.{ignores-of}
-use Rattle.blocks.specs.Inner.Block.{Direction, Earlier, Setup, masked_at, at, Each, final_word_at, needed}
+use Rattle.blocks.specs.Inner.Block.{Direction, Inputs, Earlier, Setup, masked_at, at, Each, final_word_at, needed}
 use Rattle.blocks.specs.Inner.MadeOf.{Stand, FinalWords, FinalCarry}
 
 -- equal words give equal words
@@ -27,11 +27,11 @@ filled_at-same fill start width word same n all k below = rw (carries k below, a
     carries zero below = refl
     carries (suc k) below = rw (carries k (omega arith), all k (omega arith))
 
-module _ (setup : Setup) (width n all : ℕ) (need : Needs) (earlier : Earlier) (xa xb xc ya yb o : List ℕ) (fits : n ≤ all) (is : need ≡ needed setup.function)
-    (to-a : need.a ≡ true → Each (all + 1) ya (shifted_at setup.direction setup.shifts.a earlier.a (at xa)))
-    (to-b : need.b ≡ true → Each (all + 1) yb (shifted_at setup.direction setup.shifts.b earlier.b (at xb)))
-    (mixes : Each all o (mixed_at setup.function (at ya) (at yb) (at xc))) where
-  results-are : (a b c : ℕ → ℕ) (i : ℕ) → i ≤ n → Stand setup width i xa xb xc a b c → (j : ℕ) → j < i → at o j ≡ result_at setup width earlier a b c j
+module _ (setup : Setup) (width n all : ℕ) (need : Needs) (earlier : Earlier) (x : Inputs (List ℕ)) (ya yb o : List ℕ) (fits : n ≤ all) (is : need ≡ needed setup.function)
+    (to-a : need.a ≡ true → Each (all + 1) ya (shifted_at setup.direction setup.shifts.a earlier.a (at x.a)))
+    (to-b : need.b ≡ true → Each (all + 1) yb (shifted_at setup.direction setup.shifts.b earlier.b (at x.b)))
+    (mixes : Each all o (mixed_at setup.function (at ya) (at yb) (at x.c))) where
+  results-are : (a b c : ℕ → ℕ) (i : ℕ) → i ≤ n → Stand setup width i x a b c → (j : ℕ) → j < i → at o j ≡ result_at setup width earlier a b c j
   unfolding result_at mixed_at Each at
   results-are a b c i most stand j below = mixes j (omega arith) ∙ by-a need.a refl ∙ by-b need.b refl ∙ by-c need.c refl
     where
@@ -44,22 +44,22 @@ module _ (setup : Setup) (width n all : ℕ) (need : Needs) (earlier : Earlier) 
       shift_b : ℕ
       shift_b = shifted_at setup.direction setup.shifts.b earlier.b b j
 
-      by-a : (told : Bool) → need.a ≡ told → logic setup.function (at ya j) (at yb j) (at xc j) ≡ logic setup.function shift_a (at yb j) (at xc j)
-      by-a true told = ap (λ (a : ℕ). logic setup.function a (at yb j) (at xc j)) (to-a told j (omega arith) ∙ shifted_at-same _ _ _ (at xa) _ i (stand.of_a (rw is at told)) j below)
+      by-a : (told : Bool) → need.a ≡ told → logic setup.function (at ya j) (at yb j) (at x.c j) ≡ logic setup.function shift_a (at yb j) (at x.c j)
+      by-a true told = ap (λ (a : ℕ). logic setup.function a (at yb j) (at x.c j)) (to-a told j (omega arith) ∙ shifted_at-same _ _ _ (at x.a) _ i (stand.of_a (rw is at told)) j below)
       by-a false told = ignores.a told _ _ _ _
 
       by-b : (told : Bool) → need.b ≡ told
-          → logic setup.function shift_a (at yb j) (at xc j) ≡ logic setup.function shift_a shift_b (at xc j)
-      by-b true told = ap (λ (b : ℕ). logic setup.function shift_a b (at xc j)) (to-b told j (omega arith) ∙ shifted_at-same _ _ _ (at xb) _ i (stand.of_b (rw is at told)) j below)
+          → logic setup.function shift_a (at yb j) (at x.c j) ≡ logic setup.function shift_a shift_b (at x.c j)
+      by-b true told = ap (λ (b : ℕ). logic setup.function shift_a b (at x.c j)) (to-b told j (omega arith) ∙ shifted_at-same _ _ _ (at x.b) _ i (stand.of_b (rw is at told)) j below)
       by-b false told = ignores.b told _ _ _ _
 
-      by-c : (told : Bool) → need.c ≡ told → logic setup.function shift_a shift_b (at xc j) ≡ logic setup.function shift_a shift_b (c j)
+      by-c : (told : Bool) → need.c ≡ told → logic setup.function shift_a shift_b (at x.c j) ≡ logic setup.function shift_a shift_b (c j)
       by-c true told = ap (logic setup.function _ _) (stand.of_c (rw is at told) j below)
       by-c false told = ignores.c told _ _ _ _
 
   pub finals-are : (after : List ℕ) (carry : ℕ) → 1 ≤ n → Each n after (filled_word_at setup.fill setup.carry width (at o))
       → carry ≡ (filled_at setup.fill setup.carry width (at o) (n - 1)).carry
-      → FinalWords setup width n earlier xa xb xc after × FinalCarry setup width n earlier xa xb xc carry
+      → FinalWords setup width n earlier x after × FinalCarry setup width n earlier x carry
   unfolding Each filled_word_at final_word_at
   finals-are after carry some fills told = (
     λ a b c i most stand j below.

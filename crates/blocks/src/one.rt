@@ -4,17 +4,17 @@ ghost use Rattle.area.specs.Flow.{state};
 ghost use Rattle.area.specs.Rows.{area_blit};
 ghost use Rattle.quiet.specs.Stream.{laid_at};
 ghost use Rattle.block.specs.Inner.Place.{place_at};
-ghost use Rattle.blocks.specs.Inner.Block.{pointer_end, at, nought, Lies, AsLying, masking, plain, source_of, last_of};
-ghost use Rattle.blocks.specs.Inner.Block.{needed, Asked, Given, AllRest, Supplied, Arrays, Fits};
-ghost use Rattle.blocks.specs.Inner.MadeOf.{last_words, MadeOf, handed, rows_on, pointers_on};
+ghost use Rattle.blocks.specs.Inner.Block.{pointer_end, at, nought, Lies, AsLying, over_by, source_of, last_of};
+ghost use Rattle.blocks.specs.Inner.Block.{needed, Asked, Given, AllRest, Supplied, Fits};
+ghost use Rattle.blocks.specs.Inner.MadeOf.{last_words, MadeOf, rows_on, pointers_on};
 ghost use Rattle.blocks.specs.Inner.Repeats.{Prepared};
 
-use crate::types::{Made, Source};
+use crate::types::{Arrays, Source};
 use apart::types::Strides;
-use area::types::{Earlier, Flow, Pending, Pointers, Setup, Sources};
+use area::types::{Earlier, Flow, Masks, Pointers, Setup, Sources};
 use block::types::{Course, Needs, Size, Words};
 use word::pointer::INDEX_END;
-use word::types::{Direction, Pointer};
+use word::types::{Direction, Inputs, Pointer};
 
 // A source, its rows as they lie: those without a gap are one.
 fn source(
@@ -32,8 +32,10 @@ fn source(
     ensures { (result ≡ source_of used need pointer far word result.rows)
         × (Lies n direction far pointer.word size → AsLying n direction far pointer.word size result.rows) }
 {
-    let from = pointer.word as usize;
-    let course = Course { from, far };
+    let course = Course {
+        from: pointer.word as usize,
+        far,
+    };
     let rows = block::place::as_lying(n, direction, course, size);
     Source {
         used,
@@ -44,44 +46,25 @@ fn source(
     }
 }
 
-// A's words, masked, where the function needs them. The answer is the last of them, unmasked.
-fn supplied_a(source: Source, setup: Setup, ram: &[u16], size: Size, x: &mut Words) -> u16
-    requires { Asked (length ram.now) setup.direction source size (masking setup.masks size.width) x.old }
-    ensures { Given setup.direction source size ram.now (masking setup.masks size.width) x.new (last_of setup.direction source ram.now result) }
+// The words of a source, masked if they are A's, where the function needs them. The answer is the last of them, unmasked.
+fn supplied(
+    source: Source,
+    masks: Option<Masks>,
+    direction: Direction,
+    ram: &[u16],
+    size: Size,
+    x: &mut Words,
+) -> u16
+    requires { Asked (length ram.now) direction source size (over_by masks size.width) x.old }
+    ensures { Given direction source size ram.now (over_by masks size.width) x.new (last_of direction source ram.now result) }
 {
-    let direction = setup.direction;
-    let masks = setup.masks;
-    let course = source.course;
-    let rows = source.rows;
     if source.used & source.need {
-        if rows.width < 4 {
-            block::fetch::narrow_rows(direction, ram, course, rows, x);
-            let last = x[size.height * size.width - 1];
-            block::mask::mask(masks, size.width, size.height, x);
-            return last;
-        }
-        block::fetch::rows(direction, ram, course.from, course.far, rows, x);
+        block::fetch::rows(direction, ram, source.course, source.rows, x);
         let last = x[size.height * size.width - 1];
-        block::mask::mask(masks, size.width, size.height, x);
-        return last;
-    }
-    source.word
-}
-
-// The words of B, or of C.
-fn supplied(source: Source, direction: Direction, ram: &[u16], size: Size, x: &mut Words) -> u16
-    requires { Asked (length ram.now) direction source size plain x.old }
-    ensures { Given direction source size ram.now plain x.new (last_of direction source ram.now result) }
-{
-    let course = source.course;
-    let rows = source.rows;
-    if source.used & source.need {
-        if rows.width < 4 {
-            block::fetch::narrow_rows(direction, ram, course, rows, x);
-            return x[size.height * size.width - 1];
+        if let Some(masks) = masks {
+            block::mask::mask(masks, size, x);
         }
-        block::fetch::rows(direction, ram, course.from, course.far, rows, x);
-        return x[size.height * size.width - 1];
+        return last;
     }
     source.word
 }
@@ -113,12 +96,10 @@ fn sources(
     far: Strides,
     size: Size,
     flow: Flow,
-    xa: &mut Words,
-    xb: &mut Words,
-    xc: &mut Words,
+    x: &mut Inputs<Words>,
 ) -> Sources
-    requires { (need ≡ needed setup.function) × Fits (length ram.now) setup size flow far × AllRest setup size.width flow.sources xa.old xb.old xc.old }
-    ensures { Supplied setup size far flow ram.now xa.new xb.new xc.new result }
+    requires { (need ≡ needed setup.function) × Fits (length ram.now) setup size flow far × AllRest setup size.width flow.sources x.old }
+    ensures { Supplied setup size far flow ram.now x.new result }
 {
     let uses = setup.uses;
     let direction = setup.direction;
@@ -128,9 +109,9 @@ fn sources(
     let from_a = source(n, direction, size, uses.a, need.a, at.a, far.a, rest.a);
     let from_b = source(n, direction, size, uses.b, need.b, at.b, far.b, rest.b);
     let from_c = source(n, direction, size, uses.c, need.c, at.c, far.c, rest.c);
-    let a = supplied_a(from_a, setup, ram, size, xa);
-    let b = supplied(from_b, direction, ram, size, xb);
-    let c = supplied(from_c, direction, ram, size, xc);
+    let a = supplied(from_a, Some(setup.masks), direction, ram, size, &mut x.a);
+    let b = supplied(from_b, None, direction, ram, size, &mut x.b);
+    let c = supplied(from_c, None, direction, ram, size, &mut x.c);
     if ignored(from_a) | ignored(from_b) | ignored(from_c) {
         return Sources {
             a: last_of(from_a, a, direction, ram),
@@ -148,14 +129,8 @@ fn store_words(ram: &mut [u16], setup: Setup, course: Course, size: Size, o: &Wo
         ≡ (if setup.uses.d then laid_at (place_at setup.direction size.width course.far course.from) (at o.now) (size.height * size.width) ram.old
         else ram.old) }
 {
-    let uses = setup.uses;
-    let direction = setup.direction;
-    if uses.d {
-        if size.width < 4 {
-            block::store::narrow_rows(direction, ram, course, size, o);
-            return;
-        }
-        block::store::rows(direction, ram, course.from, course.far, size, o);
+    if setup.uses.d {
+        block::store::rows(setup.direction, ram, course, size, o);
     }
 }
 
@@ -164,10 +139,7 @@ fn still_nought(allzero: bool, n: usize, o: &Words) -> bool
     requires { n ≤ 64 }
     ensures { result ≡ (allzero && nought n (at o.now)) }
 {
-    if allzero {
-        return block::level::any(n, o) == 0;
-    }
-    false
+    allzero && block::level::nought(n, o)
 }
 
 // Where a channel's pointer stands so many rows later.
@@ -189,11 +161,12 @@ fn pointers_on(setup: Setup, far: Strides, rows: usize, at: Pointers) -> Pointer
     ensures { result ≡ pointers_on setup far rows at }
 {
     let uses = setup.uses;
-    let a = rows_on(uses.a, far.a, rows, at.a);
-    let b = rows_on(uses.b, far.b, rows, at.b);
-    let c = rows_on(uses.c, far.c, rows, at.c);
-    let d = rows_on(uses.d, far.d, rows, at.d);
-    Pointers { a, b, c, d }
+    Pointers {
+        a: rows_on(uses.a, far.a, rows, at.a),
+        b: rows_on(uses.b, far.b, rows, at.b),
+        c: rows_on(uses.c, far.c, rows, at.c),
+        d: rows_on(uses.d, far.d, rows, at.d),
+    }
 }
 
 // The count after so many words.
@@ -214,11 +187,10 @@ fn last_words(setup: Setup, width: usize, last: Sources) -> Earlier
 {
     let masks = setup.masks;
     let a = word::mask::masked(width == 1, true, masks.first, masks.last, last.a);
-    let b = last.b;
-    Earlier { a, b }
+    Earlier { a, b: last.b }
 }
 
-// The block's final words in o. Where they stand there already nothing is made, and nothing else changes.
+// The block's final words, and the flow after they are made. Where they stand there already nothing changes.
 fn made(
     ram: &[u16],
     setup: Setup,
@@ -226,37 +198,34 @@ fn made(
     size: Size,
     ready: bool,
     flow: Flow,
-    xa: &mut Words,
-    xb: &mut Words,
-    xc: &mut Words,
-    ya: &mut Words,
-    o: &mut Words,
-) -> Made
-    requires { Fits (length ram.now) setup size flow far
-        × Arrays setup size.width flow.sources xa.old xb.old xc.old ya.old o.old
-        × (ready ≡ true → Prepared setup size flow xa.old xb.old xc.old o.old) }
-    ensures { MadeOf setup size far flow ram.now xa.new xb.new xc.new ya.new o.new result }
+    x: &mut Arrays,
+) -> Flow
+    requires { Fits (length ram.now) setup size flow far × AllRest setup size.width flow.sources x.old.given
+        × (ready ≡ true → Prepared setup size flow x.old.given x.old.out) }
+    ensures { MadeOf setup size far flow ram.now x.new.given x.new.out result × (result.pending ≡ flow.pending) }
 {
-    let before = flow.earlier;
     if ready {
-        let sources = flow.sources;
-        return Made {
-            sources,
-            earlier: before,
-            carry: flow.carry,
-            allzero: flow.allzero,
-        };
+        return flow;
     }
     let need = block::needs::needs(setup.function);
-    let sources = sources(ram, setup, need, far, size, flow, xa, xb, xc);
-    let carry = crate::finals::finals(setup, need, size, before, xa, xb, xc, ya, o);
+    let sources = sources(ram, setup, need, far, size, flow, &mut x.given);
+    let carry = crate::finals::finals(
+        setup,
+        need,
+        size,
+        flow.earlier,
+        &x.given,
+        &mut x.shifted,
+        &mut x.out,
+    );
     let earlier = last_words(setup, size.width, sources);
-    let allzero = still_nought(flow.allzero, size.height * size.width, o);
-    Made {
+    let allzero = still_nought(flow.allzero, size.height * size.width, &x.out);
+    Flow {
         sources,
         earlier,
         carry,
         allzero,
+        ..flow
     }
 }
 
@@ -268,40 +237,30 @@ pub fn one_block(
     size: Size,
     ready: bool,
     flow: Flow,
-    xa: &mut Words,
-    xb: &mut Words,
-    xc: &mut Words,
-    ya: &mut Words,
-    o: &mut Words,
+    x: &mut Arrays,
 ) -> Flow
     requires { Fits (length ram.old) setup size flow far × (flow.stored + 64 < 4294967296)
-        × Arrays setup size.width flow.sources xa.old xb.old xc.old ya.old o.old
-        × (ready ≡ true → Prepared setup size flow xa.old xb.old xc.old o.old) }
+        × AllRest setup size.width flow.sources x.old.given
+        × (ready ≡ true → Prepared setup size flow x.old.given x.old.out) }
     ensures { (state ram.new result ≡ area_blit setup size.width size.height (state ram.old flow))
-        × MadeOf setup size far flow ram.old xa.new xb.new xc.new ya.new o.new (handed result) }
+        × MadeOf setup size far flow ram.old x.new.given x.new.out result }
 {
-    let uses = setup.uses;
     let at = flow.pointers;
-    let end = made(ram, setup, far, size, ready, flow, xa, xb, xc, ya, o);
-    let n = ram.len();
-    let direction = setup.direction;
-    let d = source(n, direction, size, uses.d, true, at.d, far.d, 0);
-    store_words(ram, setup, d.course, d.rows, o);
-    let pointers = pointers_on(setup, far, size.height, at);
-    let sources = end.sources;
-    let earlier = end.earlier;
-    let pending = Pending {
-        waits: false,
-        place: 0,
-        word: 0,
-    };
+    let end = made(ram, setup, far, size, ready, flow, x);
+    let d = source(
+        ram.len(),
+        setup.direction,
+        size,
+        setup.uses.d,
+        true,
+        at.d,
+        far.d,
+        0,
+    );
+    store_words(ram, setup, d.course, d.rows, &x.out);
     Flow {
-        pointers,
-        sources,
-        earlier,
-        carry: end.carry,
-        allzero: end.allzero,
-        stored: counted(uses.d, flow.stored, size.height * size.width),
-        pending,
+        pointers: pointers_on(setup, far, size.height, at),
+        stored: counted(setup.uses.d, flow.stored, size.height * size.width),
+        ..end
     }
 }

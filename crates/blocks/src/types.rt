@@ -1,6 +1,6 @@
 // The types that blocks speak of.
-use area::types::{Earlier, Sources};
-use block::types::{Course, Size};
+use block::types::{Course, Size, Words};
+use word::types::Inputs;
 
 // A source: whether it is used, whether the function needs it, where its rows lie, the word that it gives at rest, and how
 // many words and rows they are as they lie.
@@ -13,12 +13,11 @@ pub struct Source {
     pub rows: Size,
 }
 
-// A block's words made: its last words, as fetched and as shifted, the last carry, and whether all words up to here were
-// nought.
-#[derive(Clone, Copy)]
-pub struct Made {
-    pub sources: Sources,
-    pub earlier: Earlier,
-    pub carry: u16,
-    pub allzero: bool,
+// The arrays that all the blocks of a blit are done in: the words that the sources give, A's masked; A's as shifted, and
+// later the filled ones; and B's as shifted, in whose place the final words come.
+#[derive(Drop)]
+pub struct Arrays {
+    pub given: Inputs<Words>,
+    pub shifted: Words,
+    pub out: Words,
 }

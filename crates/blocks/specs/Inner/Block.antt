@@ -1,5 +1,5 @@
 -- One block: what its sources give, and the arrays of those at rest, which are laid once a blit.
-use Rattle.std.specs.Prelude.{ℕ, ◌-◌, ◌*◌, ◌≤◌, ◌≡◌, Bool, true, false, ◌&&◌, not, List, length, if◌then◌else◌}
+use Rattle.std.specs.Prelude.{ℕ, ◌-◌, ◌*◌, ◌≤◌, ◌≡◌, Bool, true, false, ◌&&◌, not, List, if◌then◌else◌, Option, Some, None}
 pub use Rattle.area.specs.declared.types.Masks.{Masks}
 pub use Rattle.area.specs.Types.{Earlier, Pointers, Sources}
 unfoldable pub use Rattle.quiet.specs.Words.{masked_at}
@@ -13,7 +13,7 @@ pub use Rattle.apart.specs.Inner.Apart.{AllApart}
 pub use Rattle.apart.specs.Inner.Types.{Strides}
 pub use Rattle.apart.specs.Inner.Spans.{Size}
 pub use Rattle.blocks.specs.declared.types.Source.{Source}
-pub use Rattle.blocks.specs.declared.types.Made.{Made}
+pub use Rattle.word.specs.declared.types.Inputs.{Inputs}
 
 -- word k of a source: fetched where it is used, else the word that it gives at rest
 unfoldable pub supplied_at : Direction → (width : ℕ) → Source → (memory : List ℕ) → (k : ℕ) → ℕ
@@ -28,9 +28,13 @@ plain k word = word
 abbrev pub masking : Masks → (width k word : ℕ) → ℕ
 masking masks width k word = masked_at masks width (level_at word) k
 
--- a source's array is whole; where the source isn't used its word stands in as many whole rows as a block has
+-- A's are masked
+abbrev pub over_by : Option Masks → (width k word : ℕ) → ℕ
+over_by None width k word = word
+over_by (Some masks) width k word = masking masks width k word
+
+-- where a source isn't used its word stands in its array, in as many whole rows as a block has
 pub record Rested (used : Bool) (width : ℕ) (over : (k word : ℕ) → ℕ) (word : ℕ) (words : List ℕ) : Type 0 where
-  pub long : length words ≡ 80
   pub level : used ≡ false → (rows : ℕ) → rows * width ≤ 64 → Each (rows * width) words (λ k. over k word)
 
 -- a source can give a block's words
@@ -59,21 +63,15 @@ last_of direction source memory told =
     told
 
 -- all three sources
-pub record AllRest (setup : Setup) (width : ℕ) (sources : Sources) (xa xb xc : List ℕ) : Type 0 where
-  pub a : Rested setup.uses.a width (masking setup.masks width) sources.a xa
-  pub b : Rested setup.uses.b width plain sources.b xb
-  pub c : Rested setup.uses.c width plain sources.c xc
+pub record AllRest (setup : Setup) (width : ℕ) (sources : Sources) (x : Inputs (List ℕ)) : Type 0 where
+  pub a : Rested setup.uses.a width (masking setup.masks width) sources.a x.a
+  pub b : Rested setup.uses.b width plain sources.b x.b
+  pub c : Rested setup.uses.c width plain sources.c x.c
 
-pub record Supplied (setup : Setup) (size : Size) (far : Strides) (flow : Flow) (memory xa xb xc : List ℕ) (last : Sources) : Type 0 where
-  pub a : Given setup.direction (source_of setup.uses.a (needed setup.function).a flow.pointers.a far.a flow.sources.a size) size memory (masking setup.masks size.width) xa last.a
-  pub b : Given setup.direction (source_of setup.uses.b (needed setup.function).b flow.pointers.b far.b flow.sources.b size) size memory plain xb last.b
-  pub c : Given setup.direction (source_of setup.uses.c (needed setup.function).c flow.pointers.c far.c flow.sources.c size) size memory plain xc last.c
-
--- all five arrays
-pub record Arrays (setup : Setup) (width : ℕ) (sources : Sources) (xa xb xc ya o : List ℕ) : Type 0 where
-  pub rest : AllRest setup width sources xa xb xc
-  pub long_y : length ya ≡ 80
-  pub long_o : length o ≡ 80
+pub record Supplied (setup : Setup) (size : Size) (far : Strides) (flow : Flow) (memory : List ℕ) (x : Inputs (List ℕ)) (last : Sources) : Type 0 where
+  pub a : Given setup.direction (source_of setup.uses.a (needed setup.function).a flow.pointers.a far.a flow.sources.a size) size memory (masking setup.masks size.width) x.a last.a
+  pub b : Given setup.direction (source_of setup.uses.b (needed setup.function).b flow.pointers.b far.b flow.sources.b size) size memory plain x.b last.b
+  pub c : Given setup.direction (source_of setup.uses.c (needed setup.function).c flow.pointers.c far.c flow.sources.c size) size memory plain x.c last.c
 
 -- a block can be done at once: it has few enough words, and is the next of the rows that are left
 pub record Fits (n : ℕ) (setup : Setup) (size : Size) (flow : Flow) (far : Strides) : Type 0 where

@@ -21,6 +21,3 @@ returns-in-Off c = still-of _ _ _ (search rules) (search rules)
 
 pub returns-in-Inclusive : goal.returns-in-Inclusive
 returns-in-Inclusive c told = never (sym told)
-
-pub returns-in-Exclusive : goal.returns-in-Exclusive
-returns-in-Exclusive c told = never (sym told)

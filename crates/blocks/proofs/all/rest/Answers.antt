@@ -4,7 +4,7 @@ use Rattle.blocks.proofs.SuppliedLaws.{rested-used, rested-level}
 use Rattle.blocks.proofs.all.rest.Goals as goal
 
 pub returns-then-used : goal.returns-then-used
-returns-then-used c = rested-used (search rules) (search rules)
+returns-then-used c = rested-used (search rules)
 
 pub returns : goal.returns
-returns c = rested-level c.level.ensures.0 c.level.ensures.1
+returns c = rested-level c.level.ensures

@@ -5,13 +5,13 @@ use Rattle.blocks.proofs.SuppliedLaws.{rested-used, rested-masked, rested-in-col
 use Rattle.blocks.proofs.all.rest_a.Goals as goal
 
 pub returns-then-used : goal.returns-then-used
-returns-then-used c = rested-used (search rules) (search rules)
+returns-then-used c = rested-used (search rules)
 
 pub returns-then-width-eq1 : goal.returns-then-width-eq1
-returns-then-width-eq1 c = rested-in-columns (search rules) _ (search rules) c.level.ensures.1
+returns-then-width-eq1 c = rested-in-columns _ (search rules) c.level.ensures
 
 pub mask-requires : goal.mask-requires
-mask-requires c = (search rules, div-mul-le_self 64 _, search rules)
+mask-requires c = (search rules, div-mul-le_self 64 _)
 
 pub returns : goal.returns
-returns c = rested-masked c.mask.ensures.0 _ _ c.requires.0 c.level-2.ensures.1 c.mask.ensures.1
+returns c = rested-masked _ _ c.requires.0 c.level-2.ensures c.mask.ensures

@@ -3,4 +3,4 @@ use Rattle.word.proofs.Base.{refl}
 use Rattle.blocks.proofs.one.pointers_on.Goals as goal
 
 pub returns : goal.returns
-returns c = rw (c.rows_on-d.ensures, c.rows_on-c.ensures, c.rows_on-b.ensures, c.rows_on-a.ensures) refl
+returns c = rw (c.rows_on-4.ensures, c.rows_on-3.ensures, c.rows_on-2.ensures, c.rows_on.ensures) refl

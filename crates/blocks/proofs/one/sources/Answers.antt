@@ -14,8 +14,8 @@ source-from_b-requires c = sized c.requires.1 c.requires.1.placed.b
 pub source-from_c-requires : goal.source-from_c-requires
 source-from_c-requires c = sized c.requires.1 c.requires.1.placed.c
 
-pub supplied_a-a-requires : goal.supplied_a-a-requires
-supplied_a-a-requires c = rw c.source-from_a.ensures.0 (asked c.requires.1 c.requires.1.placed.a c.source-from_a.ensures.1 c.requires.2.a)
+pub supplied-a-requires : goal.supplied-a-requires
+supplied-a-requires c = rw c.source-from_a.ensures.0 (asked c.requires.1 c.requires.1.placed.a c.source-from_a.ensures.1 c.requires.2.a)
 
 pub supplied-b-requires : goal.supplied-b-requires
 supplied-b-requires c = rw c.source-from_b.ensures.0 (asked c.requires.1 c.requires.1.placed.b c.source-from_b.ensures.1 c.requires.2.b)
@@ -34,7 +34,7 @@ last_of-requires-then-ignored-2 c = rw c.source-from_c.ensures.0 (last_row c.req
 
 pub returns-then-ignored : goal.returns-then-ignored
 returns-then-ignored c = record {
-  a = given-as _ (rw (sym c.last_of.ensures, c.source-from_a.ensures.0, c.requires.0) at c.supplied_a-a.ensures);
+  a = given-as _ (rw (sym c.last_of.ensures, c.source-from_a.ensures.0, c.requires.0) at c.supplied-a.ensures);
   b = given-as _ (rw (sym c.last_of-then-ignored.ensures, c.source-from_b.ensures.0, c.requires.0) at c.supplied-b.ensures);
   c = given-as _ (rw (sym c.last_of-then-ignored-2.ensures, c.source-from_c.ensures.0, c.requires.0) at c.supplied-c.ensures);
 }
@@ -42,7 +42,7 @@ returns-then-ignored c = record {
 pub returns : goal.returns
 returns c = let two = or_left _ _ c.if-ignored.false in
     record {
-      a = given-as _ (rw (c.source-from_a.ensures.0, c.requires.0) at (given-kept _ (sym c.ignored.ensures ∙ or_left _ _ two) c.supplied_a-a.ensures));
+      a = given-as _ (rw (c.source-from_a.ensures.0, c.requires.0) at (given-kept _ (sym c.ignored.ensures ∙ or_left _ _ two) c.supplied-a.ensures));
       b = given-as _ (rw (c.source-from_b.ensures.0, c.requires.0) at (given-kept _ (sym c.ignored-2.ensures ∙ or_right c.ignored.result _ two) c.supplied-b.ensures));
       c = given-as _ (rw (c.source-from_c.ensures.0, c.requires.0) at (given-kept _ (sym c.ignored-3.ensures ∙ or_right (c.ignored.result || c.ignored-2.result) _ c.if-ignored.false) c.supplied-c.ensures));
     }

@@ -14,7 +14,7 @@ use Rattle.refusal.specs.Refusal.{step_refusal}
 use Rattle.word.specs.Memory.{memory_size}
 use Rattle.blit.specs.Blit.{Outcome, blit_step}
 use Rattle.job.specs.declared.types.Step.{Step}
-use Rattle.job.specs.Read.{Read}
+use Rattle.job.specs.Types.{Read}
 use Rattle.job.specs.Step.{operands, found, front}
 use Rattle.job.specs.Steps.{Placed, placed, steps_from, steps}
 use Rattle.runner.specs.Effect.{step_effect, effect}

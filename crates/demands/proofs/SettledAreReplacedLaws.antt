@@ -12,7 +12,7 @@ use Rattle.area.specs.Flow.{state, pointers, start}
 use Rattle.refusal.proofs.TouchLaws.{touches-stay}
 use Rattle.file.proofs.PointersLaws.{pointer_at-lt}
 use Rattle.job.specs.declared.types.Step.{Step}
-use Rattle.job.specs.Read.{Read}
+use Rattle.job.specs.Types.{Read}
 use Rattle.job.specs.Step.{operands, found, front}
 use Rattle.job.specs.Steps.{Placed, steps_from, steps}
 use Rattle.job.proofs.WellCutLaws.{is_step, faultless, well_cut}

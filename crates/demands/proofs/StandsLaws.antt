@@ -6,7 +6,7 @@ use Rattle.file.specs.File.{kept}
 use Rattle.file.specs.Places.{blitter_length, file_length}
 use Rattle.blit.specs.Blit.{Outcome, refused}
 use Rattle.job.specs.declared.types.Step.{Step}
-use Rattle.job.specs.Read.{Read}
+use Rattle.job.specs.Types.{Read}
 use Rattle.runner.specs.Effect.{store_outside, own_rules, taken, answered, step_effect, effect}
 use Rattle.runner.specs.Run.{Machine, after}
 use Rattle.runner.proofs.EffectLaws.{step_effect-either, step_effect-of-blit}

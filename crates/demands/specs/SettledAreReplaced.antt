@@ -3,7 +3,7 @@
 -- settled blit, and the step itself otherwise.
 use Rattle.std.specs.Prelude.{ℕ, ◌+◌, ◌≡◌, List, [], ◌∷◌, ◌++◌, if◌then◌else◌, Some, None, Ok, Err}
 use Rattle.job.specs.declared.types.Step.{Step}
-use Rattle.job.specs.Read.{Read}
+use Rattle.job.specs.Types.{Read}
 use Rattle.job.specs.Step.{operands, found}
 use Rattle.job.specs.Steps.{Placed, placed, steps}
 use Rattle.knowledge.specs.declared.types.Known.{Known}

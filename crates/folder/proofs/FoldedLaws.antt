@@ -12,7 +12,7 @@ use Rattle.word.proofs.LaidLaws.{laid-of-append, laid-as-long}
 use Rattle.job.specs.declared.types.Refusal as jobs
 use Rattle.job.specs.Step as jobs-numbers
 use Rattle.job.specs.declared.types.Step.{Step}
-use Rattle.job.specs.Read.{Read}
+use Rattle.job.specs.Types.{Read}
 use Rattle.job.specs.Step.{operands, step_at, read_number}
 use Rattle.job.specs.Steps.{Placed, placed, steps_from, steps}
 use Rattle.job.proofs.StepLaws.{step_at-moves, step_at-next}

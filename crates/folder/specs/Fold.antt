@@ -1,7 +1,7 @@
 -- Paper 01, "Folding": the folded job, from a given knowledge. "All other steps are copied."
 use Rattle.std.specs.Prelude.{ℕ, ◌+◌, List, [], ◌∷◌, ◌++◌, take, drop, if◌then◌else◌, Some, None, Ok, Err}
 use Rattle.job.specs.declared.types.Step.{Step}
-use Rattle.job.specs.Read.{Read}
+use Rattle.job.specs.Types.{Read}
 use Rattle.job.specs.Step.{operands}
 use Rattle.job.specs.Steps.{Placed, steps}
 use Rattle.stores.specs.Stores.{final_d}

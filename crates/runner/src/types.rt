@@ -10,17 +10,29 @@ pub enum Refusal {
     StoreOutside,
 }
 
-// What one step answers: done with the count of words that it stored and whether a channel went round, or refused.
+// What a step or a run that is done answers: the count of words stored, and whether a pointer went round.
 #[derive(Clone, Copy)]
-pub enum Taken {
-    Done(u32, bool),
-    Refused(Refusal),
+pub struct Done {
+    pub stored: u32,
+    pub round: bool,
 }
 
-// What a run answers: done with the count of words stored and whether a pointer went round, or refused, with the place
-// of the refused step and these two of the steps before it.
+// Of no step.
+pub const NONE_DONE: Done = Done {
+    stored: 0,
+    round: false,
+};
+
+// What a refused run answers: why, the place of the refused step, and what the steps before it answer.
 #[derive(Clone, Copy)]
-pub enum Answer {
-    Done(u32, bool),
-    Refused(Refusal, usize, u32, bool),
+pub struct Stopped {
+    pub why: Refusal,
+    pub place: usize,
+    pub done: Done,
 }
+
+// What one step answers.
+pub type Taken = Result<Done, Refusal>;
+
+// What a run answers.
+pub type Answer = Result<Done, Stopped>;

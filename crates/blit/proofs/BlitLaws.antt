@@ -1,5 +1,5 @@
 -- Laws of the blit: what it writes back, and how it is put together from its parts.
-use Rattle.std.specs.Prelude.{if◌then◌else◌}
+use Rattle.std.specs.Prelude.{if◌then◌else◌, Result, Ok, Err, IsErrAnd}
 use Rattle.word.proofs.Base.{◌≡◌, refl, ap, ℕ, ◌+◌, ◌*◌, ◌<◌, ◌≤◌, arith, Bool, true, false, eqb, eqb-true, ne_eqb, List, length}
 use Rattle.word.proofs.Base.{length-set}
 use native.Mathlib.Nat.{mul-one, mul-zero}
@@ -14,10 +14,7 @@ use Rattle.refusal.specs.declared.types.AreaPlan.{AreaPlan}
 use Rattle.refusal.specs.declared.types.LinePlan.{LinePlan}
 use Rattle.refusal.specs.declared.types.Plan.{Plan}
 use Rattle.refusal.specs.declared.types.Plan.TheVariants as plans
-use Rattle.refusal.specs.declared.types.Verdict.{Verdict}
-use Rattle.refusal.specs.declared.types.Verdict.TheVariants as verdicts
-use Rattle.blit.specs.declared.types.Answer.{Answer}
-use Rattle.blit.specs.declared.types.Answer.TheVariants.{Done, Refused}
+use Rattle.blit.specs.declared.types.Done.{Done}
 use Rattle.area.specs.Setup.{shifts, setup}
 use Rattle.area.specs.Flow.{State, state, nothing, sources, start_from, start}
 use Rattle.area.specs.Store.{store_pending, count_with}
@@ -94,7 +91,7 @@ pub area_done-of-parts : (file : List ℕ) (size : ℕ) (by : AreaPlan) (round :
     → round ≡ area_round by
     → state after end ≡ finished memory file size
     → changed ≡ write_back by.setup.uses end file
-    → left (Done end.stored round) after changed ≡ area_done file (area_round (area_plan file size)) (finished memory file size)
+    → left (Ok (record { stored = end.stored; round = round })) after changed ≡ area_done file (area_round (area_plan file size)) (finished memory file size)
 unfolding area_done
 area_done-of-parts file size by round memory after changed end same tells does writes = rw (← does, writes, tells, same)
 
@@ -107,7 +104,7 @@ module _ (file : List ℕ) (size : ℕ) (by : LinePlan) (same : by ≡ line_plan
       → round ≡ line_round by
       → lines.state after end ≡ line_blit by.line by.dots (lines.state memory (begun by.first))
       → changed ≡ leave end file
-      → left (Done end.stored round) after changed ≡ line_done file (line_round (line_plan file size)) (drawn memory file size)
+      → left (Ok (record { stored = end.stored; round = round })) after changed ≡ line_done file (line_round (line_plan file size)) (drawn memory file size)
   unfolding line_done drawn
   line_done-of-parts round memory after changed end tells does leaves = rw (leaves, tells, ← (rw same at does), same)
 
@@ -130,45 +127,62 @@ done-round memory file size =
     (line_done file (goes_round file size) (drawn memory file size))
     (area_done file (goes_round file size) (finished memory file size)) (λ _. refl) (λ _. refl)
 
--- a lawful blit is a line or an area blit, as the plan says that its verdict hands on
-module _ (file : List ℕ) (size : ℕ) (verdict : Verdict) (by : Plan) (lawful : verdict ≡ verdicts.Lawful by)
-    (hands : handed verdict (plan file size) ≡ plan file size) where
-  pub plan-of-verdict : by ≡ plan file size
-  plan-of-verdict = rw lawful at hands
+-- a lawful blit is a line or an area blit, as the plan says
+module _ (file : List ℕ) (size : ℕ) (by : Plan) (same : by ≡ plan file size) where
+  pub area-by-plan : (area : AreaPlan) → by ≡ plans.Area area → area ≡ area_plan file size
+  area-by-plan area is = area-of-plan file size by same area is
 
-  pub area-of-verdict : (area : AreaPlan) → by ≡ plans.Area area → area ≡ area_plan file size
-  area-of-verdict area is = area-of-plan file size by plan-of-verdict area is
-
-  pub line-of-verdict : (course : LinePlan) → by ≡ plans.Line course → course ≡ line_plan file size
-  line-of-verdict course is = line-of-plan file size by plan-of-verdict course is
+  pub line-by-plan : (course : LinePlan) → by ≡ plans.Line course → course ≡ line_plan file size
+  line-by-plan course is = line-of-plan file size by same course is
 
   module _ (memory : List ℕ) (outcome : Outcome) where
-    pub answered-of-area : (area : AreaPlan) → by ≡ plans.Area area → outcome ≡ area_done file (area_round (area_plan file size)) (finished memory file size)
-        → outcome ≡ answered (verdict_number verdict) memory file size
-    unfolding answered done goes_round
-    answered-of-area area is does = rw (lawful, area-bit file size by plan-of-verdict area is) does
+    pub done-of-area : (area : AreaPlan) → by ≡ plans.Area area → outcome ≡ area_done file (area_round (area_plan file size)) (finished memory file size)
+        → outcome ≡ done memory file size
+    unfolding done goes_round
+    done-of-area area is does = rw (area-bit file size by same area is) does
 
-    pub answered-of-line : (course : LinePlan) → by ≡ plans.Line course → outcome ≡ line_done file (line_round (line_plan file size)) (drawn memory file size)
-        → outcome ≡ answered (verdict_number verdict) memory file size
-    unfolding answered done goes_round
-    answered-of-line course is does = rw (lawful, line-bit file size by plan-of-verdict course is) does
+    pub done-of-line : (course : LinePlan) → by ≡ plans.Line course → outcome ≡ line_done file (line_round (line_plan file size)) (drawn memory file size)
+        → outcome ≡ done memory file size
+    unfolding done goes_round
+    done-of-line course is does = rw (line-bit file size by same course is) does
 
-pub answered-when-refused : (memory file : List ℕ) (size : ℕ) (why : Refusal) (verdict : Verdict)
-    → verdict ≡ verdicts.Refused why → left (Refused why) memory file ≡ answered (verdict_number verdict) memory file size
-unfolding answered refused
-answered-when-refused memory file size why verdict against = rw (against, refusal-is-some why)
+-- the plan is the one that its verdict hands on
+pub plan-of-verdict : (file : List ℕ) (size : ℕ) (verdict : Result Plan Refusal) (by : Plan) → verdict ≡ Ok by
+    → handed verdict (plan file size) ≡ plan file size → by ≡ plan file size
+plan-of-verdict file size verdict by lawful hands = rw lawful at hands
 
-pub blit-of-answer : (memory file after changed : List ℕ) (size number : ℕ) (answer : Answer)
-    → number ≡ refusal (length memory) file size → left answer after changed ≡ answered number memory file size
-    → left answer after changed ≡ blit memory file size
-unfolding blit
-blit-of-answer memory file after changed size number answer same does = rw (← same) does
+-- a blit by its verdict: done, or refused
+module _ (memory file : List ℕ) (size : ℕ) (verdict : Result Plan Refusal) where
+  answered-when-lawful : (by : Plan) (outcome : Outcome) → verdict ≡ Ok by → outcome ≡ done memory file size
+      → outcome ≡ answered (verdict_number verdict) memory file size
+  unfolding answered
+  answered-when-lawful by outcome lawful does = rw lawful does
 
-pub blit_step-of-answer : (memory file after changed : List ℕ) (size number : ℕ) (answer : Answer)
-    → number ≡ step_refusal (length memory) file size → left answer after changed ≡ answered number memory file size
-    → left answer after changed ≡ blit_step memory file size
-unfolding blit_step
-blit_step-of-answer memory file after changed size number answer same does = rw (← same) does
+  answered-when-refused : (why : Refusal) (answer : Result Done Refusal) → verdict ≡ Err why → IsErrAnd answer (λ reason. reason ≡ why)
+      → left answer memory file ≡ answered (verdict_number verdict) memory file size
+  unfolding answered refused
+  answered-when-refused why (Ok done) against passed = absurd passed
+  answered-when-refused why (Err reason) against passed = rw (against, refusal-is-some why, passed)
+
+  module _ (tells : verdict_number verdict ≡ refusal (length memory) file size) where
+    pub blit-when-lawful : (by : Plan) (outcome : Outcome) → verdict ≡ Ok by → outcome ≡ done memory file size → outcome ≡ blit memory file size
+    unfolding blit
+    blit-when-lawful by outcome lawful does = rw (← tells) (answered-when-lawful by outcome lawful does)
+
+    pub blit-when-refused : (why : Refusal) (answer : Result Done Refusal) → verdict ≡ Err why → IsErrAnd answer (λ reason. reason ≡ why)
+        → left answer memory file ≡ blit memory file size
+    unfolding blit
+    blit-when-refused why answer against passed = rw (← tells) (answered-when-refused why answer against passed)
+
+  module _ (tells : verdict_number verdict ≡ step_refusal (length memory) file size) where
+    pub blit_step-when-lawful : (by : Plan) (outcome : Outcome) → verdict ≡ Ok by → outcome ≡ done memory file size → outcome ≡ blit_step memory file size
+    unfolding blit_step
+    blit_step-when-lawful by outcome lawful does = rw (← tells) (answered-when-lawful by outcome lawful does)
+
+    pub blit_step-when-refused : (why : Refusal) (answer : Result Done Refusal) → verdict ≡ Err why → IsErrAnd answer (λ reason. reason ≡ why)
+        → left answer memory file ≡ blit_step memory file size
+    unfolding blit_step
+    blit_step-when-refused why answer against passed = rw (← tells) (answered-when-refused why answer against passed)
 
 -- what a blit keeps: the lengths of memory and file
 put_pointer-keeps-length : (used : Bool) (place : ℕ) (pointer : Pointer) (file : List ℕ) → length (put_pointer used place pointer file) ≡ length file

@@ -1,10 +1,11 @@
 -- Paper 01, "Jobs": "The blit called alone, with memory, register file and size, gives [its number] .. and the count"; and
 -- paper 02, W12: a yes "exactly when some used channel (in a line, C) went round between two of its accesses in a blit
 -- that was done".
-use Rattle.std.specs.Prelude.{ℕ, Bool, false, List, eqb, length, if◌then◌else◌}
+use Rattle.std.specs.Prelude.{ℕ, Bool, false, List, eqb, length, if◌then◌else◌, Result, Ok, Err}
 use Rattle.word.specs.Size.{height, width}
-use Rattle.blit.specs.declared.types.Answer.{Answer}
-use Rattle.blit.specs.declared.types.Answer.TheVariants.{Done, Refused}
+use Rattle.refusal.specs.declared.types.Refusal.{Refusal}
+use Rattle.blit.specs.declared.types.Done.{Done}
+use Rattle.blit.specs.declared.types.Told.{Told}
 use Rattle.area.specs.Setup.{setup}
 use Rattle.area.specs.Flow.{State, state, start}
 use Rattle.area.specs.Rows.{area_blit}
@@ -15,7 +16,7 @@ use Rattle.line.specs.Line.{begun, line_blit}
 use Rattle.line.specs.Leave.{leave}
 use Rattle.blit.specs.WriteBack.{write_back}
 use Rattle.refusal.specs.Plan.{line_or_area}
-use Rattle.refusal.specs.Refusal.{step_refusal, refusal, refusal_number}
+use Rattle.refusal.specs.Refusal.{step_refusal, refusal, verdict_number}
 use Rattle.round.specs.Round.{goes_round}
 
 -- what a blit gives and leaves; round: whether a channel went round
@@ -78,24 +79,23 @@ blit_step memory file size = answered (step_refusal (length memory) file size) m
 unfoldable pub blit : (memory file : List ℕ) → (size : ℕ) → Outcome
 blit memory file size = answered (refusal (length memory) file size) memory file size
 
--- the paper's number and count for each case of the answer, and its yes
-abbrev pub answer_number : Answer → ℕ
-answer_number (Done stored round) = 0
-answer_number (Refused why) = refusal_number why
+-- the paper's count for each case of the answer, and its yes; its number is the refusal's, 0 where it is done
+abbrev pub answer_stored : Result Done Refusal → ℕ
+answer_stored (Ok done) = done.stored
+answer_stored (Err why) = 0
 
-abbrev pub answer_stored : Answer → ℕ
-answer_stored (Done stored round) = stored
-answer_stored (Refused why) = 0
+abbrev pub answer_round : Result Done Refusal → Bool
+answer_round (Ok done) = done.round
+answer_round (Err why) = false
 
-abbrev pub answer_round : Answer → Bool
-answer_round (Done stored round) = round
-answer_round (Refused why) = false
+abbrev pub told : Result Done Refusal → Told
+told answer = record { number = verdict_number answer; stored = answer_stored answer; round = answer_round answer }
 
 -- an answer, and what memory and file hold as it is given
-abbrev pub left : Answer → (memory file : List ℕ) → Outcome
+abbrev pub left : Result Done Refusal → (memory file : List ℕ) → Outcome
 left answer memory file =
     record {
-      number = answer_number answer;
+      number = verdict_number answer;
       stored = answer_stored answer;
       round = answer_round answer;
       memory = memory;

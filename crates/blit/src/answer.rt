@@ -1,33 +1,23 @@
-// The paper's number and count of an answer, and its yes.
+// The paper's numbers of an answer.
 ghost use Rattle.std.specs.Prelude.{◌≡◌};
-ghost use Rattle.blit.specs.Blit.{answer_number, answer_stored, answer_round};
+ghost use Rattle.blit.specs.Blit.{told};
 
-use crate::types::Answer;
+use crate::types::{Done, Told};
+use refusal::types::Refusal;
 
-pub fn number(answer: Answer) -> u32
-    ensures { result ≡ answer_number answer }
+pub fn told(answer: Result<Done, Refusal>) -> Told
+    ensures { result ≡ told answer }
 {
     match answer {
-        Answer::Done(_, _) => 0,
-        Answer::Refused(why) => refusal::refusal_number(why),
-    }
-}
-
-pub fn stored(answer: Answer) -> u32
-    ensures { result ≡ answer_stored answer }
-{
-    match answer {
-        Answer::Done(stored, _) => stored,
-        Answer::Refused(_) => 0,
-    }
-}
-
-// Whether a channel went round.
-pub fn round(answer: Answer) -> bool
-    ensures { result ≡ answer_round answer }
-{
-    match answer {
-        Answer::Done(_, round) => round,
-        Answer::Refused(_) => false,
+        Ok(done) => Told {
+            number: 0,
+            stored: done.stored,
+            round: done.round,
+        },
+        Err(why) => Told {
+            number: why.number(),
+            stored: 0,
+            round: false,
+        },
     }
 }

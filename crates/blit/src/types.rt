@@ -1,9 +1,16 @@
-// The answer of a blit.
-use refusal::types::Refusal;
+// What a blit answers.
 
-// What a blit answers: done with the count of words stored and whether a channel went round, or refused.
+// Of a blit that is done: the count of words stored, and whether a channel went round.
+#[derive(Clone, Copy, Debug, PartialEq, Eq)]
+pub struct Done {
+    pub stored: u32,
+    pub round: bool,
+}
+
+// The paper's numbers of an answer: the refusal's, 0 where it is done; the count; the yes.
 #[derive(Clone, Copy)]
-pub enum Answer {
-    Done(u32, bool),
-    Refused(Refusal),
+pub struct Told {
+    pub number: u32,
+    pub stored: u32,
+    pub round: bool,
 }

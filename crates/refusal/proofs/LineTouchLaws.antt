@@ -1,5 +1,5 @@
 -- Laws of the words that a line touches: a dot tells for the rest.
-use Rattle.word.proofs.Base.{◌≡◌, refl, ℕ, zero, suc, ◌-◌, ◌/◌, ◌%◌, ◌<◌, ◌≤◌, sub-one, arith, Bool, true, false, le-leb, lt-leb}
+use Rattle.word.proofs.Base.{◌≡◌, refl, sym, ◌∙◌, ℕ, zero, suc, ◌+◌, ◌-◌, ◌/◌, ◌%◌, ◌<◌, ◌≤◌, arith, Bool, true, false, ◌||◌, leb, le-leb, lt-leb}
 use Rattle.word.specs.Pointer.{pointer_end}
 use Rattle.line.specs.declared.types.Line.{Line}
 use Rattle.line.specs.declared.types.Dot.{Dot}
@@ -11,38 +11,44 @@ use Rattle.line.proofs.MoveLaws.{moved_spot-at-lt}
 use Rattle.line.proofs.WalkLaws.{walked-is-next, dot_of-of-mark_of}
 use Rattle.refusal.specs.Touch.{line_touches, leaves}
 
--- the dots that remain leave memory where all do, of whichever line the steps are
-unfoldable pub Same : (n : ℕ) (by : Steps) (dots : ℕ) (first : Mark) (remaining : ℕ) (mark : Mark) → Type 0
-Same n by dots first remaining mark =
-    (line : Line) → by ≡ steps line → leaves n (line_touches line remaining (dot_of mark)) ≡ leaves n (line_touches line dots (dot_of first))
+-- the dots from one on leave memory where all do, of whichever line the steps are
+unfoldable pub Same : (n : ℕ) (by : Steps) (dots : ℕ) (first : Mark) (dot : ℕ) (mark : Mark) → Type 0
+Same n by dots first dot mark =
+    (line : Line) → by ≡ steps line → leaves n (line_touches line (dots - dot) (dot_of mark)) ≡ leaves n (line_touches line dots (dot_of first))
 
 module _ (n : ℕ) (by : Steps) (dots : ℕ) (first : Mark) where
-  pub same-at-first : Same n by dots first dots first
+  pub same-at-first : Same n by dots first 0 first
   unfolding Same
-  same-at-first line paces = refl
+  same-at-first line paces = let all : dots - 0 ≡ dots = omega arith in rw all refl
 
-  pub same-when-leaves : (line : Line) (remaining : ℕ) (here : Mark) (word : ℕ) → by ≡ steps line → 0 < remaining
-      → word ≡ here.pixel / 16 % pointer_end → n ≤ word → Same n by dots first remaining here
+  -- it tells, or those after it do
+  leaves-of-dots : (line : Line) (dot : ℕ) (here : Mark) → dot < dots
+      → leaves n (line_touches line (dots - dot) (dot_of here))
+      ≡ (leb n (here.pixel / 16 % pointer_end) || leaves n (line_touches line (dots - (dot + 1)) (next line (dot_of here))))
+  unfolding spots leaves
+  leaves-of-dots line dot here more =
+      let left : dots - dot ≡ suc (dots - (dot + 1)) = omega arith in
+      rw left refl
+
+  pub same-when-leaves : (line : Line) (dot : ℕ) (here : Mark) (word : ℕ) → by ≡ steps line → dot < dots
+      → word ≡ here.pixel / 16 % pointer_end → n ≤ word → Same n by dots first dot here
       → true ≡ leaves n (line_touches line dots (dot_of first))
-  unfolding Same spots leaves
-  same-when-leaves line zero here word paces more there outside same = absurd (omega arith)
-  same-when-leaves line (suc remaining) here word paces more there outside same =
-      rw (le-leb n (here.pixel / 16 % pointer_end) (rw (← there) outside)) at (same line paces)
+  unfolding Same
+  same-when-leaves line dot here word paces more there outside same =
+      rw (le-leb n (here.pixel / 16 % pointer_end) (rw (← there) outside)) at (sym (leaves-of-dots line dot here more) ∙ same line paces)
 
-  pub same_turn : (remaining : ℕ) (here after : Mark) (word : ℕ) → 0 < remaining
+  pub same_turn : (dot : ℕ) (here after : Mark) (word : ℕ) → dot < dots
       → word ≡ here.pixel / 16 % pointer_end → word < n → after ≡ walked (step_by by here.sign) here
-      → Same n by dots first remaining here → Same n by dots first (remaining - 1) after
-  unfolding Same spots leaves
-  same_turn zero here after word more there inside turn same line paces = absurd (omega arith)
-  same_turn (suc remaining) here after word more there inside turn same line paces =
-      rw (turn, paces, walked-is-next line here, sub-one)
-      (rw (lt-leb n (here.pixel / 16 % pointer_end) (rw (← there) inside)) at (same line paces))
+      → Same n by dots first dot here → Same n by dots first (dot + 1) after
+  unfolding Same
+  same_turn dot here after word more there inside turn same line paces =
+      rw (turn, paces, walked-is-next line here)
+      (rw (lt-leb n (here.pixel / 16 % pointer_end) (rw (← there) inside)) at (sym (leaves-of-dots line dot here more) ∙ same line paces))
 
-  pub same-done : (line : Line) (remaining : ℕ) (here : Mark) → by ≡ steps line → remaining ≤ 0 → Same n by dots first remaining here
+  pub same-done : (line : Line) (dot : ℕ) (here : Mark) → by ≡ steps line → dots ≤ dot → Same n by dots first dot here
       → false ≡ leaves n (line_touches line dots (dot_of first))
   unfolding Same spots leaves
-  same-done line zero here paces none same = same line paces
-  same-done line (suc remaining) here paces none same = absurd (omega arith)
+  same-done line dot here paces end same = let none : dots - dot ≡ 0 = omega arith in rw none at (same line paces)
 
 module _ (n : ℕ) (line : Line) where
   -- from the first dot's mark

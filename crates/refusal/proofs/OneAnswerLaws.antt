@@ -1,15 +1,13 @@
 -- The number of a refusal tells it from all others, and is never 0: what a verdict's number is tells the verdict.
-use Rattle.std.specs.Prelude.{if◌then◌else◌}
+use Rattle.std.specs.Prelude.{if◌then◌else◌, Result, Ok, Err}
 use Rattle.word.proofs.Base.{◌≡◌, refl, sym, ap, ◌∙◌, ℕ, Bool, true, eqb, eq-eqb, eqb-false}
 use Rattle.refusal.specs.declared.types.Refusal.{Refusal}
 use Rattle.refusal.specs.declared.types.Refusal.TheVariants.{MemorySize, RegisterFile, BothFills, FillUpward, ALeaves, BLeaves, CLeaves, DLeaves, LineForm, LineApart}
 use Rattle.refusal.specs.declared.types.Plan.{Plan}
-use Rattle.refusal.specs.declared.types.Verdict.{Verdict}
-use Rattle.refusal.specs.declared.types.Verdict.TheVariants.{Lawful, Refused}
 use Rattle.refusal.specs.Plan.{plan}
 use Rattle.refusal.specs.Refusal.{refusal_number, verdict_number, handed}
 use Rattle.refusal.specs.OneAnswer.{OneAnswer, OneStepAnswer}
-use Rattle.refusal.proofs.RefusalLaws.{refusal-is-some}
+use Rattle.refusal.proofs.RefusalLaws.{refusal_number-positive}
 
 -- the refusal with a number
 unfoldable pub refusal_of : ℕ → Refusal
@@ -48,16 +46,13 @@ refusal_number-is-own why = eq-eqb _ _ (ap refusal_number (refusal_number-tells 
 pub refusal_number-is-unique : (why reason : Refusal) → refusal_number why ≡ refusal_number reason → why ≡ reason
 refusal_number-is-unique why reason same = sym (refusal_number-tells why) ∙ ap refusal_of same ∙ refusal_number-tells reason
 
-pub refusal_number-positive : (why : Refusal) → refusal_number why ≡ 0 → ⊥
-refusal_number-positive why = eqb-false (refusal_number why) 0 (refusal-is-some why)
-
 -- two verdicts with one number that hand on the same
-verdict-is-unique : (by : Plan) (first second : Verdict) → verdict_number first ≡ verdict_number second
+verdict-is-unique : (by : Plan) (first second : Result Plan Refusal) → verdict_number first ≡ verdict_number second
     → handed first by ≡ by → handed second by ≡ by → first ≡ second
-verdict-is-unique by (Lawful one) (Lawful other) same hands again = ap Lawful (hands ∙ sym again)
-verdict-is-unique by (Lawful one) (Refused why) same hands again = absurd (refusal_number-positive why (sym same))
-verdict-is-unique by (Refused why) (Lawful other) same hands again = absurd (refusal_number-positive why same)
-verdict-is-unique by (Refused why) (Refused reason) same hands again = ap Refused (refusal_number-is-unique why reason same)
+verdict-is-unique by (Ok one) (Ok other) same hands again = ap Ok (hands ∙ sym again)
+verdict-is-unique by (Ok one) (Err why) same hands again = absurd (refusal_number-positive why (sym same))
+verdict-is-unique by (Err why) (Ok other) same hands again = absurd (refusal_number-positive why same)
+verdict-is-unique by (Err why) (Err reason) same hands again = ap Err (refusal_number-is-unique why reason same)
 
 pub one_answer : OneAnswer
 one_answer n file size first second promise again =

@@ -1,6 +1,6 @@
 -- Laws of the refusals.
-use Rattle.std.specs.Prelude.{if◌then◌else◌}
-use Rattle.word.proofs.Base.{◌≡◌, refl, sym, ◌∙◌, ℕ, ◌<◌, ◌≤◌, arith, Bool, true, false, ◌&&◌, ◌||◌, not, eqb, not-true, not-false, List}
+use Rattle.std.specs.Prelude.{if◌then◌else◌, ⊤, Result, Ok, Err, IsErrAnd}
+use Rattle.word.proofs.Base.{◌≡◌, refl, sym, ap, ◌∙◌, ℕ, ◌<◌, ◌≤◌, arith, Bool, true, false, ◌&&◌, ◌||◌, not, eqb, eqb-false, not-true, not-false, List}
 use Rattle.word.specs.Choice.{given}
 use Rattle.word.specs.Pointer.{pointer_end, pointer}
 use Rattle.word.specs.Size.{height, width}
@@ -15,16 +15,19 @@ use Rattle.line.specs.Dot.{first_dot}
 use Rattle.file.specs.Pointers.{pointer_at}
 use Rattle.file.proofs.PointersLaws.{pointer_at-lt}
 use Rattle.area.specs.Flow.{pointers}
+use Rattle.refusal.specs.Inner.Ranges.{ChannelRange}
+use Rattle.refusal.specs.Inner.AreaRange.{AreaRange}
+use Rattle.refusal.specs.Inner.Channels.{IsChannel, checked}
+use Rattle.refusal.specs.declared.types.Channel.{Channel}
 use Rattle.refusal.specs.declared.types.AreaPlan.{AreaPlan}
 use Rattle.refusal.specs.declared.types.LinePlan.{LinePlan}
+use Rattle.refusal.specs.declared.types.Plan.{Plan}
 use Rattle.refusal.specs.declared.types.Plan.TheVariants as plans
-use Rattle.refusal.specs.declared.types.Verdict.{Verdict}
-use Rattle.refusal.specs.declared.types.Verdict.TheVariants as verdicts
 use Rattle.refusal.specs.declared.types.Refusal.{Refusal}
 use Rattle.refusal.specs.declared.types.Refusal.TheVariants.{MemorySize, RegisterFile, BothFills, FillUpward, ALeaves, BLeaves, CLeaves, DLeaves, LineForm, LineApart}
 use Rattle.refusal.specs.Touch.{touches, line_touches, leaves, channel_leaves}
 use Rattle.refusal.specs.Plan.{area_plan, line_plan, plan}
-use Rattle.refusal.specs.Refusal.{both_fills, fill_upward, goes_out, leaving, area_rules, other_form, pointers_differ, line_rules, blit_rules, step_refusal, refusal, refusal_number, handed}
+use Rattle.refusal.specs.Refusal.{both_fills, fill_upward, goes_out, leaving, area_rules, other_form, pointers_differ, line_rules, blit_rules, step_refusal, refusal, refusal_number, verdict_number, handed}
 use Rattle.word.specs.Memory.{memory_size}
 use Rattle.word.specs.declared.types.Pointer.{Pointer}
 use Rattle.refusal.proofs.TouchLaws.{channel_leaves-at-end}
@@ -58,47 +61,131 @@ module _ (file : List ℕ) (size : ℕ) (by : AreaPlan) (same : by ≡ area_plan
   pub plan-few-rows : by.height ≤ 1024
   plan-few-rows = rw same (height-le size)
 
+  channel-in-range : (at : Pointer) → at.word < pointer_end → ChannelRange by.width by.height at
+  channel-in-range at small =
+      record {
+        start = small;
+        word = plan-some-words;
+        narrow = plan-few-words;
+        row = plan-some-rows;
+        low = plan-few-rows;
+      }
+
+  pub area-in-range : AreaRange by
+  area-in-range =
+      record {
+        a = channel-in-range by.pointers.a plan-lt-a;
+        b = channel-in-range by.pointers.b plan-lt-b;
+        c = channel-in-range by.pointers.c plan-lt-c;
+        d = channel-in-range by.pointers.d plan-lt-d;
+      }
+
+-- no refusal has the number 0, which is done
+pub refusal-is-some : (why : Refusal) → eqb (refusal_number why) 0 ≡ false
+refusal-is-some MemorySize = refl
+refusal-is-some RegisterFile = refl
+refusal-is-some BothFills = refl
+refusal-is-some FillUpward = refl
+refusal-is-some ALeaves = refl
+refusal-is-some BLeaves = refl
+refusal-is-some CLeaves = refl
+refusal-is-some DLeaves = refl
+refusal-is-some LineForm = refl
+refusal-is-some LineApart = refl
+
+pub refusal_number-positive : (why : Refusal) → refusal_number why ≡ 0 → ⊥
+refusal_number-positive why = eqb-false (refusal_number why) 0 (refusal-is-some why)
+
+-- a refusal that is passed on keeps its number, and hands nothing on
+module _ {Answer : Type 0} (verdict : Result Answer Refusal) (why : Refusal) where
+  pub number-of-residual : IsErrAnd verdict (λ reason. reason ≡ why) → verdict_number verdict ≡ refusal_number why
+  number-of-residual passed = by_kind verdict passed
+    where
+      by_kind : (this : Result Answer Refusal) → IsErrAnd this (λ reason. reason ≡ why) → verdict_number this ≡ refusal_number why
+      by_kind (Ok answer) passed = absurd passed
+      by_kind (Err reason) passed = ap refusal_number passed
+
+pub handed-of-residual : (verdict : Result Plan Refusal) (why : Refusal) (other : Plan) → IsErrAnd verdict (λ reason. reason ≡ why) → handed verdict other ≡ other
+handed-of-residual (Ok by) why other passed = absurd passed
+handed-of-residual (Err reason) why other passed = refl
+
+-- what an answer of a channel's test says of the channel
+module _ (n : ℕ) (by : AreaPlan) (used : Bool) (modulo : ℕ) (pointer : Pointer) (channel : Channel) (reason : Refusal) (verdict : Result ⊤ Refusal)
+    (is : IsChannel by used modulo pointer channel)
+    (tells : verdict ≡ checked (channel_leaves n channel.direction channel.used channel.width channel.modulo channel.rows channel.pointer) reason) where
+  number-of-test : verdict_number verdict ≡ (if goes_out n by used modulo pointer then refusal_number reason else 0)
+  number-of-test = ap (λ (this : Result ⊤ Refusal). verdict_number this) tells ∙ by_test (channel_leaves n channel.direction channel.used channel.width channel.modulo channel.rows channel.pointer) same
+    where
+      same : channel_leaves n channel.direction channel.used channel.width channel.modulo channel.rows channel.pointer ≡ goes_out n by used modulo pointer
+      same = rw (is.0, is.1, is.2, is.3, is.4, is.5)
+
+      by_test : (outside : Bool) → outside ≡ goes_out n by used modulo pointer
+          → verdict_number (checked outside reason) ≡ (if goes_out n by used modulo pointer then refusal_number reason else 0)
+      by_test true out = rw (← out) refl
+      by_test false out = rw (← out) refl
+
+  pub outside-by-test : (why : Refusal) → verdict ≡ Err why → (goes_out n by used modulo pointer ≡ true) × (refusal_number why ≡ refusal_number reason)
+  outside-by-test why refused = by_test (goes_out n by used modulo pointer) (sym (ap (λ (this : Result ⊤ Refusal). verdict_number this) refused) ∙ number-of-test)
+    where
+      by_test : (outside : Bool) → refusal_number why ≡ (if outside then refusal_number reason else 0) → (outside ≡ true) × (refusal_number why ≡ refusal_number reason)
+      by_test true told = (refl, told)
+      by_test false told = absurd (refusal_number-positive why told)
+
+  pub inside-by-test : (done : ⊤) → verdict ≡ Ok done → goes_out n by used modulo pointer ≡ false
+  inside-by-test done taken = by_test (goes_out n by used modulo pointer) (sym (ap (λ (this : Result ⊤ Refusal). verdict_number this) taken) ∙ number-of-test)
+    where
+      by_test : (outside : Bool) → 0 ≡ (if outside then refusal_number reason else 0) → outside ≡ false
+      by_test true told = absurd (refusal_number-positive reason (sym told))
+      by_test false told = refl
+
 -- the channels one after the other: the first that leaves decides
-module _ (n : ℕ) (by : AreaPlan) (a : Bool)
-    (of-a : a ≡ channel_leaves n by.setup.direction by.setup.uses.a by.width by.setup.modulos.a by.height by.pointers.a) where
-  pub leaving-by-a : a ≡ true → 14 ≡ leaving n by
+module _ (n : ℕ) (by : AreaPlan) (one : Channel) (first : Result ⊤ Refusal) (is-a : IsChannel by by.setup.uses.a by.setup.modulos.a by.pointers.a one)
+    (of-a : first ≡ checked (channel_leaves n one.direction one.used one.width one.modulo one.rows one.pointer) ALeaves) where
+  pub leaving-by-a : (why : Refusal) (verdict : Result ⊤ Refusal) → first ≡ Err why → IsErrAnd verdict (λ reason. reason ≡ why)
+      → verdict_number verdict ≡ leaving n by
   unfolding leaving given
-  leaving-by-a outside = rw (← of-a, outside)
+  leaving-by-a why verdict refused passed = let told = outside-by-test n by _ _ _ one ALeaves first is-a of-a why refused in number-of-residual verdict why passed ∙ (told.1 ∙ rw told.0)
 
-  module _ (a-stays : a ≡ false) (b : Bool)
-      (of-b : b ≡ channel_leaves n by.setup.direction by.setup.uses.b by.width by.setup.modulos.b by.height by.pointers.b) where
-    pub leaving-by-b : b ≡ true → 15 ≡ leaving n by
+  module _ (done : ⊤) (stays : first ≡ Ok done) (two : Channel) (second : Result ⊤ Refusal) (is-b : IsChannel by by.setup.uses.b by.setup.modulos.b by.pointers.b two)
+      (of-b : second ≡ checked (channel_leaves n two.direction two.used two.width two.modulo two.rows two.pointer) BLeaves) where
+    no-a : goes_out n by by.setup.uses.a by.setup.modulos.a by.pointers.a ≡ false
+    no-a = inside-by-test n by _ _ _ one ALeaves first is-a of-a done stays
+
+    pub leaving-by-b : (why : Refusal) (verdict : Result ⊤ Refusal) → second ≡ Err why → IsErrAnd verdict (λ reason. reason ≡ why)
+        → verdict_number verdict ≡ leaving n by
     unfolding leaving given
-    leaving-by-b outside = rw (← of-a, ← of-b, a-stays, outside)
+    leaving-by-b why verdict refused passed = let told = outside-by-test n by _ _ _ two BLeaves second is-b of-b why refused in number-of-residual verdict why passed ∙ (told.1 ∙ rw (no-a, told.0))
 
-    module _ (b-stays : b ≡ false) (c : Bool)
-        (of_c : c ≡ channel_leaves n by.setup.direction by.setup.uses.c by.width by.setup.modulos.c by.height by.pointers.c) where
-      pub leaving-by-c : c ≡ true → 16 ≡ leaving n by
+    module _ (done2 : ⊤) (stays2 : second ≡ Ok done2) (three : Channel) (third : Result ⊤ Refusal) (is-c : IsChannel by by.setup.uses.c by.setup.modulos.c by.pointers.c three)
+        (of_c : third ≡ checked (channel_leaves n three.direction three.used three.width three.modulo three.rows three.pointer) CLeaves) where
+      no-b : goes_out n by by.setup.uses.b by.setup.modulos.b by.pointers.b ≡ false
+      no-b = inside-by-test n by _ _ _ two BLeaves second is-b of-b done2 stays2
+
+      pub leaving-by-c : (why : Refusal) (verdict : Result ⊤ Refusal) → third ≡ Err why → IsErrAnd verdict (λ reason. reason ≡ why)
+          → verdict_number verdict ≡ leaving n by
       unfolding leaving given
-      leaving-by-c outside = rw (← of-a, ← of-b, ← of_c, a-stays, b-stays, outside)
+      leaving-by-c why verdict refused passed = let told = outside-by-test n by _ _ _ three CLeaves third is-c of_c why refused in number-of-residual verdict why passed ∙ (told.1 ∙ rw (no-a, no-b, told.0))
 
-      module _ (c-stays : c ≡ false) (d : Bool)
-          (of-d : d ≡ channel_leaves n by.setup.direction by.setup.uses.d by.width by.setup.modulos.d by.height by.pointers.d) where
-        pub leaving-by-d : d ≡ true → 17 ≡ leaving n by
-        unfolding leaving given
-        leaving-by-d outside = rw (← of-a, ← of-b, ← of_c, ← of-d, a-stays, b-stays, c-stays, outside)
-
-        pub leaving-by-none : d ≡ false → 0 ≡ leaving n by
-        unfolding leaving given
-        leaving-by-none stays = rw (← of-a, ← of-b, ← of_c, ← of-d, a-stays, b-stays, c-stays, stays)
+      pub leaving-by-d : (done3 : ⊤) (four : Channel) (fourth : Result ⊤ Refusal) → third ≡ Ok done3 → IsChannel by by.setup.uses.d by.setup.modulos.d by.pointers.d four
+          → fourth ≡ checked (channel_leaves n four.direction four.used four.width four.modulo four.rows four.pointer) DLeaves → verdict_number fourth ≡ leaving n by
+      unfolding leaving given
+      leaving-by-d done3 four fourth stays3 is-d of-d =
+          let no-c = inside-by-test n by _ _ _ three CLeaves third is-c of_c done3 stays3 in
+          number-of-test n by _ _ _ four DLeaves fourth is-d of-d ∙ rw (no-a, no-b, no-c)
 
 -- memory as long as a pointer reaches is left by none
-pub leaving-at-end : (n : ℕ) (by : AreaPlan) → pointer_end ≤ n → by.pointers.a.word < pointer_end → by.pointers.b.word < pointer_end
-    → by.pointers.c.word < pointer_end → by.pointers.d.word < pointer_end → 0 ≡ leaving n by
-leaving-at-end n by long a b c d =
-    leaving-by-none n by false (stays by.setup.uses.a by.setup.modulos.a by.pointers.a a) refl
-    false (stays by.setup.uses.b by.setup.modulos.b by.pointers.b b) refl
-    false (stays by.setup.uses.c by.setup.modulos.c by.pointers.c c) refl
-    false (stays by.setup.uses.d by.setup.modulos.d by.pointers.d d) refl
+pub leaving-at-end : (n : ℕ) (by : AreaPlan) → pointer_end ≤ n → AreaRange by → 0 ≡ leaving n by
+unfolding leaving given
+leaving-at-end n by long range =
+    rw (
+      stays by.setup.uses.a by.setup.modulos.a by.pointers.a range.a.start,
+      stays by.setup.uses.b by.setup.modulos.b by.pointers.b range.b.start,
+      stays by.setup.uses.c by.setup.modulos.c by.pointers.c range.c.start,
+      stays by.setup.uses.d by.setup.modulos.d by.pointers.d range.d.start,
+    )
   where
-    stays : (used : Bool) (modulo : ℕ) (pointer : Pointer) → pointer.word < pointer_end
-        → false ≡ channel_leaves n by.setup.direction used by.width modulo by.height pointer
-    stays used modulo pointer small = channel_leaves-at-end n by.setup.direction used by.width modulo by.height pointer long small
+    stays : (used : Bool) (modulo : ℕ) (pointer : Pointer) → pointer.word < pointer_end → goes_out n by used modulo pointer ≡ false
+    stays used modulo pointer small = sym (channel_leaves-at-end n by.setup.direction used by.width modulo by.height pointer long small)
 
 -- the rules of an area blit, one after the other
 module _ (n size : ℕ) (file : List ℕ) (control : ℕ) (reads : control ≡ con1 file) (both : Bool) (of-both : both ≡ both_fills control) where
@@ -111,11 +198,19 @@ module _ (n size : ℕ) (file : List ℕ) (control : ℕ) (reads : control ≡ c
     unfolding given
     area-by-fill-upward holds = rw (← reads, ← of-both, one, ← of-upward, holds)
 
-    pub area-by-leaving : upward ≡ false → (by : AreaPlan) (number : ℕ)
-        → by ≡ area_plan file size → number ≡ leaving n by → number ≡ given (area_rules n file size)
-    unfolding given leaving
-    area-by-leaving downward by number of-by gives =
-        rw (← reads, ← of-both, one, ← of-upward, downward) (rw of-by at gives)
+    module _ (downward : upward ≡ false) (by : AreaPlan) (of-by : by ≡ area_plan file size) (verdict : Result ⊤ Refusal)
+        (gives : verdict_number verdict ≡ leaving n by) where
+      area-by-leaving : verdict_number verdict ≡ given (area_rules n file size)
+      unfolding given leaving
+      area-by-leaving = rw (← reads, ← of-both, one, ← of-upward, downward) (rw of-by at gives)
+
+      pub area-when-leaving : (why : Refusal) (answer : Result Plan Refusal) → verdict ≡ Err why → IsErrAnd answer (λ reason. reason ≡ why)
+          → verdict_number answer ≡ given (area_rules n file size)
+      area-when-leaving why answer refused passed =
+          number-of-residual answer why passed ∙ sym (ap (λ (this : Result ⊤ Refusal). verdict_number this) refused) ∙ area-by-leaving
+
+      pub area-when-lawful : (done : ⊤) → verdict ≡ Ok done → 0 ≡ given (area_rules n file size)
+      area-when-lawful done taken = sym (ap (λ (this : Result ⊤ Refusal). verdict_number this) taken) ∙ area-by-leaving
 
 -- the rules of a line
 module _ (n size : ℕ) (file : List ℕ) (control : ℕ) (channels : Uses) (across : ℕ) (other : Bool)
@@ -160,11 +255,11 @@ unfolding first_dot
 first-bit-lt file size by same = rw same (omega arith)
 
 pub handed-of-line : (file : List ℕ) (size : ℕ) (by : LinePlan) → by ≡ line_plan file size
-    → handed (verdicts.Lawful (plans.Line by)) (plans.Line (line_plan file size)) ≡ plans.Line (line_plan file size)
+    → handed (Ok (plans.Line by)) (plans.Line (line_plan file size)) ≡ plans.Line (line_plan file size)
 handed-of-line file size by same = rw same
 
 -- a line's rules, or an area blit's, and what either hands on
-module _ (n size : ℕ) (file : List ℕ) (control : ℕ) (lines : Bool) (number : ℕ) (verdict : Verdict)
+module _ (n size : ℕ) (file : List ℕ) (control : ℕ) (lines : Bool) (number : ℕ) (verdict : Result Plan Refusal)
     (reads : control ≡ con1 file) (of-lines : lines ≡ line control) where
   line-bit : (told : Bool) → lines ≡ told → line (con1 file) ≡ told
   line-bit told same = rw (← reads, ← of-lines) same
@@ -186,9 +281,9 @@ module _ (n size : ℕ) (file : List ℕ) (control : ℕ) (lines : Bool) (number
   handed-by-area holds hands = rw (line-bit false holds) hands
 
 -- what is handed on
-pub handed-of-plan : (file : List ℕ) (size : ℕ) (by : AreaPlan) (verdict : Verdict) → by ≡ area_plan file size → handed verdict (plans.Area by) ≡ plans.Area by
-    → handed verdict (plans.Area (area_plan file size)) ≡ plans.Area (area_plan file size)
-handed-of-plan file size by verdict same hands = rw same at hands
+pub handed-of-plan : (file : List ℕ) (size : ℕ) (by : AreaPlan) → by ≡ area_plan file size
+    → handed (Ok (plans.Area by)) (plans.Area (area_plan file size)) ≡ plans.Area (area_plan file size)
+handed-of-plan file size by same = rw same
 
 -- memory and file, then the rules of the blit
 module _ (n size : ℕ) (file : List ℕ) (bad : Bool) (of-bad : bad ≡ memory_size n) where
@@ -204,19 +299,6 @@ module _ (n size : ℕ) (file : List ℕ) (bad : Bool) (of-bad : bad ≡ memory_
     pub refused-by-blit : (number : ℕ) → not fine ≡ false → number ≡ step_refusal n file size → number ≡ refusal n file size
     unfolding refusal step_refusal given
     refused-by-blit number holds rest = rw (← of-bad, taken, ← of-fine, holds) rest
-
--- no refusal has the number 0, which is done
-pub refusal-is-some : (why : Refusal) → eqb (refusal_number why) 0 ≡ false
-refusal-is-some MemorySize = refl
-refusal-is-some RegisterFile = refl
-refusal-is-some BothFills = refl
-refusal-is-some FillUpward = refl
-refusal-is-some ALeaves = refl
-refusal-is-some BLeaves = refl
-refusal-is-some CLeaves = refl
-refusal-is-some DLeaves = refl
-refusal-is-some LineForm = refl
-refusal-is-some LineApart = refl
 
 -- the channels' numbers by their tests alone
 abbrev pub channel_numbered : (a b c d : Bool) → ℕ

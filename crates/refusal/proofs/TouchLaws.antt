@@ -1,6 +1,6 @@
 -- Laws of the words that a channel touches: a row tells for the rest.
 use Rattle.word.proofs.Base.{◌≡◌, refl, sym, ap, subst, ◌∙◌, ℕ, zero, suc, ◌+◌, ◌-◌, ◌<◌, ◌≤◌, sub-one, arith, Bool}
-use Rattle.word.proofs.Base.{true, false, ◌||◌, leb, lt-leb, le-ltb, List, [], ◌∷◌, ◌++◌}
+use Rattle.word.proofs.Base.{true, false, not, not-true, not-false, ◌||◌, leb, lt-leb, le-ltb, List, [], ◌∷◌, ◌++◌}
 use mathlib.Core.Bool.{and-false, or_assoc}
 use Rattle.word.specs.declared.types.Direction.{Direction}
 use Rattle.word.specs.declared.types.Direction.TheVariants.{Ascending, Descending}
@@ -19,37 +19,39 @@ leaves-of-append n (word ∷ first) rest =
     ap (λ (later : Bool). leb n word || later) (leaves-of-append n first rest)
     ∙ sym (or_assoc (leb n word) (leaves n first) (leaves n rest))
 
--- a row that leaves decides
-pub touches-when-row-leaves : (n : ℕ) (direction : Direction) (width modulo remaining : ℕ) (here : Pointer) (outside whole : Bool)
-    → 0 < remaining → outside ≡ leaves n (row_touches direction width here) → outside ≡ true
-    → leaves n (touches direction width modulo remaining here) ≡ whole → true ≡ whole
+-- the rows from one on: it tells, or those after it do
+leaves-of-rows : (n : ℕ) (direction : Direction) (width modulo rows row : ℕ) (here : Pointer) → row < rows
+    → leaves n (touches direction width modulo (rows - row) here)
+    ≡ (leaves n (row_touches direction width here) || leaves n (touches direction width modulo (rows - (row + 1)) (next_row direction width modulo here)))
 unfolding touches
-touches-when-row-leaves n direction width modulo zero here outside whole more row leave same = absurd (omega arith)
-touches-when-row-leaves n direction width modulo (suc remaining) here outside whole more row leave same =
-    let rest = touches direction width modulo remaining (next_row direction width modulo here) in
-    ap (λ (first : Bool). first || leaves n rest) (sym leave ∙ row)
-    ∙ sym (leaves-of-append n (row_touches direction width here) rest)
-    ∙ same
+leaves-of-rows n direction width modulo rows row here more =
+    let left : rows - row ≡ suc (rows - (row + 1)) = omega arith in
+    rw left
+    (leaves-of-append n (row_touches direction width here) (touches direction width modulo (rows - (row + 1)) (next_row direction width modulo here)))
 
--- a row inside is passed
-pub touches-turn : (n : ℕ) (direction : Direction) (width modulo remaining : ℕ) (here next : Pointer) (outside whole : Bool)
-    → 0 < remaining → outside ≡ leaves n (row_touches direction width here) → outside ≡ false → next ≡ next_row direction width modulo here
-    → leaves n (touches direction width modulo remaining here) ≡ whole
-    → leaves n (touches direction width modulo (remaining - 1) next) ≡ whole
-unfolding touches
-touches-turn n direction width modulo zero here next outside whole more row stay turn same = absurd (omega arith)
-touches-turn n direction width modulo (suc remaining) here next outside whole more row stay turn same =
-    let rest = touches direction width modulo remaining (next_row direction width modulo here) in
-    rw (turn, sub-one)
-    (ap (λ (first : Bool). first || leaves n rest) (sym stay ∙ row)
-    ∙ sym (leaves-of-append n (row_touches direction width here) rest)
-    ∙ same)
+-- the rows from one on tell what all tell
+module _ (n : ℕ) (direction : Direction) (width modulo rows row : ℕ) (here : Pointer) (whole : Bool)
+    (same : leaves n (touches direction width modulo (rows - row) here) ≡ whole) where
+  module _ (more : row < rows) (outside : Bool) (of-row : outside ≡ leaves n (row_touches direction width here)) where
+    -- a row that leaves decides
+    pub touches-when-row-leaves : outside ≡ true → true ≡ whole
+    touches-when-row-leaves leave =
+        ap (λ (first : Bool). first || leaves n (touches direction width modulo (rows - (row + 1)) (next_row direction width modulo here))) (sym leave ∙ of-row)
+        ∙ sym (leaves-of-rows n direction width modulo rows row here more)
+        ∙ same
 
-pub touches-done : (n : ℕ) (direction : Direction) (width modulo remaining : ℕ) (here : Pointer) (whole : Bool)
-    → remaining ≤ 0 → leaves n (touches direction width modulo remaining here) ≡ whole → false ≡ whole
-unfolding touches leaves
-touches-done n direction width modulo zero here whole none same = same
-touches-done n direction width modulo (suc remaining) here whole none same = absurd (omega arith)
+    -- a row inside is passed
+    pub touches-turn : (next : Pointer) → outside ≡ false → next ≡ next_row direction width modulo here
+        → leaves n (touches direction width modulo (rows - (row + 1)) next) ≡ whole
+    touches-turn next stay turn =
+        rw turn
+        (ap (λ (first : Bool). first || leaves n (touches direction width modulo (rows - (row + 1)) (next_row direction width modulo here))) (sym stay ∙ of-row)
+        ∙ sym (leaves-of-rows n direction width modulo rows row here more)
+        ∙ same)
+
+  pub touches-done : rows ≤ row → false ≡ whole
+  unfolding touches leaves
+  touches-done end = let none : rows - row ≡ 0 = omega arith in rw none at same
 
 -- no pointer leaves memory of 262,144 words or more
 row_stays : (n : ℕ) (direction : Direction) (width : ℕ) (pointer : Pointer) → pointer_end ≤ n → pointer.word < pointer_end
@@ -91,10 +93,10 @@ touches-inside n direction width modulo (suc remaining) pointer short small some
     (RowsInside-turn n direction width modulo (suc remaining) pointer (next_row direction width modulo pointer) (omega arith) refl inside)))
 
 module _ (n : ℕ) (direction : Direction) (used : Bool) (width modulo rows : ℕ) (pointer : Pointer) where
-  pub channel_leaves-when-used : (outside : Bool) → used ≡ true → outside ≡ leaves n (touches direction width modulo rows pointer)
+  pub channel_leaves-when-used : (outside : Bool) → not used ≡ false → outside ≡ leaves n (touches direction width modulo rows pointer)
       → outside ≡ channel_leaves n direction used width modulo rows pointer
   unfolding channel_leaves
-  channel_leaves-when-used outside uses same = rw uses same
+  channel_leaves-when-used outside uses same = rw (not-false used uses) same
 
   pub channel_leaves-at-end : pointer_end ≤ n → pointer.word < pointer_end
       → false ≡ channel_leaves n direction used width modulo rows pointer
@@ -108,6 +110,6 @@ module _ (n : ℕ) (direction : Direction) (used : Bool) (width modulo rows : �
   channel_leaves-when-inside inside short small some promised holds =
       rw (touches-inside n direction width modulo rows pointer short small some (promised holds)) (sym (and-false used))
 
-  pub channel_leaves-when-unused : used ≡ false → false ≡ channel_leaves n direction used width modulo rows pointer
+  pub channel_leaves-when-unused : not used ≡ true → false ≡ channel_leaves n direction used width modulo rows pointer
   unfolding channel_leaves
-  channel_leaves-when-unused idle = rw idle
+  channel_leaves-when-unused idle = rw (not-true used idle)

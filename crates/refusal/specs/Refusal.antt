@@ -1,7 +1,7 @@
 -- Paper 01, "Numbers given back", as paper 02 leaves it: the rows of a blit, given in the order 1, 2, then of an area blit
 -- 8, 9, 14, 15, 16, 17, of a line 18, 19, 16.
 -- Blit, runner and folder go by this one definition, a function of N, file and size.
-use Rattle.std.specs.Prelude.{ℕ, Bool, not, ◌&&◌, ◌||◌, List, [], ◌∷◌, eqb}
+use Rattle.std.specs.Prelude.{ℕ, Bool, not, ◌&&◌, ◌||◌, List, [], ◌∷◌, eqb, Result, Ok, Err}
 use Rattle.word.specs.Choice.{Rule, ◌when◌, given}
 use Rattle.word.specs.declared.types.Pointer.{Pointer}
 use Rattle.word.specs.Memory.{memory_size}
@@ -14,13 +14,11 @@ use Rattle.file.specs.Pointers.{pointer_at}
 use Rattle.line.specs.Setup.{line_setup}
 use Rattle.line.specs.Dot.{first_dot}
 use Rattle.refusal.specs.declared.types.Refusal.{Refusal}
-use Rattle.refusal.specs.declared.types.Refusal.TheVariants.{MemorySize, RegisterFile, BothFills, FillUpward, ALeaves, BLeaves, CLeaves, DLeaves, LineForm, LineApart}
 use Rattle.refusal.specs.declared.types.AreaPlan.{AreaPlan}
 use Rattle.refusal.specs.declared.types.Plan.{Plan}
-use Rattle.refusal.specs.declared.types.Verdict.{Verdict}
-use Rattle.refusal.specs.declared.types.Verdict.TheVariants.{Lawful, Refused}
 use Rattle.refusal.specs.Touch.{line_touches, leaves, channel_leaves}
 use Rattle.refusal.specs.Plan.{line_or_area, area_plan}
+pub use Rattle.refusal.specs.Number.{refusal_number}
 
 -- "both fill bits set"
 unfoldable pub both_fills : (con1 : ℕ) → Bool
@@ -87,24 +85,12 @@ step_refusal n file size = given (blit_rules n file size)
 unfoldable pub refusal : (n : ℕ) → (file : List ℕ) → (size : ℕ) → ℕ
 refusal n file size = given (refusals n file size)
 
--- the papers' number for each case
-abbrev pub refusal_number : Refusal → ℕ
-refusal_number MemorySize = 1
-refusal_number RegisterFile = 2
-refusal_number BothFills = 8
-refusal_number FillUpward = 9
-refusal_number ALeaves = 14
-refusal_number BLeaves = 15
-refusal_number CLeaves = 16
-refusal_number DLeaves = 17
-refusal_number LineForm = 18
-refusal_number LineApart = 19
-
-abbrev pub verdict_number : Verdict → ℕ
-verdict_number (Lawful by) = 0
-verdict_number (Refused why) = refusal_number why
+-- the number of the refusal that an answer gives, 0 where it gives none
+abbrev pub verdict_number : {Answer : Type 0} → Result Answer Refusal → ℕ
+verdict_number (Ok answer) = 0
+verdict_number (Err why) = refusal_number why
 
 -- what a verdict hands on: a lawful one what it carries, a refused one nothing, so that the other stands
-abbrev pub handed : Verdict → (other : Plan) → Plan
-handed (Lawful by) other = by
-handed (Refused why) other = other
+abbrev pub handed : Result Plan Refusal → (other : Plan) → Plan
+handed (Ok by) other = by
+handed (Err why) other = other

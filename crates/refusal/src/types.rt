@@ -1,21 +1,48 @@
 // The types that the refusal of a blit speaks of.
+ghost use Rattle.std.specs.Prelude.{◌≡◌};
+ghost use Rattle.refusal.specs.Inner.Ranges.{ChannelRange};
+ghost use Rattle.refusal.specs.Number.{refusal_number};
+
 use area::types::{Pointers, Setup};
 use line::types::{Dot, Line};
+use word::types::{Direction, Pointer};
 
-// Why a blit is refused. An area blit that leaves memory is refused by the first channel that does, in the order A, B, C,
-// D; a line by C, which D follows. LineForm is a line's width or use bits, LineApart its C and D pointers.
-#[derive(Clone, Copy)]
+// Why a blit is refused, with the papers' number. An area blit that leaves memory is refused by the first channel that
+// does, in the order A, B, C, D; a line by C, which D follows. LineForm is a line's width or use bits, LineApart its C and
+// D pointers.
+#[derive(Clone, Copy, Debug, PartialEq, Eq)]
 pub enum Refusal {
-    MemorySize,
-    RegisterFile,
-    BothFills,
-    FillUpward,
-    ALeaves,
-    BLeaves,
-    CLeaves,
-    DLeaves,
-    LineForm,
-    LineApart,
+    MemorySize = 1,
+    RegisterFile = 2,
+    BothFills = 8,
+    FillUpward = 9,
+    ALeaves = 14,
+    BLeaves = 15,
+    CLeaves = 16,
+    DLeaves = 17,
+    LineForm = 18,
+    LineApart = 19,
+}
+
+impl Refusal {
+    // The papers' number of it.
+    pub fn number(self) -> u32
+        ensures { result ≡ refusal_number self }
+    {
+        self as u32
+    }
+}
+
+// A channel of an area blit, over all its rows.
+#[derive(Clone, Copy)]
+pub struct Channel {
+    pub used: bool,
+    pub direction: Direction,
+    pub width: u32,
+    pub modulo: u32,
+    pub rows: u32,
+    pub pointer: Pointer,
+    pub ghost in_range: { ChannelRange width rows pointer },
 }
 
 // What an area blit goes by, decoded once from register file and size. Types as narrow as width and height are tell the
@@ -41,11 +68,4 @@ pub struct LinePlan {
 pub enum Plan {
     Area(AreaPlan),
     Line(LinePlan),
-}
-
-// Whether a blit would be done; a lawful one hands on what it goes by.
-#[derive(Clone, Copy)]
-pub enum Verdict {
-    Lawful(Plan),
-    Refused(Refusal),
 }

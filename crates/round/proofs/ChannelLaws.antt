@@ -1,5 +1,5 @@
 -- Laws of a channel's moves: a row tells, or the rest does.
-use Rattle.word.proofs.Base.{◌≡◌, refl, sym, ap, ap₂, ◌∙◌, ℕ, zero, suc, ◌-◌, ◌<◌, ◌≤◌, sub-one, arith, Bool, true, false, ◌||◌, not}
+use Rattle.word.proofs.Base.{◌≡◌, refl, sym, ap, ap₂, ◌∙◌, ℕ, zero, suc, ◌+◌, ◌-◌, ◌<◌, ◌≤◌, sub-one, arith, Bool, true, false, ◌||◌, not}
 use Rattle.word.proofs.Base.{List, ◌++◌, not-true, not-false}
 use mathlib.Core.List.{append-nil}
 use Rattle.word.specs.declared.types.Direction.{Direction}
@@ -55,21 +55,18 @@ module _ (direction : Direction) (width modulo : ℕ) (some : 1 ≤ width) (narr
       by_width zero none few = absurd (omega arith)
       by_width (suc more) one few = any_round-of-row direction modulo more pointer small (omega arith)
 
-  -- a turn of the loop over the rows: a row's end tells, or the rest does
-  module _ (remaining : ℕ) (here : Pointer) (small : here.word < pointer_end) (more : 1 < remaining) (row gap : Move) (whole : Bool)
+  -- a turn of the loop over the rows, counted from 1: a row's end tells, or the rest does
+  module _ (rows index : ℕ) (here : Pointer) (small : here.word < pointer_end) (more : index < rows) (row gap : Move) (whole : Bool)
       (steps : row ≡ modulo_move direction width here) (passes : gap ≡ modulo_move direction modulo row.to)
-      (same : went_round (channel_moves direction width modulo remaining here) ≡ whole) where
-    rest-follows : (end_round here || went_round (channel_moves direction width modulo (remaining - 1) (next_row direction width modulo here))) ≡ whole
-    rest-follows = by_count remaining more same
-      where
-        by_count : (many : ℕ) → 1 < many → went_round (channel_moves direction width modulo many here) ≡ whole
-            → (end_round here || went_round (channel_moves direction width modulo (many - 1) (next_row direction width modulo here))) ≡ whole
-        by_count zero few same = absurd (omega arith)
-        by_count (suc zero) few same = absurd (omega arith)
-        by_count (suc (suc many)) few same = rw (sub-one (suc (suc many))) (sym (went_round-of-rows many here small) ∙ same)
+      (same : went_round (channel_moves direction width modulo (rows + 1 - index) here) ≡ whole) where
+    rest-follows : (end_round here || went_round (channel_moves direction width modulo (rows + 1 - (index + 1)) (next_row direction width modulo here))) ≡ whole
+    rest-follows =
+        let this : rows + 1 - index ≡ suc (suc (rows - (index + 1))) = omega arith in
+        let next : rows + 1 - (index + 1) ≡ suc (rows - (index + 1)) = omega arith in
+        rw next (sym (went_round-of-rows (rows - (index + 1)) here small) ∙ (rw this at same))
 
     abbrev later : Bool
-    later = went_round (channel_moves direction width modulo (remaining - 1) (next_row direction width modulo here))
+    later = went_round (channel_moves direction width modulo (rows + 1 - (index + 1)) (next_row direction width modulo here))
 
     ends : (row.round || gap.round) ≡ end_round here
     unfolding end_round
@@ -91,16 +88,16 @@ module _ (direction : Direction) (width modulo : ℕ) (some : 1 ≤ width) (narr
         (ap (λ (move : Move). move.to) passes)
 
     pub rows-turn : row.round ≡ false → gap.round ≡ false
-        → went_round (channel_moves direction width modulo (remaining - 1) gap.to) ≡ whole
+        → went_round (channel_moves direction width modulo (rows + 1 - (index + 1)) gap.to) ≡ whole
     rows-turn of_row of-gap = rw leads.0 (by_tests false false of_row of-gap)
 
   pub gap-lt : (from : Pointer) (gap : Move) → gap ≡ modulo_move direction modulo from → gap.to.word < pointer_end
   gap-lt from gap passes = rw passes (passed-lt direction modulo from)
 
-  pub rows-done : (remaining : ℕ) (here : Pointer) (last : Move) (whole : Bool) → here.word < pointer_end → 1 ≤ remaining → remaining ≤ 1
-      → last ≡ modulo_move direction (width - 1) here → went_round (channel_moves direction width modulo remaining here) ≡ whole → last.round ≡ whole
-  rows-done remaining here last whole small one end steps same =
-      let only : remaining ≡ 1 = omega arith in
+  pub rows-done : (rows index : ℕ) (here : Pointer) (last : Move) (whole : Bool) → here.word < pointer_end → index ≤ rows → rows ≤ index
+      → last ≡ modulo_move direction (width - 1) here → went_round (channel_moves direction width modulo (rows + 1 - index) here) ≡ whole → last.round ≡ whole
+  rows-done rows index here last whole small few end steps same =
+      let only : rows + 1 - index ≡ 1 = omega arith in
       rw steps (sym (went_round-of-last here small) ∙ (rw only at same))
 
 module _ (direction : Direction) (used : Bool) (width modulo rows : ℕ) (pointer : Pointer) where

@@ -27,34 +27,30 @@ pub went_round-of-dot : (line : Line) (mark : Mark) → went_round (line_moves l
 unfolding line_moves between any_round
 went_round-of-dot line mark = refl
 
--- a turn of the loop over the dots, and its end
-module _ (line : Line) (remaining : ℕ) (here : Mark) (whole : Bool) (same : went_round (line_moves line remaining (dot_of here)) ≡ whole) where
-  dots-follow : 1 < remaining
-      → (any_round (dot_moves line here.sign (spot_of here.pixel)) || went_round (line_moves line (remaining - 1) (dot_of (walked (step_by (steps line) here.sign) here)))) ≡ whole
-  dots-follow more = by_count remaining more same
-    where
-      by_count : (many : ℕ) → 1 < many → went_round (line_moves line many (dot_of here)) ≡ whole
-          → (any_round (dot_moves line here.sign (spot_of here.pixel)) || went_round (line_moves line (many - 1) (dot_of (walked (step_by (steps line) here.sign) here)))) ≡ whole
-      by_count zero few same = absurd (omega arith)
-      by_count (suc zero) few same = absurd (omega arith)
-      by_count (suc (suc many)) few same = rw (sub-one (suc (suc many))) (sym (went_round-of-dots line many here) ∙ same)
+-- a turn of the loop over the dots, counted from 1, and its end
+module _ (line : Line) (dots index : ℕ) (here : Mark) (whole : Bool) (same : went_round (line_moves line (dots + 1 - index) (dot_of here)) ≡ whole) where
+  abbrev later : Bool
+  later = went_round (line_moves line (dots + 1 - (index + 1)) (dot_of (walked (step_by (steps line) here.sign) here)))
 
-  module _ (more : 1 < remaining) (told : Bool) (of-dot : told ≡ any_round (dot_moves line here.sign (spot_of here.pixel))) where
-    pub dots-when-round : told ≡ true → true ≡ whole
-    dots-when-round goes =
-        ap (λ (first : Bool). first || went_round (line_moves line (remaining - 1) (dot_of (walked (step_by (steps line) here.sign) here)))) (sym goes ∙ of-dot)
-        ∙ dots-follow more
+  module _ (more : index < dots) where
+    dots-follow : (any_round (dot_moves line here.sign (spot_of here.pixel)) || later) ≡ whole
+    dots-follow =
+        let this : dots + 1 - index ≡ suc (suc (dots - (index + 1))) = omega arith in
+        let next : dots + 1 - (index + 1) ≡ suc (dots - (index + 1)) = omega arith in
+        rw next (sym (went_round-of-dots line (dots - (index + 1)) here) ∙ (rw this at same))
 
-    pub dots-turn : (by : Steps) (after : Mark) → told ≡ false → by ≡ steps line → after ≡ walked (step_by by here.sign) here
-        → went_round (line_moves line (remaining - 1) (dot_of after)) ≡ whole
-    dots-turn by after stays paces turn =
-        rw (turn, paces)
-        (ap (λ (first : Bool). first || went_round (line_moves line (remaining - 1) (dot_of (walked (step_by (steps line) here.sign) here)))) (sym stays ∙ of-dot)
-        ∙ dots-follow more)
+    module _ (told : Bool) (of-dot : told ≡ any_round (dot_moves line here.sign (spot_of here.pixel))) where
+      pub dots-when-round : told ≡ true → true ≡ whole
+      dots-when-round goes = ap (λ (first : Bool). first || later) (sym goes ∙ of-dot) ∙ dots-follow
 
-  pub dots-done : 1 ≤ remaining → remaining ≤ 1 → false ≡ whole
-  dots-done one end =
-      let only : remaining ≡ 1 = omega arith in
+      pub dots-turn : (by : Steps) (after : Mark) → told ≡ false → by ≡ steps line → after ≡ walked (step_by by here.sign) here
+          → went_round (line_moves line (dots + 1 - (index + 1)) (dot_of after)) ≡ whole
+      dots-turn by after stays paces turn =
+          rw (turn, paces) (ap (λ (first : Bool). first || later) (sym stays ∙ of-dot) ∙ dots-follow)
+
+  pub dots-done : index ≤ dots → dots ≤ index → false ≡ whole
+  dots-done few end =
+      let only : dots + 1 - index ≡ 1 = omega arith in
       sym (went_round-of-dot line here) ∙ (rw only at same)
 
 pub walked-lt : (by : Steps) (here after : Mark) → after ≡ walked (step_by by here.sign) here → after.pixel < pixel_end

@@ -19,13 +19,16 @@ use Rattle.round.specs.Between.{went_round}
 use Rattle.round.specs.Channel.{channel_moves, channel_round, area_round}
 use Rattle.round.specs.Line.{line_moves, line_round}
 use Rattle.round.specs.Round.{goes_round}
-use Rattle.round.specs.Inner.Ranges.{ChannelRange, AreaRange, LineRange}
+use Rattle.refusal.specs.Inner.Ranges.{ChannelRange}
+use Rattle.refusal.specs.Inner.AreaRange.{AreaRange}
+use Rattle.round.specs.Inner.Ranges.{LineRange}
 use Rattle.round.specs.Inner.Reach.{rise, reach}
 use Rattle.round.specs.Plain.{words_on, words_back, Lies, LiesWithNext, Follows, PlainRows, PlainArea, farthest_dot}
 use Rattle.round.proofs.ChannelLaws.{end_round, went_round-of-last, went_round-of-rows}
 use Rattle.round.proofs.AreaLaws.{area_round-of-none}
 use Rattle.round.proofs.FewLaws.{passed_round-is-far}
-use Rattle.round.proofs.RangeLaws.{area-in-range, line-in-range}
+use Rattle.refusal.proofs.RefusalLaws.{area-in-range}
+use Rattle.round.proofs.RangeLaws.{line-in-range}
 use Rattle.round.proofs.LineLaws.{line_moves-of-mark}
 use Rattle.round.proofs.ReachLaws.{line_stays}
 

@@ -6,11 +6,13 @@ use Rattle.refusal.specs.declared.types.Plan.{Plan}
 use Rattle.refusal.specs.declared.types.Plan.TheVariants as plans
 use Rattle.refusal.specs.Plan.{plan}
 use Rattle.refusal.proofs.PlanLaws.{area-bit, area-of-plan, line-bit, line-of-plan}
-use Rattle.round.specs.Inner.Ranges.{AreaRange, LineRange}
+use Rattle.refusal.specs.Inner.AreaRange.{AreaRange}
+use Rattle.round.specs.Inner.Ranges.{LineRange}
 use Rattle.round.specs.Channel.{area_round}
 use Rattle.round.specs.Line.{line_round}
 use Rattle.round.specs.Round.{goes_round}
-use Rattle.round.proofs.RangeLaws.{area-in-range, line-in-range}
+use Rattle.refusal.proofs.RefusalLaws.{area-in-range}
+use Rattle.round.proofs.RangeLaws.{line-in-range}
 
 module _ (file : List ℕ) (size : ℕ) (by : Plan) (same : by ≡ plan file size) where
   module _ (area : AreaPlan) (is : by ≡ plans.Area area) where

@@ -3,34 +3,31 @@ ghost use Rattle.std.specs.Prelude.{◌≡◌, true, false, ◌<◌};
 ghost use Rattle.word.specs.Pointer.{pointer_end};
 ghost use Rattle.round.specs.Between.{went_round};
 ghost use Rattle.round.specs.Channel.{channel_moves, channel_round};
-ghost use Rattle.round.specs.Inner.Ranges.{ChannelRange};
 ghost use Rattle.round.specs.Inner.Onward.{onward};
 
+use refusal::types::Channel;
 use word::pointer::{DOWNWARD, POINTER_END};
 use word::types::{Direction, Pointer};
 
 // A row's steps are one move of so many words: that goes round where one of them does. Behind the last row's last word no
 // move counts.
-fn rows_round(direction: Direction, width: u32, modulo: u32, rows: u32, pointer: Pointer) -> bool
-    requires { ChannelRange width rows pointer }
-    ensures { result ≡ went_round (channel_moves direction width modulo rows pointer) }
+fn rows_round(channel: Channel) -> bool
+    ensures { result
+        ≡ went_round (channel_moves channel.direction channel.width channel.modulo channel.rows channel.pointer) }
 {
-    let mut here = pointer;
-    let mut remaining = rows;
-    while 1 < remaining {
-        let row = here.passed(direction, width);
-        let end = row.to;
-        let gap = end.passed(direction, modulo);
-        if row.round {
+    let mut here = channel.pointer;
+    for row in 1..channel.rows {
+        let steps = here.passed(channel.direction, channel.width);
+        let gap = steps.to.passed(channel.direction, channel.modulo);
+        if steps.round {
             return true;
         }
         if gap.round {
             return true;
         }
         here = gap.to;
-        remaining = remaining - 1;
     }
-    let last = here.passed(direction, width - 1);
+    let last = here.passed(channel.direction, channel.width - 1);
     last.round
 }
 
@@ -47,56 +44,43 @@ fn onward(direction: Direction, pointer: Pointer) -> u32
 
 // The first and the last row lie inside, with a word behind all but the last: no move between goes round. Each row starts a
 // width and a gap after the one before; a gap below 0 may lead back.
-fn clear(direction: Direction, width: u32, modulo: u32, rows: u32, pointer: Pointer) -> bool
-    requires { ChannelRange width rows pointer }
-    ensures { result ≡ true → went_round (channel_moves direction width modulo rows pointer) ≡ false }
+fn clear(channel: Channel) -> bool
+    ensures { result ≡ true
+        → went_round (channel_moves channel.direction channel.width channel.modulo channel.rows channel.pointer) ≡ false }
 {
-    let from = onward(direction, pointer);
-    let gap = modulo % POINTER_END;
+    let width = channel.width;
+    let from = onward(channel.direction, channel.pointer);
+    let gap = channel.modulo % POINTER_END;
     if gap < DOWNWARD {
-        let far = word::even::distance(rows, width + gap);
+        let far = word::even::distance(channel.rows, width + gap);
         return from + far + width <= POINTER_END;
     }
     let back = POINTER_END - gap;
     if back < width {
-        let far = word::even::distance(rows, width - back);
+        let far = word::even::distance(channel.rows, width - back);
         return from + far + width <= POINTER_END;
     }
-    let far = word::even::distance(rows, back - width);
+    let far = word::even::distance(channel.rows, back - width);
     (far <= from) & (from + width < POINTER_END)
 }
 
 // What a quick look at a channel tells: an unused one doesn't count.
-pub fn channel_clear(
-    direction: Direction,
-    used: bool,
-    width: u32,
-    modulo: u32,
-    rows: u32,
-    pointer: Pointer,
-) -> bool
-    requires { ChannelRange width rows pointer }
-    ensures { result ≡ true → channel_round direction used width modulo rows pointer ≡ false }
+pub fn channel_clear(channel: Channel) -> bool
+    ensures { result ≡ true
+        → channel_round channel.direction channel.used channel.width channel.modulo channel.rows channel.pointer ≡ false }
 {
-    if !used {
+    if !channel.used {
         return true;
     }
-    clear(direction, width, modulo, rows, pointer)
+    clear(channel)
 }
 
-pub fn channel_round(
-    direction: Direction,
-    used: bool,
-    width: u32,
-    modulo: u32,
-    rows: u32,
-    pointer: Pointer,
-) -> bool
-    requires { ChannelRange width rows pointer }
-    ensures { result ≡ channel_round direction used width modulo rows pointer }
+pub fn channel_round(channel: Channel) -> bool
+    ensures { result
+        ≡ channel_round channel.direction channel.used channel.width channel.modulo channel.rows channel.pointer }
 {
-    if !used {
+    if !channel.used {
         return false;
     }
-    rows_round(direction, width, modulo, rows, pointer)
+    rows_round(channel)
 }

@@ -82,13 +82,11 @@ fn dots_round(line: Line, dots: u32, first: Mark) -> bool
 {
     let by = line::walk::steps(line);
     let mut mark = first;
-    let mut remaining = dots;
-    while 1 < remaining {
+    for dot in 1..dots {
         if dot_round(line, mark.sign, mark.pixel) {
             return true;
         }
         mark = line::walk::walked(by, mark);
-        remaining = remaining - 1;
     }
     false
 }
@@ -112,7 +110,7 @@ fn farthest(row: u32, dots: u32) -> u32
     dots * reach(row)
 }
 
-pub fn by_dots(line: Line, dots: u32, first: Dot) -> bool
+fn by_dots(line: Line, dots: u32, first: Dot) -> bool
     requires { LineRange dots first }
     ensures { result ≡ went_round (line_moves line dots first) }
 {

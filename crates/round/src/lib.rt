@@ -7,8 +7,10 @@ mod course;
 ghost use Rattle.std.specs.Prelude.{◌≡◌, true, false};
 ghost use Rattle.round.specs.Channel.{area_round};
 ghost use Rattle.round.specs.Line.{line_round};
-ghost use Rattle.round.specs.Inner.Ranges.{AreaRange, LineRange};
+ghost use Rattle.refusal.specs.Inner.AreaRange.{AreaRange};
+ghost use Rattle.round.specs.Inner.Ranges.{LineRange};
 
+use crate::channel::{channel_clear, channel_round};
 use refusal::types::{AreaPlan, LinePlan};
 
 // A quick look at every channel.
@@ -16,24 +18,16 @@ fn all_clear(by: AreaPlan) -> bool
     requires { AreaRange by }
     ensures { result ≡ true → area_round by ≡ false }
 {
-    let setup = by.setup;
-    let way = setup.direction;
-    let width = by.width as u32;
-    let rows = by.height as u32;
-    let a = by.pointers.a;
-    if !crate::channel::channel_clear(way, setup.uses.a, width, setup.modulos.a, rows, a) {
+    if !channel_clear(by.a()) {
         return false;
     }
-    let b = by.pointers.b;
-    if !crate::channel::channel_clear(way, setup.uses.b, width, setup.modulos.b, rows, b) {
+    if !channel_clear(by.b()) {
         return false;
     }
-    let c = by.pointers.c;
-    if !crate::channel::channel_clear(way, setup.uses.c, width, setup.modulos.c, rows, c) {
+    if !channel_clear(by.c()) {
         return false;
     }
-    let d = by.pointers.d;
-    crate::channel::channel_clear(way, setup.uses.d, width, setup.modulos.d, rows, d)
+    channel_clear(by.d())
 }
 
 // Every channel row by row, A to D; for a blit of a few words that is quick enough.
@@ -41,24 +35,16 @@ pub fn area_by_rows(by: AreaPlan) -> bool
     requires { AreaRange by }
     ensures { result ≡ area_round by }
 {
-    let setup = by.setup;
-    let way = setup.direction;
-    let width = by.width as u32;
-    let rows = by.height as u32;
-    let a = by.pointers.a;
-    if crate::channel::channel_round(way, setup.uses.a, width, setup.modulos.a, rows, a) {
+    if channel_round(by.a()) {
         return true;
     }
-    let b = by.pointers.b;
-    if crate::channel::channel_round(way, setup.uses.b, width, setup.modulos.b, rows, b) {
+    if channel_round(by.b()) {
         return true;
     }
-    let c = by.pointers.c;
-    if crate::channel::channel_round(way, setup.uses.c, width, setup.modulos.c, rows, c) {
+    if channel_round(by.c()) {
         return true;
     }
-    let d = by.pointers.d;
-    crate::channel::channel_round(way, setup.uses.d, width, setup.modulos.d, rows, d)
+    channel_round(by.d())
 }
 
 // The channels of an area blit: nearly always the quick look tells. One place calls it, so that it is put there whole.
@@ -72,22 +58,10 @@ pub fn area_round(by: AreaPlan) -> bool
     area_by_rows(by)
 }
 
-// A line's C, dot by dot.
-pub fn line_by_dots(by: LinePlan) -> bool
-    requires { LineRange by.dots by.first }
-    ensures { result ≡ line_round by }
-{
-    let line = by.line;
-    let first = by.first;
-    crate::course::by_dots(line, by.dots as u32, first)
-}
-
-// The same, at once where its dots can't come near an end.
+// A line's C, dot by dot; at once where its dots can't come near an end.
 pub fn line_round(by: LinePlan) -> bool
     requires { LineRange by.dots by.first }
     ensures { result ≡ line_round by }
 {
-    let line = by.line;
-    let first = by.first;
-    crate::course::course_round(line, by.dots as u32, first)
+    crate::course::course_round(by.line, by.dots as u32, by.first)
 }

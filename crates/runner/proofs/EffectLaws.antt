@@ -1,5 +1,5 @@
 -- Laws of a step: what each kind of step leaves, how many words a step stores at most, and that a refused one changes nothing.
-use Rattle.std.specs.Prelude.{if◌then◌else◌, Ok, Err}
+use Rattle.std.specs.Prelude.{if◌then◌else◌, Result, Ok, Err}
 use Rattle.word.proofs.Base.{◌≡◌, refl, ℕ, ◌<◌, ◌≤◌, arith, Bool, true, false, eqb, eqb-false, le-leb, lt-leb, List, length, set}
 use Rattle.word.specs.Choice.{given}
 use Rattle.word.proofs.ChoiceLaws.{if-either}
@@ -9,7 +9,7 @@ use Rattle.refusal.specs.declared.types.Refusal.{Refusal}
 use Rattle.refusal.specs.Refusal.{step_refusal}
 use Rattle.blit.specs.Blit.{Outcome, refused, blit_step}
 use Rattle.blit.specs.Blit as blit
-use Rattle.blit.specs.declared.types.Answer.{Answer}
+use Rattle.blit.specs.declared.types.Done.{Done}
 use Rattle.blit.proofs.BlitLaws.{done-number, blit_step-counts}
 use Rattle.job.specs.declared.types.Step.{Step}
 use Rattle.runner.specs.declared.types.Refusal as reasons
@@ -42,13 +42,13 @@ unfolding step_effect answered taken store_outside own_rules given blit_step bli
 step_effect-of-blit size memory file = refl
 
 -- a blit's answer, as a step's
-pub blit_step-when-done : (size stored : ℕ) (round : Bool) (answer : Answer) (memory file next end : List ℕ)
-    → blit.left answer next end ≡ blit_step memory file size → answer ≡ Answer.Done stored round
-    → left_by_step (Ok (record { stored = stored; round = round })) next end ≡ blit_step memory file size
-blit_step-when-done size stored round answer memory file next end blits same = rw same at blits
+pub blit_step-when-done : (size : ℕ) (done : Done) (answer : Result Done Refusal) (memory file next end : List ℕ)
+    → blit.left answer next end ≡ blit_step memory file size → answer ≡ Ok done
+    → left_by_step (Ok done) next end ≡ blit_step memory file size
+blit_step-when-done size done answer memory file next end blits same = rw same at blits
 
-pub blit_step-when-refused : (size : ℕ) (why : Refusal) (answer : Answer) (memory file next end : List ℕ)
-    → blit.left answer next end ≡ blit_step memory file size → answer ≡ Answer.Refused why
+pub blit_step-when-refused : (size : ℕ) (why : Refusal) (answer : Result Done Refusal) (memory file next end : List ℕ)
+    → blit.left answer next end ≡ blit_step memory file size → answer ≡ Err why
     → left_by_step (Err (reasons.Refusal.Blit why)) next end ≡ blit_step memory file size
 blit_step-when-refused size why answer memory file next end gives same = rw same at gives
 

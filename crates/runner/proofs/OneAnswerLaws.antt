@@ -4,7 +4,7 @@ use Rattle.word.proofs.Base.{◌≡◌, refl, sym, ap, ◌∙◌, ℕ, eqb, List
 use Rattle.refusal.proofs.OneAnswerLaws.{refusal_of, refusal_number-tells, is_own, refusal_number-is-own}
 use Rattle.job.specs.declared.types.Refusal as jobs
 use Rattle.runner.specs.declared.types.Refusal.{Refusal}
-use Rattle.runner.specs.declared.types.Done.{Done}
+use Rattle.blit.specs.declared.types.Done.{Done}
 use Rattle.runner.specs.Types.{Answer}
 use Rattle.runner.specs.Run.{End}
 use Rattle.runner.specs.Answer.{refusal_number, left}

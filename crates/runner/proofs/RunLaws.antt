@@ -9,7 +9,7 @@ use Rattle.file.specs.File.{accepted}
 use Rattle.word.specs.Memory.{memory_size}
 use Rattle.blit.specs.Blit.{Outcome, refused}
 use Rattle.refusal.specs.declared.types.Refusal.TheVariants.{MemorySize, RegisterFile}
-use Rattle.refusal.proofs.OneAnswerLaws as blits
+use Rattle.refusal.proofs.RefusalLaws as blits
 use Rattle.job.specs.declared.types.Refusal as jobs
 use Rattle.job.specs.declared.types.Step.{Step}
 use Rattle.job.specs.Types.{Read}
@@ -19,7 +19,7 @@ use Rattle.job.specs.Steps.{Placed, placed, steps_from}
 use Rattle.job.proofs.StepLaws.{read-step, read-end, read-moves, read-inside}
 use Rattle.job.proofs.StepsLaws.{steps-of-step, steps-of-refused, steps-of-end, read_number-of-refused}
 use Rattle.runner.specs.declared.types.Refusal.{Refusal}
-use Rattle.runner.specs.declared.types.Done.{Done}
+use Rattle.blit.specs.declared.types.Done.{Done}
 use Rattle.runner.specs.Types.{Taken, Answer}
 use Rattle.runner.specs.Effect.{step_effect, effect}
 use Rattle.runner.specs.Run.{Machine, machine, effect_on, after, End, ended, run_steps, run_from, start_refusal, run}

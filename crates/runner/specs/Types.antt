@@ -1,7 +1,7 @@
 -- The types of the answers of a step and of a run.
 use Rattle.std.specs.Prelude.{Result}
 use Rattle.runner.specs.declared.types.Refusal.{Refusal}
-use Rattle.runner.specs.declared.types.Done.{Done}
+use Rattle.blit.specs.declared.types.Done.{Done}
 use Rattle.runner.specs.declared.types.Stopped.{Stopped}
 
 -- what one step answers

@@ -9,7 +9,7 @@ impl Refusal {
         ensures { result ≡ refusal_number self }
     {
         match self {
-            Refusal::Blit(why) => refusal::refusal_number(why),
+            Refusal::Blit(why) => why.number(),
             Refusal::JobLength => 3,
             Refusal::Step(why) => why.number(),
             Refusal::StoreOutside => 10,

@@ -5,7 +5,8 @@ ghost use Rattle.job.specs.declared.types.Step as steps;
 ghost use Rattle.runner.specs.Effect.{step_effect};
 ghost use Rattle.runner.specs.Answer.{left_by_step};
 
-use crate::types::{Done, NONE_DONE, Refusal, Taken};
+use crate::types::{NONE_DONE, Refusal, Taken};
+use blit::types::Done;
 use job::types::Step;
 
 fn register_step(ram: &[u16], file: &mut [u16], place: u32, value: u16) -> Taken
@@ -21,8 +22,8 @@ fn size_step(ram: &mut [u16], file: &mut [u16], size: u16) -> Taken
         ≡ blit_step ram.old file.old size }
 {
     match blit::blit_step(ram, file, size) {
-        blit::types::Answer::Done(stored, round) => Ok(Done { stored, round }),
-        blit::types::Answer::Refused(why) => Err(Refusal::Blit(why)),
+        Ok(done) => Ok(done),
+        Err(why) => Err(Refusal::Blit(why)),
     }
 }
 

@@ -1,4 +1,5 @@
-// The types that the answers of a run speak of.
+// The types that the answers of a run speak of. A step or a run that is done answers what a blit does that is done.
+use blit::types::Done;
 
 // Why a run is refused: a blit's own reasons, among them memory and register file; a job that is too long; what is no
 // step; a store that doesn't lie in memory.
@@ -8,13 +9,6 @@ pub enum Refusal {
     JobLength,
     Step(job::types::Refusal),
     StoreOutside,
-}
-
-// What a step or a run that is done answers: the count of words stored, and whether a pointer went round.
-#[derive(Clone, Copy)]
-pub struct Done {
-    pub stored: u32,
-    pub round: bool,
 }
 
 // Of no step.

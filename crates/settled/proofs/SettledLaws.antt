@@ -1,5 +1,5 @@
 -- Laws of a settled blit: each condition from its parts.
-use Rattle.std.specs.Prelude.{if◌then◌else◌, Option}
+use Rattle.std.specs.Prelude.{if◌then◌else◌, Option, Result, Ok, Err}
 use Rattle.word.proofs.Base.{◌≡◌, refl, sym, ap, ◌∙◌, ℕ, ◌+◌, ◌*◌, Bool, true, false, ◌&&◌, ◌||◌, not, eqb, leb}
 use Rattle.word.proofs.Base.{not-true, arith, List, get_or}
 use Rattle.word.specs.Size.{height, width}
@@ -10,7 +10,6 @@ use Rattle.file.specs.File.{con0}
 use Rattle.word.specs.Control.{uses, function}
 use Rattle.refusal.specs.declared.types.Refusal.{Refusal}
 use Rattle.refusal.specs.declared.types.Plan.{Plan}
-use Rattle.refusal.specs.declared.types.Verdict.{Verdict}
 use Rattle.refusal.specs.Refusal.{step_refusal, verdict_number}
 use Rattle.refusal.proofs.RefusalLaws.{refusal-is-some}
 use Rattle.round.specs.Round.{goes_round}
@@ -22,12 +21,12 @@ use Rattle.settled.specs.Settled.{has, controls_known, only_d_used, sources_know
 use Rattle.settled.specs.Inner.Fate.{fate, by_round}
 
 -- a verdict, and the moves of a lawful blit
-module _ (n : ℕ) (file : List ℕ) (size : ℕ) (verdict : Verdict) (gives : verdict_number verdict ≡ step_refusal n file size) where
-  pub kept-when-refused : (why : Refusal) → verdict ≡ Verdict.Refused why
+module _ (n : ℕ) (file : List ℕ) (size : ℕ) (verdict : Result Plan Refusal) (gives : verdict_number verdict ≡ step_refusal n file size) where
+  pub kept-when-refused : (why : Refusal) → verdict ≡ Err why
       → Fate.Kept ≡ (if eqb (step_refusal n file size) 0 then by_round (goes_round file size) else Fate.Kept)
   kept-when-refused why same = rw (← gives, same, refusal-is-some why)
 
-  pub fate-when-lawful : (by : Plan) (round : Bool) (told : Fate) → verdict ≡ Verdict.Lawful by → round ≡ goes_round file size → told ≡ by_round round
+  pub fate-when-lawful : (by : Plan) (round : Bool) (told : Fate) → verdict ≡ Ok by → round ≡ goes_round file size → told ≡ by_round round
       → told ≡ (if eqb (step_refusal n file size) 0 then by_round (goes_round file size) else Fate.Kept)
   fate-when-lawful by round told same tells goes = rw (← gives, same, ← tells) goes
 

@@ -11,7 +11,7 @@ ghost use Rattle.settled.specs.declared.types.Fate.TheVariants.{Kept};
 
 use crate::types::Fate;
 use knowledge::types::Knowledge;
-use refusal::types::{Plan, Verdict};
+use refusal::types::Plan;
 
 fn has(known: &Knowledge, place: u32) -> bool
     ensures { result ≡ has known.now.registers place }
@@ -68,7 +68,7 @@ fn goes_round(file: &[u16], size: u16, by: Plan) -> bool
 {
     match by {
         Plan::Area(area) => round::area_by_rows(area),
-        Plan::Line(line) => round::line_by_dots(line),
+        Plan::Line(line) => round::line_round(line),
     }
 }
 
@@ -78,8 +78,8 @@ fn by_verdict(n: usize, file: &[u16], size: u16) -> Fate
         ≡ (if eqb (step_refusal n file.now size) 0 then by_round (goes_round file.now size) else Kept) }
 {
     match refusal::step_refusal(n, file, size) {
-        Verdict::Refused(_) => Fate::Kept,
-        Verdict::Lawful(by) => by_round(goes_round(file, size, by)),
+        Ok(by) => by_round(goes_round(file, size, by)),
+        Err(_) => Fate::Kept,
     }
 }
 

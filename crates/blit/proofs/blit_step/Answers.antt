@@ -1,18 +1,12 @@
 -- `blit::blit_step` meets its contract: refused, or done as the plan says.
-use Rattle.blit.proofs.BlitLaws.{area-of-verdict, line-of-verdict, answered-of-area, answered-of-line, answered-when-refused, blit_step-of-answer}
+use Rattle.blit.proofs.BlitLaws.{plan-of-verdict, blit_step-when-lawful, blit_step-when-refused}
 use Rattle.blit.proofs.blit_step.Goals as goal
 
-pub area_done-requires : goal.area_done-requires
-area_done-requires c = search area-of-verdict
+pub done-requires : goal.done-requires
+done-requires c = search (plan-of-verdict, c.in_ok-by.was)
 
-pub line_done-requires : goal.line_done-requires
-line_done-requires c = search line-of-verdict
+pub returns-in_err-by : goal.returns-in_err-by
+returns-in_err-by c = search (blit_step-when-refused, c.in_err-by.was, c.from_residual.ensures)
 
-pub returns-in-Refused : goal.returns-in-Refused
-returns-in-Refused c = search (blit_step-of-answer, answered-when-refused)
-
-pub returns-in-Area : goal.returns-in-Area
-returns-in-Area c = search (blit_step-of-answer, answered-of-area)
-
-pub returns-in-Line : goal.returns-in-Line
-returns-in-Line c = search (blit_step-of-answer, answered-of-line)
+pub returns : goal.returns
+returns c = search (blit_step-when-lawful, c.in_ok-by.was)

@@ -1,5 +1,5 @@
 -- `blit::done::area_done` meets its contract: what all rows leave is written back.
-use Rattle.round.proofs.RangeLaws.{area-in-range}
+use Rattle.refusal.proofs.RefusalLaws.{area-in-range}
 use Rattle.blit.proofs.BlitLaws.{area_done-of-parts}
 use Rattle.blit.proofs.done.area_done.Goals as goal
 

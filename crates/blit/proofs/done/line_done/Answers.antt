@@ -7,8 +7,8 @@ use Rattle.blit.proofs.done.line_done.Goals as goal
 pub line_blit-drawn-requires : goal.line_blit-drawn-requires
 line_blit-drawn-requires c = (search first-lt, search first-shift-lt, search first-bit-lt, search course-room)
 
-pub line_round-round-requires : goal.line_round-round-requires
-line_round-round-requires c = search line-in-range
+pub line_round-requires : goal.line_round-requires
+line_round-requires c = search line-in-range
 
 pub returns : goal.returns
 returns c = search line_done-of-parts

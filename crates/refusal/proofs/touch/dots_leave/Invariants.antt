@@ -2,8 +2,5 @@
 use Rattle.refusal.proofs.LineTouchLaws.{Same}
 use Rattle.refusal.proofs.touch.dots_leave.Given as goal
 
-abbrev pub invariant-loop-remaining : goal.invariant-loop-remaining
-invariant-loop-remaining l = Same l.n l.by l.dots l.initial.mark l.remaining l.mark
-
-abbrev pub decreases-loop-remaining : goal.decreases-loop-remaining
-decreases-loop-remaining l = l.remaining
+abbrev pub invariant-loop-dot : goal.invariant-loop-dot
+invariant-loop-dot l = Same l.n l.by l.dots l.initial.mark l.dot l.mark

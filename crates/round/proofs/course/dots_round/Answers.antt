@@ -5,8 +5,8 @@ use Rattle.round.proofs.course.dots_round.Goals as goal
 pub returns-then-dot_round : goal.returns-then-dot_round
 returns-then-dot_round c = search (rules, dots-when-round)
 
-pub loop-remaining-preserved : goal.loop-remaining-preserved
-loop-remaining-preserved c = (search (rules, dots-turn), search (rules, walked-lt), search rules)
+pub loop-dot-preserved : goal.loop-dot-preserved
+loop-dot-preserved c = (search (rules, dots-turn), search (rules, walked-lt))
 
 pub returns : goal.returns
 returns c = search (rules, dots-done)

@@ -2,8 +2,8 @@
 use Rattle.runner.proofs.EffectLaws.{blit_step-when-done, blit_step-when-refused}
 use Rattle.runner.proofs.step.size_step.Goals as goal
 
-pub returns-in-Done : goal.returns-in-Done
-returns-in-Done c = search blit_step-when-done
+pub returns-in-Ok : goal.returns-in-Ok
+returns-in-Ok c = search blit_step-when-done
 
-pub returns-in-Refused : goal.returns-in-Refused
-returns-in-Refused c = search blit_step-when-refused
+pub returns-in-Err : goal.returns-in-Err
+returns-in-Err c = search blit_step-when-refused

@@ -6,8 +6,8 @@ use Rattle.settled.proofs.settle.by_verdict.Goals as goal
 pub goes_round-requires : goal.goes_round-requires
 goes_round-requires c = search plan-of-verdict
 
-pub returns-in-Refused : goal.returns-in-Refused
-returns-in-Refused c = search kept-when-refused
+pub returns-in-Err : goal.returns-in-Err
+returns-in-Err c = search kept-when-refused
 
-pub returns-in-Lawful : goal.returns-in-Lawful
-returns-in-Lawful c = search fate-when-lawful
+pub returns-in-Ok : goal.returns-in-Ok
+returns-in-Ok c = search fate-when-lawful

@@ -5,8 +5,8 @@ use Rattle.settled.proofs.settle.goes_round.Goals as goal
 pub area_by_rows-requires : goal.area_by_rows-requires
 area_by_rows-requires c = search planned-area-in-range
 
-pub line_by_dots-requires : goal.line_by_dots-requires
-line_by_dots-requires c = search planned-line-in-range
+pub line_round-requires : goal.line_round-requires
+line_round-requires c = search planned-line-in-range
 
 pub returns-in-Area : goal.returns-in-Area
 returns-in-Area c = search goes_round-of-area

@@ -46,12 +46,12 @@ fn main(rt: HostRuntime) -> io::Result<()> {
     pictures(&rt, &ram)?;
     // Three rows of two words.
     match blit::blit(&mut ram, &mut file, 0x00C2) {
-        blit::types::Answer::Done(stored, _) => {
+        Ok(done) => {
             show_words::text(&rt, b"After, words stored")?;
-            show_words::hex(&rt, (stored % 65536) as u16)?;
+            show_words::hex(&rt, (done.stored % 65536) as u16)?;
             show_words::line(&rt)?;
         }
-        blit::types::Answer::Refused(_) => {
+        Err(_) => {
             show_words::text(&rt, b"Refused\n")?;
         }
     }

@@ -21,11 +21,11 @@ fn registers(con0: u16, con1: u16, a: u16, b: u16, c: u16, d: u16) -> [u16; file
 // Does a blit; prints a refusal, which no vector expects, or the count of words stored and the zero flag.
 fn run(rt: &impl Print, ram: &mut [u16], file: &mut [u16], size: u16) -> io::Result<()> {
     match blit::blit(ram, file, size) {
-        blit::types::Answer::Done(stored, _) => {
+        Ok(done) => {
             show_words::text(rt, b" stored")?;
-            show_words::hex(rt, (stored % 65536) as u16)?;
+            show_words::hex(rt, (done.stored % 65536) as u16)?;
         }
-        blit::types::Answer::Refused(_) => {
+        Err(_) => {
             show_words::text(rt, b" refused")?;
         }
     }

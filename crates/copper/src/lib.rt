@@ -1,7 +1,6 @@
 // The Copper: a list run for one frame over lent memory and a lent register file, by the contract of one instruction.
 #![tactic(auto)]
 
-pub mod answer;
 mod onward;
 pub mod types;
 
@@ -10,17 +9,21 @@ ghost use Rattle.copper.specs.Frame.{frame, frame_from};
 ghost use Rattle.copper.specs.Answer.{left};
 
 use crate::types::{Answer, Why};
-use instruction::types::Refusal;
+use instruction::types::{Position, Refusal};
 
 // A refusal before any instruction.
 fn refused_at_start(why: refusal::types::Refusal, beam: u32) -> Answer
-    ensures { result ≡ record { why = Why.Refused (Refusal.Blit why); done = 0; word = 0; beam = beam } }
+    ensures { result
+        ≡ record {
+          why = Why.Refused (Refusal.Blit why);
+          done = 0;
+          here = record { beam = beam; word = 0 };
+        } }
 {
     Answer {
         why: Why::Refused(Refusal::Blit(why)),
         done: 0,
-        word: 0,
-        beam: beam,
+        here: Position { beam, word: 0 },
     }
 }
 
@@ -29,15 +32,13 @@ pub fn frame_from(ram: &mut [u16], file: &mut [u16], beam: u32, start: u32, lent
     ensures { left result ram.new file.new
         ≡ frame_from ram.old file.old beam start lent }
 {
-    let bad = word::memory::memory_size(ram.len());
-    let fine = file::accepted(file);
-    if bad {
+    if word::memory::memory_size(ram.len()) {
         return refused_at_start(refusal::types::Refusal::MemorySize, beam);
     }
-    if !fine {
+    if !file::accepted(file) {
         return refused_at_start(refusal::types::Refusal::RegisterFile, beam);
     }
-    crate::onward::onward(ram, file, beam, start, lent)
+    crate::onward::onward(ram, file, Position { beam, word: start }, lent)
 }
 
 // Runs a list for one frame.

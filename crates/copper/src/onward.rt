@@ -6,46 +6,42 @@ ghost use Rattle.copper.specs.Frame.{onward};
 ghost use Rattle.copper.specs.Answer.{left};
 
 use crate::types::{Answer, Why};
-use instruction::types::Taken;
+use instruction::types::Position;
 
 // Takes instructions to the end of the frame, or until the lent number is used up, or to the first refused one.
-pub fn onward(ram: &mut [u16], file: &mut [u16], beam: u32, start: u32, lent: u32) -> Answer
+pub fn onward(ram: &mut [u16], file: &mut [u16], start: Position, lent: u32) -> Answer
     requires { length ram.old ≤ pointer_end }
     ensures { left result ram.new file.new
-        ≡ onward lent 0 (moment ram.old file.old beam start) }
+        ≡ onward lent 0 (moment ram.old file.old start.beam start.word) }
 {
-    let mut place = beam;
-    let mut word = start;
-    let mut done: u32 = 0;
-    while place < beam::END {
-        if done == lent {
+    let mut here = start;
+    for done in 0..lent {
+        if beam::END <= here.beam {
             return Answer {
-                why: Why::UsedUp,
-                done: done,
-                word: word,
-                beam: place,
+                why: Why::EndOfFrame,
+                done,
+                here,
             };
         }
-        match instruction::effect(ram, file, place, word) {
-            Taken::Done(next, after) => {
-                done = done + 1;
-                place = next;
-                word = after;
-            }
-            Taken::Refused(why) => {
+        match instruction::effect(ram, file, here) {
+            Ok(next) => here = next,
+            Err(why) => {
                 return Answer {
                     why: Why::Refused(why),
-                    done: done,
-                    word: word,
-                    beam: place,
+                    done,
+                    here,
                 };
             }
         }
     }
+    let why = if beam::END <= here.beam {
+        Why::EndOfFrame
+    } else {
+        Why::UsedUp
+    };
     Answer {
-        why: Why::EndOfFrame,
-        done: done,
-        word: word,
-        beam: place,
+        why,
+        done: lent,
+        here,
     }
 }

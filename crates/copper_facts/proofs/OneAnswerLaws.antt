@@ -7,7 +7,7 @@ use Rattle.instruction.specs.declared.types.Refusal.{Refusal}
 use Rattle.copper.specs.declared.types.Why.{Why}
 use Rattle.copper.specs.Frame.{Frame}
 use Rattle.instruction.specs.Refusal.{refusal_number}
-use Rattle.copper.specs.Answer.{why_number, answer_number}
+use Rattle.copper.specs.Why.{why_number, answer_number}
 use Rattle.copper_facts.specs.OneAnswer.{OneAnswer}
 
 -- the refusal with a number
@@ -44,7 +44,7 @@ one_answer memory file beam start lent first second promise again =
     let whys : first.answer.why ≡ second.answer.why =
     sym (why-tells first.answer.why) ∙ ap (λ (end : Frame). told end.why end.number) same ∙ why-tells second.answer.why in
     λ i. record {
-      answer = record { why = whys i; done = (same i).done; word = (same i).moment.word; beam = (same i).moment.beam };
+      answer = record { why = whys i; done = (same i).done; here = record { beam = (same i).moment.beam; word = (same i).moment.word } };
       memory = (same i).moment.memory;
       file = (same i).moment.file;
     }

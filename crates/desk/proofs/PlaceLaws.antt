@@ -1,6 +1,6 @@
 -- Laws of places and lengths: a job has at most 4,096 words and a folded job too, so that 32 bits hold them. And what the entries
 -- tell, by the answers of the calls.
-use Rattle.std.specs.Prelude.{if◌then◌else◌}
+use Rattle.std.specs.Prelude.{if◌then◌else◌, Result}
 use Rattle.word.proofs.Base.{◌≡◌, refl, ap, ℕ, zero, suc, ◌+◌, ◌<◌, ◌≤◌, dec_lt, arith, Bool, true, false, eqb, eq-eqb}
 use Rattle.word.proofs.Base.{ne_eqb, List, [], ◌∷◌, length}
 use Rattle.word.specs.Choice.{◌when◌, given}
@@ -23,7 +23,9 @@ use Rattle.copper.specs.declared.types.Answer as copper_answer
 use Rattle.instruction.specs.Effect as coppers
 use Rattle.copper.specs.Answer as frames
 use Rattle.copper.specs.Frame.{stopped, told, frame, frame_from}
-use Rattle.blit.specs.declared.types.Answer as blit_answer
+use Rattle.refusal.specs.declared.types.Refusal as blit_refusal
+use Rattle.blit.specs.declared.types.Done as blit_done
+use Rattle.blit.specs.declared.types.Told as blit_told_type
 use Rattle.blit.specs.Blit as blits
 use Rattle.blit.specs.Blit.{blit}
 use Rattle.runner.specs.declared.types.Answer as run_answer
@@ -179,12 +181,10 @@ pub picture-of-answer : (memory file : List ℕ) (field : Playfield) (out next :
     → record { number = number; out = next } ≡ picture memory file field out
 picture-of-answer memory file field out next number answer is_number gives = rw is_number gives
 
-pub blit-of-answer : (memory file next end : List ℕ) (size number stored told : ℕ) (round : Bool) (answer : blit_answer.Answer)
-    → number ≡ blits.answer_number answer → stored ≡ blits.answer_stored answer → round ≡ blits.answer_round answer → told ≡ yes_no round
-    → blits.left answer next end ≡ blit memory file size
-    → record { number = number; stored = stored; round = told; memory = next; file = end } ≡ blit_told (blit memory file size)
-blit-of-answer memory file next end size number stored told round answer is_number is-stored is-round is-told gives =
-    rw (is_number, is-stored, is-told, is-round) (ap blit_told gives)
+pub blit-of-answer : (memory file next end : List ℕ) (size yes : ℕ) (told : blit_told_type.Told) (answer : Result blit_done.Done blit_refusal.Refusal)
+    → told ≡ blits.told answer → yes ≡ yes_no told.round → blits.left answer next end ≡ blit memory file size
+    → record { number = told.number; stored = told.stored; round = yes; memory = next; file = end } ≡ blit_told (blit memory file size)
+blit-of-answer memory file next end size yes told answer tells is-yes gives = rw (is-yes, tells) (ap blit_told gives)
 
 -- a yes is told as 1, a no as 0
 pub yes_no-when-yes : (round : Bool) → round ≡ true → 1 ≡ yes_no round
@@ -197,10 +197,10 @@ yes_no-when-no round fails = rw fails
 module _ (memory file next end : List ℕ) (start lent why number : ℕ) (answer : copper_answer.Answer)
     (is-why : why ≡ frames.why_number answer.why) (is_number : number ≡ frames.answer_number answer.why) where
   pub frame_from-of-answer : (beam : ℕ) → frames.left answer next end ≡ frame_from memory file beam start lent
-      → stopped why number answer.done (coppers.moment next end answer.beam answer.word) ≡ frame_from memory file beam start lent
+      → stopped why number answer.done (coppers.moment next end answer.here.beam answer.here.word) ≡ frame_from memory file beam start lent
   frame_from-of-answer beam gives = rw (is-why, is_number) gives
 
   pub frame-of-answer : frames.left answer next end ≡ frame memory file start lent
-      → record { why = why; number = number; done = answer.done; word = answer.word; memory = next; file = end }
+      → record { why = why; number = number; done = answer.done; word = answer.here.word; memory = next; file = end }
       ≡ told (frame memory file start lent)
   frame-of-answer gives = rw (is-why, is_number) (ap told gives)

@@ -42,10 +42,10 @@ pub extern "C" fn desk_blit(
     }
         ≡ blit_told (blit ram.old file.old size) }
 {
-    let answer = blit::blit(ram, file, size);
-    *number = blit::answer::number(answer);
-    *stored = blit::answer::stored(answer);
-    *round = yes_no(blit::answer::round(answer));
+    let told = blit::answer::told(blit::blit(ram, file, size));
+    *number = told.number;
+    *stored = told.stored;
+    *round = yes_no(told.round);
 }
 
 // Runs a job.
@@ -136,11 +136,10 @@ pub extern "C" fn desk_frame(
         ≡ told (frame ram.old file.old start lent) }
 {
     let answer = copper::frame(ram, file, start, lent);
-    let reason = answer.why;
-    *why = copper::answer::why(reason);
-    *number = copper::answer::number(reason);
+    *why = answer.why.number();
+    *number = answer.why.refusal_number();
     *done = answer.done;
-    *word = answer.word;
+    *word = answer.here.word;
 }
 
 // Runs the rest of a frame from a place of the beam on, and tells where the beam stands.
@@ -162,12 +161,11 @@ pub extern "C" fn desk_frame_from(
         ≡ frame_from ram.old file.old beam start lent }
 {
     let answer = copper::frame_from(ram, file, beam, start, lent);
-    let reason = answer.why;
-    *why = copper::answer::why(reason);
-    *number = copper::answer::number(reason);
+    *why = answer.why.number();
+    *number = answer.why.refusal_number();
     *done = answer.done;
-    *word = answer.word;
-    *place = answer.beam;
+    *word = answer.here.word;
+    *place = answer.here.beam;
 }
 
 // Writes one line of picture.

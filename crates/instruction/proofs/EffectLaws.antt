@@ -1,4 +1,5 @@
 -- Laws of an instruction's effect: what each kind leaves, and that a refused one changes nothing.
+use Rattle.std.specs.Prelude.{Result, Ok, Err, IsErrAnd}
 use Rattle.word.proofs.Base.{◌≡◌, refl, ℕ, zero, suc, ◌+◌, ◌<◌, ◌≤◌, arith, Bool, true, false, not, eqb, eq-eqb, ne_eqb}
 use Rattle.word.proofs.Base.{eqb-false, le-leb, lt-leb, List, length, get_or, set}
 use Rattle.word.specs.Choice.{given}
@@ -7,7 +8,7 @@ use Rattle.file.specs.File.{place, kept}
 use Rattle.beam.specs.Satisfied.{satisfied}
 use Rattle.beam.specs.Wait.{waited}
 use Rattle.refusal.specs.declared.types.Refusal as blits
-use Rattle.blit.specs.declared.types.Answer as answers
+use Rattle.blit.specs.declared.types.Done.{Done}
 use Rattle.refusal.specs.Refusal.{step_refusal}
 use Rattle.blit.specs.Blit as blit
 use Rattle.blit.specs.Blit.{refused, answered, blit_step}
@@ -16,7 +17,7 @@ use Rattle.blit.proofs.BlitLaws.{done-number, blit_step-stays}
 use Rattle.instruction.specs.declared.types.Instruction.{Instruction}
 use Rattle.instruction.specs.declared.types.Instruction.TheVariants.{Move, Wait, Skip}
 use Rattle.instruction.specs.declared.types.Refusal.{Refusal}
-use Rattle.instruction.specs.declared.types.Taken.{Taken}
+use Rattle.instruction.specs.declared.types.Position.{Position}
 use Rattle.instruction.specs.Instruction.{instruction}
 use Rattle.instruction.specs.Permitted.{permitted, size_offset, modelled}
 use Rattle.instruction.specs.Refusal.{outside, forbidden, not_modelled, own_rules, instruction_refusal, refusal_number}
@@ -25,21 +26,22 @@ use Rattle.instruction.specs.Inner.Blitted.{blitted}
 use Rattle.instruction.specs.Inner.Taken.{left}
 
 -- a blit that a MOVE starts, done or refused
-module _ (answer : answers.Answer) (size beam word : ℕ) (memory file next end : List ℕ)
+module _ (answer : Result Done blits.Refusal) (size : ℕ) (here : Position) (memory file next end : List ℕ)
     (gives : blit.left answer next end ≡ blit_step memory file size) where
-  pub blitted-when-done : (stored : ℕ) (round : Bool) (taken : Taken) → answer ≡ answers.Answer.Done stored round → taken ≡ Taken.Done (beam + 4) (word + 2)
-      → left taken beam word next end ≡ blitted size (moment memory file beam word)
+  pub blitted-when-done : (done : Done) (after : Position) → answer ≡ Ok done → after ≡ record { beam = here.beam + 4; word = here.word + 2 }
+      → left (Ok after) here next end ≡ blitted size (moment memory file here.beam here.word)
   unfolding blitted decided
-  blitted-when-done stored round taken same moves = let did = rw same at gives in rw (moves, ← did)
+  blitted-when-done done after same moves = let did = rw same at gives in rw (moves, ← did)
 
-  pub blitted-when-refused : (why : blits.Refusal) → answer ≡ answers.Answer.Refused why
-      → left (Taken.Refused (Refusal.Blit why)) beam word next end ≡ blitted size (moment memory file beam word)
+  pub blitted-when-refused : (why : blits.Refusal) (taken : Result Position Refusal) → answer ≡ Err why → IsErrAnd taken (λ reason. reason ≡ Refusal.Blit why)
+      → left taken here next end ≡ blitted size (moment memory file here.beam here.word)
   unfolding blitted decided
-  blitted-when-refused why same =
+  blitted-when-refused why (Ok after) same passed = absurd passed
+  blitted-when-refused why (Err reason) same passed =
       let did = rw same at gives in
       let stays = rw (← did) at (blit_step-stays memory file size) in
       let stayed = stays (eqb-false (refusal_number (Refusal.Blit why)) 0 (refusal-is-some why)) in
-      rw (← did, refusal-is-some why, stayed.0, stayed.1)
+      rw (passed, ← did, refusal-is-some why, stayed.0, stayed.1)
 
 -- a blit's number is that of its own rules
 blit_step-gives : (memory file : List ℕ) (size number : ℕ) → step_refusal (length memory) file size ≡ number
@@ -59,48 +61,48 @@ unfolding skipped
 skipped-when-not first second beam word holds is fails = rw (← is, fails)
 
 -- an instruction that lies in memory
-module _ (beam word : ℕ) (memory file : List ℕ) (inside : word + 1 < length memory) where
-  within : outside (length memory) word ≡ false
+module _ (here : Position) (memory file : List ℕ) (inside : here.word + 1 < length memory) where
+  within : outside (length memory) here.word ≡ false
   unfolding outside
-  within = lt-leb (length memory) (word + 1) inside
+  within = lt-leb (length memory) (here.word + 1) inside
 
   -- a MOVE, by the rules in their order
   module _ (offset value : ℕ) (may : Bool) (permits : may ≡ permitted file offset) where
     pub instruction_effect-when-forbidden : not may ≡ true
-        → left (Taken.Refused Refusal.Forbidden) beam word memory file ≡ instruction_effect (Move offset value) (moment memory file beam word)
+        → left (Err Refusal.Forbidden) here memory file ≡ instruction_effect (Move offset value) (moment memory file here.beam here.word)
     unfolding instruction_effect decided instruction_refusal given forbidden
     instruction_effect-when-forbidden bad = rw (within, ← permits, bad)
 
     module _ (good : not may ≡ false) (known : Bool) (models : known ≡ modelled offset) where
       pub instruction_effect-when-not-modelled : not known ≡ true
-          → left (Taken.Refused Refusal.NotModelled) beam word memory file ≡ instruction_effect (Move offset value) (moment memory file beam word)
+          → left (Err Refusal.NotModelled) here memory file ≡ instruction_effect (Move offset value) (moment memory file here.beam here.word)
       unfolding instruction_effect decided instruction_refusal given forbidden not_modelled
       instruction_effect-when-not-modelled unknown = rw (within, ← permits, good, ← models, unknown)
 
       module _ (fine : not known ≡ false) where
-        pub instruction_effect-of-size : (whole : Turn) → offset ≡ size_offset → whole ≡ blitted value (moment memory file beam word)
-            → whole ≡ instruction_effect (Move offset value) (moment memory file beam word)
+        pub instruction_effect-of-size : (whole : Turn) → offset ≡ size_offset → whole ≡ blitted value (moment memory file here.beam here.word)
+            → whole ≡ instruction_effect (Move offset value) (moment memory file here.beam here.word)
         unfolding instruction_effect instruction_refusal given forbidden not_modelled own_rules after_instruction blitted step_refusal
-        instruction_effect-of-size whole here gives =
-            rw (within, ← permits, good, ← models, fine, eq-eqb offset size_offset here)
+        instruction_effect-of-size whole this gives =
+            rw (within, ← permits, good, ← models, fine, eq-eqb offset size_offset this)
             (rw (blit_step-gives memory file value _ refl) at gives)
 
-        pub instruction_effect-of-register : (found keeps : ℕ) (end : List ℕ) (taken : Taken) → (offset ≡ size_offset → ⊥)
-            → found ≡ place offset → keeps ≡ kept found value → end ≡ set file found keeps → taken ≡ Taken.Done (beam + 4) (word + 2)
-            → left taken beam word memory end ≡ instruction_effect (Move offset value) (moment memory file beam word)
+        pub instruction_effect-of-register : (found keeps : ℕ) (end : List ℕ) (after : Position) → (offset ≡ size_offset → ⊥)
+            → found ≡ place offset → keeps ≡ kept found value → end ≡ set file found keeps → after ≡ record { beam = here.beam + 4; word = here.word + 2 }
+            → left (Ok after) here memory end ≡ instruction_effect (Move offset value) (moment memory file here.beam here.word)
         unfolding instruction_effect decided instruction_refusal given forbidden not_modelled own_rules after_instruction
-        instruction_effect-of-register found keeps end taken other finds kept-bits writes moves =
+        instruction_effect-of-register found keeps end after other finds kept-bits writes moves =
             rw (moves, within, ← permits, good, ← models, fine, ne_eqb offset size_offset other, writes, kept-bits, finds)
 
   -- a WAIT and a SKIP
   module _ (found : Instruction) where
-    pub instruction_effect-of-wait : (first second place : ℕ) → found ≡ Wait first second → place ≡ waited first second beam
-        → left (Taken.Done place (word + 2)) beam word memory file ≡ instruction_effect found (moment memory file beam word)
+    pub instruction_effect-of-wait : (first second place : ℕ) → found ≡ Wait first second → place ≡ waited first second here.beam
+        → left (Ok (record { beam = place; word = here.word + 2 })) here memory file ≡ instruction_effect found (moment memory file here.beam here.word)
     unfolding instruction_effect decided instruction_refusal given forbidden not_modelled own_rules after_instruction
     instruction_effect-of-wait first second place same waits = rw (same, within, waits)
 
-    pub instruction_effect-of-skip : (first second next : ℕ) → found ≡ Skip first second → next ≡ skipped first second beam word
-        → left (Taken.Done (beam + 4) next) beam word memory file ≡ instruction_effect found (moment memory file beam word)
+    pub instruction_effect-of-skip : (first second next : ℕ) → found ≡ Skip first second → next ≡ skipped first second here.beam here.word
+        → left (Ok (record { beam = here.beam + 4; word = next })) here memory file ≡ instruction_effect found (moment memory file here.beam here.word)
     unfolding instruction_effect decided instruction_refusal given forbidden not_modelled own_rules after_instruction
     instruction_effect-of-skip first second next same skips = rw (same, within, skips)
 
@@ -109,10 +111,10 @@ pub instruction_effect-of-move : (offset value : ℕ) (found : Instruction) (her
 instruction_effect-of-move offset value found here whole same gives = rw same gives
 
 -- where an instruction stands
-pub effect-when-outside : (beam word : ℕ) (memory file : List ℕ) → length memory ≤ word + 1
-    → left (Taken.Refused Refusal.Outside) beam word memory file ≡ effect (moment memory file beam word)
+pub effect-when-outside : (here : Position) (memory file : List ℕ) → length memory ≤ here.word + 1
+    → left (Err Refusal.Outside) here memory file ≡ effect (moment memory file here.beam here.word)
 unfolding effect instruction_effect decided instruction_refusal given outside
-effect-when-outside beam word memory file beyond = rw (le-leb (length memory) (word + 1) beyond)
+effect-when-outside here memory file beyond = rw (le-leb (length memory) (here.word + 1) beyond)
 
 pub effect-when-inside : (beam word first second : ℕ) (memory file : List ℕ) (found : Instruction) (whole : Turn)
     → first ≡ get_or memory word 0 → second ≡ get_or memory (word + 1) 0 → found ≡ instruction first second

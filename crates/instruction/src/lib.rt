@@ -1,7 +1,6 @@
 // One instruction of a Copper list: read as memory stands, and done, over lent memory and a lent register file.
 #![tactic(auto)]
 
-pub mod number;
 mod permitted;
 mod read;
 pub mod types;
@@ -13,29 +12,32 @@ ghost use Rattle.instruction.specs.Effect.{moment, skipped, instruction_effect, 
 ghost use Rattle.instruction.specs.Inner.Blitted.{blitted};
 ghost use Rattle.instruction.specs.Inner.Taken.{left};
 
-use crate::types::{Instruction, Refusal, Taken};
+use crate::types::{Instruction, Position, Refusal};
 
-// A MOVE that is done: four positions on, with the next instruction behind it.
-fn after_move(beam: u32, word: u32) -> Taken
-    requires { (beam < frame_end) × (word < pointer_end) }
-    ensures { result ≡ Taken.Done (beam + 4) (word + 2) }
+// Where a MOVE that is done leads: four positions on, to the next instruction.
+fn after_move(here: Position) -> Position
+    requires { (here.beam < frame_end) × (here.word < pointer_end) }
+    ensures { result ≡ record { beam = here.beam + 4; word = here.word + 2 } }
 {
-    let place = beam + 4;
-    let next = word + 2;
-    Taken::Done(place, next)
+    Position {
+        beam: here.beam + 4,
+        word: here.word + 2,
+    }
 }
 
 // Runs the blit of a size.
-fn blitted(ram: &mut [u16], file: &mut [u16], size: u16, beam: u32, word: u32) -> Taken
-    requires { (beam < frame_end) × (word < pointer_end) }
-    ensures { left result beam word ram.new file.new
-        ≡ blitted size (moment ram.old file.old beam word) }
+fn blitted(
+    ram: &mut [u16],
+    file: &mut [u16],
+    size: u16,
+    here: Position,
+) -> Result<Position, Refusal>
+    requires { (here.beam < frame_end) × (here.word < pointer_end) }
+    ensures { left result here ram.new file.new
+        ≡ blitted size (moment ram.old file.old here.beam here.word) }
 {
-    let answer = blit::blit_step(ram, file, size);
-    match answer {
-        blit::types::Answer::Done(_, _) => after_move(beam, word),
-        blit::types::Answer::Refused(why) => Taken::Refused(Refusal::Blit(why)),
-    }
+    blit::blit_step(ram, file, size)?;
+    Ok(after_move(here))
 }
 
 // Does a MOVE: a blit for the size register, else a write of the bits that the register keeps.
@@ -44,39 +46,38 @@ fn move_effect(
     file: &mut [u16],
     offset: u16,
     value: u16,
-    beam: u32,
-    word: u32,
-) -> Taken
-    requires { (beam < frame_end) × (word + 1 < length ram.old) × (length ram.old ≤ pointer_end) }
-    ensures { left result beam word ram.new file.new
+    here: Position,
+) -> Result<Position, Refusal>
+    requires { (here.beam < frame_end) × (here.word + 1 < length ram.old) × (length ram.old ≤ pointer_end) }
+    ensures { left result here ram.new file.new
         ≡ instruction_effect (Instruction.Move offset value)
-        (moment ram.old file.old beam word) }
+        (moment ram.old file.old here.beam here.word) }
 {
     let place = file::place(offset);
     let may = crate::permitted::permitted(file, offset);
     let known = crate::permitted::modelled(offset, place);
     if !may {
-        return Taken::Refused(Refusal::Forbidden);
+        return Err(Refusal::Forbidden);
     }
     if !known {
-        return Taken::Refused(Refusal::NotModelled);
+        return Err(Refusal::NotModelled);
     }
     if offset == crate::permitted::SIZE_OFFSET {
-        return blitted(ram, file, value, beam, word);
+        return blitted(ram, file, value, here);
     }
     word::memory::write(file, place, file::kept(place, value));
-    after_move(beam, word)
+    Ok(after_move(here))
 }
 
 // The word after a SKIP: the instruction after a satisfied one is passed over.
-fn skipped(first: u16, second: u16, beam: u32, word: u32) -> u32
-    requires { word < pointer_end }
-    ensures { result ≡ skipped first second beam word }
+fn skipped(first: u16, second: u16, here: Position) -> u32
+    requires { here.word < pointer_end }
+    ensures { result ≡ skipped first second here.beam here.word }
 {
-    if beam::satisfied(first, second, beam) {
-        return word + 4;
+    if beam::satisfied(first, second, here.beam) {
+        return here.word + 4;
     }
-    word + 2
+    here.word + 2
 }
 
 // Does an instruction that has been read. A refused one changes nothing.
@@ -84,39 +85,36 @@ fn instruction_effect(
     ram: &mut [u16],
     file: &mut [u16],
     instruction: Instruction,
-    beam: u32,
-    word: u32,
-) -> Taken
-    requires { (beam < frame_end) × (word + 1 < length ram.old) × (length ram.old ≤ pointer_end) }
-    ensures { left result beam word ram.new file.new
-        ≡ instruction_effect instruction (moment ram.old file.old beam word) }
+    here: Position,
+) -> Result<Position, Refusal>
+    requires { (here.beam < frame_end) × (here.word + 1 < length ram.old) × (length ram.old ≤ pointer_end) }
+    ensures { left result here ram.new file.new
+        ≡ instruction_effect instruction (moment ram.old file.old here.beam here.word) }
 {
     match instruction {
-        Instruction::Move(offset, value) => move_effect(ram, file, offset, value, beam, word),
-        Instruction::Wait(first, second) => {
-            let place = beam::waited(first, second, beam);
-            let next = word + 2;
-            Taken::Done(place, next)
-        }
-        Instruction::Skip(first, second) => {
-            let place = beam + 4;
-            let next = skipped(first, second, beam, word);
-            Taken::Done(place, next)
-        }
+        Instruction::Move { offset, value } => move_effect(ram, file, offset, value, here),
+        Instruction::Wait { first, second } => Ok(Position {
+            beam: beam::waited(first, second, here.beam),
+            word: here.word + 2,
+        }),
+        Instruction::Skip { first, second } => Ok(Position {
+            beam: here.beam + 4,
+            word: skipped(first, second, here),
+        }),
     }
 }
 
 // Reads the instruction at a word, as memory stands, and does it.
-pub fn effect(ram: &mut [u16], file: &mut [u16], beam: u32, word: u32) -> Taken
-    requires { (beam < frame_end) × (length ram.old ≤ pointer_end) }
-    ensures { left result beam word ram.new file.new
-        ≡ effect (moment ram.old file.old beam word) }
+pub fn effect(ram: &mut [u16], file: &mut [u16], here: Position) -> Result<Position, Refusal>
+    requires { (here.beam < frame_end) × (length ram.old ≤ pointer_end) }
+    ensures { left result here ram.new file.new
+        ≡ effect (moment ram.old file.old here.beam here.word) }
 {
-    if ram.len() <= word as usize + 1 {
-        return Taken::Refused(Refusal::Outside);
+    if ram.len() <= here.word as usize + 1 {
+        return Err(Refusal::Outside);
     }
-    let first = word::memory::read(ram, word);
-    let second = word::memory::read(ram, word + 1);
+    let first = word::memory::read(ram, here.word);
+    let second = word::memory::read(ram, here.word + 1);
     let instruction = crate::read::instruction(first, second);
-    instruction_effect(ram, file, instruction, beam, word)
+    instruction_effect(ram, file, instruction, here)
 }

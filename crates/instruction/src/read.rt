@@ -10,9 +10,12 @@ pub fn instruction(first: u16, second: u16) -> Instruction
 {
     if first % 2 == 1 {
         if second % 2 == 1 {
-            return Instruction::Skip(first, second);
+            return Instruction::Skip { first, second };
         }
-        return Instruction::Wait(first, second);
+        return Instruction::Wait { first, second };
     }
-    Instruction::Move(first & 0x01FE, second)
+    Instruction::Move {
+        offset: first & 0x01FE,
+        value: second,
+    }
 }

@@ -96,11 +96,11 @@ fn print_set_up(rt: &impl Print, file: &[u16], size: u16) -> io::Result<()> {
 // stand, and the zero flag.
 fn run(rt: &impl Print, ram: &mut [u16], file: &mut [u16], size: u16) -> io::Result<()> {
     match blit::blit(ram, file, size) {
-        blit::types::Answer::Done(stored, _) => {
+        Ok(done) => {
             show_words::text(rt, b" stored")?;
-            show_words::hex(rt, (stored % 65536) as u16)?;
+            show_words::hex(rt, (done.stored % 65536) as u16)?;
         }
-        blit::types::Answer::Refused(_) => {
+        Err(_) => {
             show_words::text(rt, b" refused")?;
         }
     }

@@ -2,8 +2,8 @@
 use Rattle.instruction.proofs.EffectLaws.{blitted-when-done, blitted-when-refused}
 use Rattle.instruction.proofs.blitted.Goals as goal
 
-pub returns-in-Done : goal.returns-in-Done
-returns-in-Done c = search blitted-when-done
+pub returns-in_err-blit_step : goal.returns-in_err-blit_step
+returns-in_err-blit_step c = search (blitted-when-refused, c.in_err-blit_step.was, c.from_residual.ensures)
 
-pub returns-in-Refused : goal.returns-in-Refused
-returns-in-Refused c = search blitted-when-refused
+pub returns : goal.returns
+returns c = search (blitted-when-done, c.in_ok-blit_step.was)

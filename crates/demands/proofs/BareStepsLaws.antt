@@ -3,7 +3,7 @@ use Rattle.std.specs.Prelude.{Some, None, Ok, Err}
 use Rattle.word.proofs.Base.{◌≡◌, refl, sym, ap, ◌∙◌, ℕ, zero, suc, ◌+◌, ◌≤◌, add-zero, arith, Bool, true}
 use Rattle.word.proofs.Base.{false, ◌&&◌, List, [], ◌∷◌, ◌++◌, length, drop, drop_of_length-le}
 use Rattle.job.specs.declared.types.Step.{Step}
-use Rattle.job.specs.Read.{Read}
+use Rattle.job.specs.Types.{Read}
 use Rattle.job.specs.Step.{operands, found, front}
 use Rattle.job.specs.Steps.{Placed, placed, behind, steps_from, steps}
 use Rattle.job.proofs.StepLaws.{front-le}

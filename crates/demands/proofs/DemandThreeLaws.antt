@@ -1,5 +1,5 @@
 -- Demand 3: step by step the folded job and the original leave the same machine, and what the folder knows agrees with it.
-use Rattle.std.specs.Prelude.{if◌then◌else◌, Ok, Some}
+use Rattle.std.specs.Prelude.{if◌then◌else◌, Ok, Some, Option, None}
 use Rattle.word.proofs.Base.{◌≡◌, refl, sym, ap, subst, ◌∙◌, ℕ, zero, suc, ◌+◌, arith, Bool, true, false}
 use Rattle.word.proofs.Base.{List, [], ◌∷◌, ◌++◌, length, get_or, set, length-set}
 use lib.ListN.{replicate}
@@ -14,7 +14,7 @@ use Rattle.refusal.specs.Refusal.{step_refusal}
 use Rattle.word.specs.Memory.{memory_size}
 use Rattle.blit.specs.Blit.{Outcome, blit_step}
 use Rattle.job.specs.declared.types.Step.{Step}
-use Rattle.job.specs.Read.{Read}
+use Rattle.job.specs.Types.{Read}
 use Rattle.job.specs.Step.{operands, found, front}
 use Rattle.job.specs.Steps.{Placed, placed, steps_from, steps}
 use Rattle.runner.specs.Effect.{step_effect, effect}
@@ -22,8 +22,7 @@ use Rattle.job.specs.Length.{job_length}
 use Rattle.job.proofs.LengthLaws.{job_length-of-short}
 use Rattle.runner.proofs.EffectLaws.{step_effect-of-blit}
 use Rattle.runner.specs.Run.{Machine, machine, after, run_steps, run_from, start_refusal, run}
-use Rattle.knowledge.specs.declared.types.Known.{Known}
-use Rattle.knowledge.specs.Knowledge.{nothing, numbers}
+use Rattle.knowledge.specs.Knowledge.{known_at, nothing, numbers}
 use Rattle.knowledge.proofs.KnowledgeLaws.{nothing-length}
 use Rattle.stores.specs.Stores.{stores, all_zero, final_d}
 use Rattle.stores.proofs.OnlyDLaws.{OnlyD}
@@ -42,7 +41,7 @@ use Rattle.demands.proofs.StepRunLaws.{SameButPlace, copied_runs}
 use Rattle.demands.proofs.StandsLaws.{Stands, after-lengths, stands-after-register, stands-after-store, stands-after-flag, stands-after-kept}
 
 -- a blit that is settled
-module _ (n : ℕ) (known : List Known) (before : Machine) (stands : Stands n known before) (size : ℕ) (holds : settled n known size ≡ true) where
+module _ (n : ℕ) (known : List (Option ℕ)) (before : Machine) (stands : Stands n known before) (size : ℕ) (holds : settled n known size ≡ true) where
   only : OnlyD (setup (numbers known)).uses
   only = settled-uses-d n known size holds
 
@@ -78,13 +77,13 @@ module _ (n : ℕ) (known : List Known) (before : Machine) (stands : Stands n kn
   unfolding moved_d
   stands-after-settled next =
       let to : Pointer = final_d (numbers known) size in
-      let high-known : List Known = set known pointer_d (Known.Is (high to)) in
-      let long : length high-known ≡ blitter_length = length-set known pointer_d (Known.Is (high to)) ∙ stands.long in
-      let long-too : length (set high-known (pointer_d + 1) (Known.Is (low to))) ≡ blitter_length = length-set high-known (pointer_d + 1) (Known.Is (low to)) ∙ long in
+      let high-known : List (Option ℕ) = set known pointer_d (Some (high to)) in
+      let long : length high-known ≡ blitter_length = length-set known pointer_d (Some (high to)) ∙ stands.long in
+      let long-too : length (set high-known (pointer_d + 1) (Some (low to))) ≡ blitter_length = length-set high-known (pointer_d + 1) (Some (low to)) ∙ long in
       let full : length (set before.file pointer_d (high to)) ≡ file_length = length-set before.file pointer_d (high to) ∙ stands.file in
       let one : Agrees high-known (set before.file pointer_d (high to)) =
       agrees-of-set known before.file pointer_d (high to) stands.long stands.file stands.agrees in
-      let two : Agrees (set high-known (pointer_d + 1) (Known.Is (low to))) (set (set before.file pointer_d (high to)) (pointer_d + 1) (low to)) =
+      let two : Agrees (set high-known (pointer_d + 1) (Some (low to))) (set (set before.file pointer_d (high to)) (pointer_d + 1) (low to)) =
       agrees-of-set high-known (set before.file pointer_d (high to)) (pointer_d + 1) (low to) long full one in
       let leaves : (blit_step before.memory before.file size).file
       ≡ set (set (set before.file pointer_d (high to)) (pointer_d + 1) (low to)) flag (if all_zero (stores before.file size) then 1 else 0) =
@@ -97,11 +96,11 @@ module _ (n : ℕ) (known : List Known) (before : Machine) (stands : Stands n kn
       (agrees-of-flag (moved_d to known) (set (set before.file pointer_d (high to)) (pointer_d + 1) (low to)) _ long-too two)))
 
 -- one step of the job, and the rest
-simulate-step : (n : ℕ) (job : List ℕ) (known : List Known) (at place next : ℕ) (step : Step) (rest : List Placed) (before : Machine)
+simulate-step : (n : ℕ) (job : List ℕ) (known : List (Option ℕ)) (at place next : ℕ) (step : Step) (rest : List Placed) (before : Machine)
     → Stands n known before
     → length (raw_words job place step) ≡ 1 + operands step
     → ((to : ℕ) → front to (raw_words job place step) ≡ found to step)
-    → ((to : ℕ) (learned : List Known) (on : Machine) → Stands n learned on → SameButPlace (run_from to (fold_steps n learned job rest) on) (run_steps rest on))
+    → ((to : ℕ) (learned : List (Option ℕ)) (on : Machine) → Stands n learned on → SameButPlace (run_from to (fold_steps n learned job rest) on) (run_steps rest on))
     → SameButPlace (run_from at (becomes n known step (raw_words job place step) ++ fold_steps n (learned n known step) job rest) before)
     (run_steps (placed place (Ok (Some (step, next))) ∷ rest) before)
 unfolding becomes learned
@@ -128,7 +127,7 @@ simulate-step n job known at place next (Step.Size size) rest before stands long
         (later _ (forgotten known) _ (stands-after-kept n known before stands size next))
 
 -- all steps of the job
-pub simulate : (n : ℕ) (job : List ℕ) (list : List Placed) → Good job list → (at : ℕ) (known : List Known) (before : Machine) → Stands n known before
+pub simulate : (n : ℕ) (job : List ℕ) (list : List Placed) → Good job list → (at : ℕ) (known : List (Option ℕ)) (before : Machine) → Stands n known before
     → SameButPlace (run_from at (fold_steps n known job list) before) (run_steps list before)
 unfolding Good fold_steps piece learned_after run_steps steps_from
 simulate n job [] good at known before stands = record { numbers = refl; machines = refl }
@@ -139,7 +138,7 @@ simulate n job (one ∷ rest) good at known before stands =
     (simulate-step n job known at one.place good.0.next good.0.step rest before stands good.0.long good.0.decodes
     (λ to learned on stand. simulate n job rest good.1 to learned on stand))
 
-get_or-of-nothing : (n place : ℕ) → get_or (replicate n Known.Unknown) place Known.Unknown ≡ Known.Unknown
+get_or-of-nothing : (n place : ℕ) → known_at (replicate n None) place ≡ None
 get_or-of-nothing zero place = refl
 get_or-of-nothing (suc n) zero = refl
 get_or-of-nothing (suc n) (suc place) = get_or-of-nothing n place
@@ -147,7 +146,7 @@ get_or-of-nothing (suc n) (suc place) = get_or-of-nothing n place
 -- nothing known agrees with every file
 nothing-agrees : (file : List ℕ) → Agrees nothing file
 unfolding Agrees
-nothing-agrees file place value is = let none : get_or nothing place Known.Unknown ≡ Known.Unknown = get_or-of-nothing blitter_length place in let n : ◌≡◌ {A = ℕ} 0 1 = cc in absurd (omega arith)
+nothing-agrees file place value is = let none : get_or nothing place None ≡ None = get_or-of-nothing blitter_length place in let n : ◌≡◌ {A = ℕ} 0 1 = cc in absurd (omega arith)
 
 -- none of 1 to 3 applies to a run
 start-of-none : (memory file job : List ℕ) → memory_size (length memory) ≡ false → accepted file ≡ true → job_length job ≡ false

@@ -1,5 +1,5 @@
 -- Laws of the steps of a job without faults: each is decoded from its own words, wherever they stand.
-use Rattle.std.specs.Prelude.{if◌then◌else◌, Some, None, Ok, Err}
+use Rattle.std.specs.Prelude.{Option, if◌then◌else◌, Some, None, Ok, Err}
 use Rattle.word.proofs.Base.{◌≡◌, refl, sym, ap, ◌∙◌, ℕ, zero, suc, ◌+◌, ◌≤◌, one-add, arith, Bool, true, false, List}
 use Rattle.word.proofs.Base.{[], ◌∷◌, length, take, drop, length-take-le}
 use native.Mathlib.Nat.{le_refl}
@@ -8,7 +8,7 @@ use Rattle.word.specs.Pointer.{pointer}
 use Rattle.job.specs.declared.types.Kind.{Kind}
 use Rattle.job.specs.declared.types.Step.{Step}
 use Rattle.job.specs.declared.types.Refusal.{Refusal}
-use Rattle.job.specs.Read.{Read}
+use Rattle.job.specs.Types.{Read}
 use Rattle.job.specs.Kind.{kind}
 use Rattle.job.specs.Step.{operands, found, is_odd, begun, front, read_number}
 use Rattle.job.specs.Steps.{Placed, placed, steps_from}
@@ -18,28 +18,34 @@ use Rattle.runner.proofs.FrontLaws.{front-of-take, front-is-some}
 use Rattle.folder.specs.Fold.{raw_words}
 use Rattle.demands.proofs.FoldedJobLaws.{Clean}
 
+-- a step with the place of the next, where its first word is word `to`
+abbrev refound : (to : ℕ) → Read → Read
+refound to (Ok (Some (step, next))) = found to step
+refound to (Ok None) = Ok None
+refound to (Err why) = Err why
+
 -- a step that some words begin is begun by them wherever they stand
-begun-elsewhere : (begins : Kind) (at to : ℕ) (rest : List ℕ) (step : Step) (next : ℕ)
+begun-elsewhere : (begins : Option Kind) (at to : ℕ) (rest : List ℕ) (step : Step) (next : ℕ)
     → begun begins at rest ≡ Ok (Some (step, next)) → begun begins to rest ≡ found to step
-unfolding begun found
-begun-elsewhere Kind.Nothing at to rest step next reads = let n : ◌≡◌ {A = ℕ} 0 1 = cc in absurd (omega arith)
-begun-elsewhere (Kind.Register place) at to [] step next reads = let n : ◌≡◌ {A = ℕ} 0 1 = cc in absurd (omega arith)
-begun-elsewhere (Kind.Register place) at to (value ∷ rest) step next reads =
-    let same : Step.Register place value ≡ step = cc in ap (found to) same
-begun-elsewhere Kind.Size at to [] step next reads = let n : ◌≡◌ {A = ℕ} 0 1 = cc in absurd (omega arith)
-begun-elsewhere Kind.Size at to (value ∷ rest) step next reads =
-    let same : Step.Size value ≡ step = cc in ap (found to) same
-begun-elsewhere (Kind.Store high) at to [] step next reads = let n : ◌≡◌ {A = ℕ} 0 1 = cc in absurd (omega arith)
-begun-elsewhere (Kind.Store high) at to (low ∷ []) step next reads = let n : ◌≡◌ {A = ℕ} 0 1 = cc in absurd (omega arith)
-begun-elsewhere (Kind.Store high) at to (low ∷ value ∷ rest) step next reads = by-test (is_odd low) reads
+unfolding begun found operands
+begun-elsewhere None at to rest step next reads = let n : ◌≡◌ {A = ℕ} 0 1 = cc in absurd (omega arith)
+begun-elsewhere (Some (Kind.Register place)) at to [] step next reads = let n : ◌≡◌ {A = ℕ} 0 1 = cc in absurd (omega arith)
+begun-elsewhere (Some (Kind.Register place)) at to (value ∷ rest) step next reads =
+    ap (refound to) reads
+begun-elsewhere (Some Kind.Size) at to [] step next reads = let n : ◌≡◌ {A = ℕ} 0 1 = cc in absurd (omega arith)
+begun-elsewhere (Some Kind.Size) at to (value ∷ rest) step next reads =
+    ap (refound to) reads
+begun-elsewhere (Some (Kind.Store high)) at to [] step next reads = let n : ◌≡◌ {A = ℕ} 0 1 = cc in absurd (omega arith)
+begun-elsewhere (Some (Kind.Store high)) at to (low ∷ []) step next reads = let n : ◌≡◌ {A = ℕ} 0 1 = cc in absurd (omega arith)
+begun-elsewhere (Some (Kind.Store high)) at to (low ∷ value ∷ rest) step next reads = by-test (is_odd low) reads
   where
     by-test : (odd : Bool)
         → (if odd then Err Refusal.OddStore else found at (Step.Store (pointer high low).word value)) ≡ Ok (Some (step, next))
         → (if odd then Err Refusal.OddStore else found to (Step.Store (pointer high low).word value)) ≡ found to step
     by-test true wrong = let n : ◌≡◌ {A = ℕ} 0 1 = cc in absurd (omega arith)
-    by-test false is = let same : Step.Store (pointer high low).word value ≡ step = cc in ap (found to) same
-begun-elsewhere (Kind.Flag flag) at to rest step next reads =
-    let same : Step.Flag flag ≡ step = cc in ap (found to) same
+    by-test false is = ap (refound to) is
+begun-elsewhere (Some (Kind.Flag flag)) at to rest step next reads =
+    ap (refound to) reads
 
 pub front-elsewhere : (at to first : ℕ) (rest : List ℕ) (step : Step) (next : ℕ)
     → front at (first ∷ rest) ≡ Ok (Some (step, next)) → front to (first ∷ rest) ≡ found to step

@@ -1,5 +1,5 @@
 -- Laws of what the folder learns: after every step its knowledge agrees with what the step leaves in the register file.
-use Rattle.std.specs.Prelude.{if◌then◌else◌}
+use Rattle.std.specs.Prelude.{if◌then◌else◌, Option, Some, None, is_some}
 use Rattle.word.proofs.Base.{◌≡◌, refl, sym, ap, ◌∙◌, ℕ, arith, Bool, true, false, List, length, length-set}
 use Rattle.file.specs.Places.{blitter_length, control0, pointer_a, pointer_b, pointer_c, pointer_d, source_a, source_b, source_c}
 use Rattle.word.specs.declared.types.Pointer.{Pointer}
@@ -17,9 +17,8 @@ use Rattle.file.specs.Pointers.{put_flag}
 use Rattle.blit.specs.WriteBack.{put_pointer, put_pointers, put_source, put_sources}
 use Rattle.blit.specs.Blit.{Outcome, finished, drawn, area_done, line_done, refused, blit_step}
 use Rattle.blit.proofs.BlitLaws.{answered-cases}
-use Rattle.knowledge.specs.declared.types.Known.{Known}
-use Rattle.knowledge.specs.Known.{number, is_known}
-use Rattle.learning.specs.Learn.{known_at, may_use, forget_pointer, forget_source, forget_used, forgotten}
+use Rattle.knowledge.specs.Knowledge.{known_at, number}
+use Rattle.learning.specs.Learn.{may_use, forget_pointer, forget_source, forget_used, forgotten}
 use Rattle.demands.proofs.AgreesLaws.{Agrees, agrees-of-flag, agrees-of-source, agrees-of-pointer, agrees-of-low}
 
 -- the channels that a blit uses are among those it may use
@@ -38,17 +37,17 @@ covers-itself may uses same =
       d = λ used. sym (ap (λ (u : Uses). u.d) same) ∙ used;
     }
 
-pub may_use-covers : (known : List Known) (file : List ℕ) → Agrees known file → Covers (may_use known) (uses (con0 file))
-unfolding Agrees may_use is_known number
+pub may_use-covers : (known : List (Option ℕ)) (file : List ℕ) → Agrees known file → Covers (may_use known) (uses (con0 file))
+unfolding Agrees may_use
 may_use-covers known file agrees = by-known (known_at known control0) refl
   where
-    by-known : (held : Known) → known_at known control0 ≡ held
-        → Covers (if is_known held then uses (number held) else record { a = true; b = true; c = true; d = true }) (uses (con0 file))
-    by-known (Known.Is value) is = covers-itself (uses value) (uses (con0 file)) (ap uses (agrees control0 value is))
-    by-known Known.Unknown is = record { a = λ used. refl; b = λ used. refl; c = λ used. refl; d = λ used. refl }
+    by-known : (held : Option ℕ) → known_at known control0 ≡ held
+        → Covers (if is_some held then uses (number held) else record { a = true; b = true; c = true; d = true }) (uses (con0 file))
+    by-known (Some value) is = covers-itself (uses value) (uses (con0 file)) (ap uses (agrees control0 value is))
+    by-known None is = record { a = λ used. refl; b = λ used. refl; c = λ used. refl; d = λ used. refl }
 
 -- what the blit writes back and what is forgotten
-agrees-of-forget_used : (known : List Known) (file : List ℕ) (may uses : Uses) (at : Pointers) (sources : Sources) → Covers may uses
+agrees-of-forget_used : (known : List (Option ℕ)) (file : List ℕ) (may uses : Uses) (at : Pointers) (sources : Sources) → Covers may uses
     → Agrees known file → Agrees (forget_used may known) (put_sources uses sources (put_pointers uses at file))
 unfolding forget_used put_sources put_pointers
 agrees-of-forget_used known file may uses at sources covers agrees =
@@ -60,21 +59,21 @@ agrees-of-forget_used known file may uses at sources covers agrees =
     (agrees-of-pointer _ _ may.b uses.b pointer_b at.b covers.b
     (agrees-of-pointer known file may.a uses.a pointer_a at.a covers.a agrees))))))
 
-forget_source-keeps-length : (used : Bool) (at : ℕ) (known : List Known) → length (forget_source used at known) ≡ length known
+forget_source-keeps-length : (used : Bool) (at : ℕ) (known : List (Option ℕ)) → length (forget_source used at known) ≡ length known
 unfolding forget_source
-forget_source-keeps-length true at known = length-set known at Known.Unknown
+forget_source-keeps-length true at known = length-set known at None
 forget_source-keeps-length false at known = refl
 
-forget_pointer-keeps-length : (used : Bool) (at : ℕ) (known : List Known) → length (forget_pointer used at known) ≡ length known
+forget_pointer-keeps-length : (used : Bool) (at : ℕ) (known : List (Option ℕ)) → length (forget_pointer used at known) ≡ length known
 unfolding forget_pointer
 forget_pointer-keeps-length true at known = simp length-set
 forget_pointer-keeps-length false at known = refl
 
-forget_used-keeps-length : (may : Uses) (known : List Known) → length (forget_used may known) ≡ length known
+forget_used-keeps-length : (may : Uses) (known : List (Option ℕ)) → length (forget_used may known) ≡ length known
 unfolding forget_used
 forget_used-keeps-length may known = simp (forget_source-keeps-length, forget_pointer-keeps-length)
 
-pub forgotten-keeps-length : (known : List Known) → length (forgotten known) ≡ length known
+pub forgotten-keeps-length : (known : List (Option ℕ)) → length (forgotten known) ≡ length known
 unfolding forgotten
 forgotten-keeps-length known = forget_used-keeps-length (may_use known) known
 
@@ -82,7 +81,7 @@ never : {Goal : Type 0} → ◌≡◌ {A = Bool} false true → Goal
 never wrong = let n : ◌≡◌ {A = ℕ} 0 1 = cc in absurd (omega arith)
 
 -- a blit that is refused writes nothing back
-agrees-of-nothing : (known : List Known) (file : List ℕ) (may : Uses) (at : Pointers) (sources : Sources)
+agrees-of-nothing : (known : List (Option ℕ)) (file : List ℕ) (may : Uses) (at : Pointers) (sources : Sources)
     → Agrees known file → Agrees (forget_used may known) file
 unfolding put_sources put_pointers put_source put_pointer
 agrees-of-nothing known file may at sources agrees =
@@ -90,7 +89,7 @@ agrees-of-nothing known file may at sources agrees =
     (record { a = never; b = never; c = never; d = never }) agrees
 
 -- a line writes A's low half and C's and D's pointers back, and no data register
-agrees-of-line : (known : List Known) (file : List ℕ) (may : Uses) (end : Drawn) → length known ≡ blitter_length
+agrees-of-line : (known : List (Option ℕ)) (file : List ℕ) (may : Uses) (end : Drawn) → length known ≡ blitter_length
     → may.a ≡ true → may.c ≡ true → may.d ≡ true
     → Agrees known file → Agrees (forget_used may known) (leave end file)
 unfolding forget_used leave put_flag put_pointer put_source
@@ -106,7 +105,7 @@ agrees-of-line known file may end long a c d agrees =
     (agrees-of-low known file may.a pointer_a end.dot.accumulator a agrees)))))))
 
 -- a kept blit, done or refused
-pub agrees-of-kept : (known : List Known) (memory file : List ℕ) (size : ℕ) → length known ≡ blitter_length
+pub agrees-of-kept : (known : List (Option ℕ)) (memory file : List ℕ) (size : ℕ) → length known ≡ blitter_length
     → Agrees known file → Agrees (forgotten known) (blit_step memory file size).file
 unfolding blit_step area_done line_done refused put_flag forgotten setup
 agrees-of-kept known memory file size long agrees =

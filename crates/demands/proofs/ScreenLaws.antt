@@ -1,6 +1,6 @@
 -- COPCON and the colours touch neither a blit nor the folder's knowledge: a blit reads and writes other places alone, and the
 -- knowledge ends before theirs.
-use Rattle.std.specs.Prelude.{if◌then◌else◌}
+use Rattle.std.specs.Prelude.{if◌then◌else◌, Some}
 use Rattle.word.proofs.Base.{◌≡◌, refl, ap, ◌∙◌, ℕ, ◌+◌, ◌<◌, ◌≤◌, arith, Bool, true, false, eqb, List, length, get_or}
 use Rattle.word.proofs.Base.{set, get_or-set_other, set_out}
 use lib.Dec.{lit<}
@@ -21,7 +21,6 @@ use Rattle.line.specs.Leave.{leave}
 use Rattle.refusal.specs.Refusal.{pointers_differ, step_refusal}
 use Rattle.round.specs.Round.{goes_round}
 use Rattle.blit.specs.Blit.{finished, drawn, area_done, line_done, done, refused, answered, blit_step}
-use Rattle.knowledge.specs.declared.types.Known.{Known}
 use Rattle.learning.specs.Learn.{written}
 use Rattle.folder.specs.Fold.{learned}
 use Rattle.demands.specs.ScreenTouchesNeither.{with_word, ScreenTouchesNeither}
@@ -195,5 +194,5 @@ screen-touches-neither =
           λ memory file size place word from to.
           ap (λ (number : ℕ). answered number memory (set file place word) size) (step_refusal-stays file place word from (length memory) size)
           ∙ answered-apart (step_refusal (length memory) file size) memory file size place word from to;
-      knowledge = λ n known place word long from. set_out known place (Known.Is (kept place word)) (omega (arith, long, from));
+      knowledge = λ n known place word long from. set_out known place (Some (kept place word)) (omega (arith, long, from));
     }

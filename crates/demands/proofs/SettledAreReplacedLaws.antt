@@ -1,5 +1,5 @@
 -- The steps of a folded job: a settled blit's words are whole steps, and any other step is its own.
-use Rattle.std.specs.Prelude.{if◌then◌else◌}
+use Rattle.std.specs.Prelude.{if◌then◌else◌, Option}
 use Rattle.word.proofs.Base.{◌≡◌, refl, sym, ap, subst, ◌∙◌, ℕ, ◌+◌, ◌<◌, arith, Bool, true, false, List, []}
 use Rattle.word.proofs.Base.{◌∷◌, ◌++◌, length}
 use Rattle.word.specs.declared.types.Pointer.{Pointer}
@@ -12,11 +12,10 @@ use Rattle.area.specs.Flow.{state, pointers, start}
 use Rattle.refusal.proofs.TouchLaws.{touches-stay}
 use Rattle.file.proofs.PointersLaws.{pointer_at-lt}
 use Rattle.job.specs.declared.types.Step.{Step}
-use Rattle.job.specs.Read.{Read}
+use Rattle.job.specs.Types.{Read}
 use Rattle.job.specs.Step.{operands, found, front}
 use Rattle.job.specs.Steps.{Placed, steps_from, steps}
 use Rattle.job.proofs.WellCutLaws.{is_step, faultless, well_cut}
-use Rattle.knowledge.specs.declared.types.Known.{Known}
 use Rattle.knowledge.specs.Knowledge.{nothing, numbers}
 use Rattle.stores.specs.Stores.{Store, stores, all_zero, final_d}
 use Rattle.stores.proofs.OnlyDLaws.{OnlyD}
@@ -71,7 +70,7 @@ whole-settled file size only =
     (whole-end (final_d file size) (all_zero (stores file size)))
 
 -- what one step becomes
-becomes-says : (n : ℕ) (known : List Known) (step : Step) (raw : List ℕ) → length raw ≡ 1 + operands step → front 0 raw ≡ found 0 step
+becomes-says : (n : ℕ) (known : List (Option ℕ)) (step : Step) (raw : List ℕ) → length raw ≡ 1 + operands step → front 0 raw ≡ found 0 step
     → Says (becomes n known step raw) (replaced n known step)
 unfolding becomes replaced
 becomes-says n known (Step.Register to value) raw long reads = says-step raw (Step.Register to value) long reads
@@ -86,7 +85,7 @@ becomes-says n known (Step.Size size) raw long reads = by-test (settled n known 
     by-test false keeps = says-step raw (Step.Size size) long reads
 
 -- what all of them become
-fold_steps-say : (n : ℕ) (job : List ℕ) (list : List Placed) → Good job list → (known : List Known)
+fold_steps-say : (n : ℕ) (job : List ℕ) (list : List Placed) → Good job list → (known : List (Option ℕ))
     → Says (fold_steps n known job list) (all_replaced n known (bare_steps list))
 unfolding Good fold_steps piece learned_after all_replaced bare_steps bare_step
 fold_steps-say n job [] good known = says_nothing

@@ -1,4 +1,5 @@
 -- Laws of a settled blit: the file of the known numbers agrees with the register file on all that the blit depends on.
+use Rattle.std.specs.Prelude.{Option}
 use Rattle.word.proofs.Base.{◌≡◌, refl, sym, ap, ◌∙◌, ℕ, ◌+◌, ◌*◌, ◌<◌, arith, Bool, true, false, ◌&&◌, ◌||◌, not, eqb, leb}
 use Rattle.word.proofs.Base.{eqb-true, not-true, List, length, get_or}
 use lib.Dec.{lit<}
@@ -14,16 +15,12 @@ use Rattle.round.specs.Round.{goes_round}
 use Rattle.blit.specs.Blit.{Outcome, area_done, line_done, refused, blit_step}
 use Rattle.blit.proofs.BlitLaws.{answered-either}
 use Rattle.depends.specs.Depends.{counts}
-use Rattle.knowledge.specs.declared.types.Known.{Known}
-use Rattle.knowledge.specs.Known.{number}
-use Rattle.knowledge.specs.Knowledge.{numbers}
-use Rattle.knowledge.proofs.KnownLaws.{known-is-number}
-use Rattle.knowledge.proofs.KnowledgeLaws.{numbers-at}
+use Rattle.knowledge.specs.Knowledge.{known_at, number, numbers}
+use Rattle.knowledge.proofs.KnowledgeLaws.{numbers-at, known-is-number}
 use Rattle.stores.proofs.OnlyDLaws.{OnlyD}
 use Rattle.settled.proofs.AgreeLaws.{Agree, goes_round-alike}
 use Rattle.settled.proofs.SettledLaws.{settled-is-otherwise, settled-never-goes-round}
 use Rattle.settled.proofs.WordsLaws.{area-of-only-d}
-use Rattle.learning.specs.Learn.{known_at}
 use Rattle.settled.specs.Settled.{has, controls_known, only_d_used, sources_known, otherwise_settled, settled}
 use Rattle.demands.specs.ALineIsNeverSettled.{ALineIsNeverSettled}
 use Rattle.demands.specs.ASettledBlitNeverGoesRound.{ASettledBlitNeverGoesRound}
@@ -35,14 +32,14 @@ asked true holds either needed = either
 asked false holds either needed = let n : ◌≡◌ {A = ℕ} 0 1 = cc in absurd (omega arith)
 
 -- a known register's number stands in the file
-pub known-agrees : (known : List Known) (file : List ℕ) (place : ℕ) → length known ≡ blitter_length → place < blitter_length → Agrees known file
+pub known-agrees : (known : List (Option ℕ)) (file : List ℕ) (place : ℕ) → length known ≡ blitter_length → place < blitter_length → Agrees known file
     → has known place ≡ true → get_or (numbers known) place 0 ≡ get_or file place 0
 unfolding Agrees
 known-agrees known file place long inside agrees is =
     numbers-at known place (omega (arith, long, inside))
     ∙ sym (agrees place (number (known_at known place)) (known-is-number (known_at known place) is))
 
-module _ (n : ℕ) (known : List Known) (size : ℕ) (holds : settled n known size ≡ true) where
+module _ (n : ℕ) (known : List (Option ℕ)) (size : ℕ) (holds : settled n known size ≡ true) where
   -- the conditions, one by one
   otherwise : otherwise_settled n known size ≡ true
   otherwise = settled-is-otherwise n known size holds

@@ -1,24 +1,23 @@
 -- Laws of the machine that a run stands on: after every step that is copied, what the folder knows agrees with its file.
-use Rattle.std.specs.Prelude.{Ok, Some}
+use Rattle.std.specs.Prelude.{Ok, Some, Option}
 use Rattle.word.proofs.Base.{◌≡◌, refl, sym, subst, ◌∙◌, ℕ, List, length, length-set}
 use Rattle.word.specs.Choice.{given}
 use Rattle.file.specs.File.{kept}
 use Rattle.file.specs.Places.{blitter_length, file_length}
 use Rattle.blit.specs.Blit.{Outcome, refused}
 use Rattle.job.specs.declared.types.Step.{Step}
-use Rattle.job.specs.Read.{Read}
+use Rattle.job.specs.Types.{Read}
 use Rattle.runner.specs.Effect.{store_outside, own_rules, taken, answered, step_effect, effect}
 use Rattle.runner.specs.Run.{Machine, after}
 use Rattle.runner.proofs.EffectLaws.{step_effect-either, step_effect-of-blit}
 use Rattle.runner.proofs.LengthLaws.{effect-keeps-memory-length, effect-keeps-file-length}
-use Rattle.knowledge.specs.declared.types.Known.{Known}
 use Rattle.learning.specs.Learn.{written, forgotten}
 use Rattle.folder.specs.Fold.{learned}
 use Rattle.demands.proofs.AgreesLaws.{Agrees, agrees-of-set, agrees-of-flag}
 use Rattle.demands.proofs.LearnLaws.{forgotten-keeps-length, agrees-of-kept}
 
 -- what a run has at a step of the machine that it stands on: memory of n words, a whole file, and knowledge that agrees with it
-pub record Stands (n : ℕ) (known : List Known) (before : Machine) : Type 0 where
+pub record Stands (n : ℕ) (known : List (Option ℕ)) (before : Machine) : Type 0 where
   pub memory : length before.memory ≡ n
   pub file : length before.file ≡ file_length
   pub long : length known ≡ blitter_length
@@ -30,8 +29,8 @@ store-keeps-file to value memory file =
     step_effect-either (λ (end : Outcome). end.file ≡ file) (Step.Store to value) memory file refl (λ number. refl)
 
 -- after a step that is copied, knowledge agrees
-module _ (n : ℕ) (known : List Known) (before : Machine) (stands : Stands n known before) where
-  pub after-lengths : (step : Step) (next : ℕ) (learned : List Known) → length learned ≡ blitter_length
+module _ (n : ℕ) (known : List (Option ℕ)) (before : Machine) (stands : Stands n known before) where
+  pub after-lengths : (step : Step) (next : ℕ) (learned : List (Option ℕ)) → length learned ≡ blitter_length
       → Agrees learned (step_effect step before.memory before.file).file
       → Stands n learned (after before (step_effect step before.memory before.file))
   unfolding effect

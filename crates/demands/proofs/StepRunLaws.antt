@@ -5,7 +5,7 @@ use Rattle.word.proofs.Base.{◌++◌, length, drop}
 use lib.Seq.{drop_at}
 use Rattle.blit.specs.Blit.{Outcome}
 use Rattle.job.specs.declared.types.Step.{Step}
-use Rattle.job.specs.Read.{Read}
+use Rattle.job.specs.Types.{Read}
 use Rattle.job.specs.Step.{operands, found, front}
 use Rattle.job.specs.Steps.{Placed, placed, behind, steps_from}
 use Rattle.job.proofs.StepLaws.{front-of-append}

@@ -1,9 +1,8 @@
 -- Paper 02, W7, of COPCON and the colours: "They touch neither a blit nor the folder's knowledge".
-use Rattle.std.specs.Prelude.{ℕ, ◌<◌, ◌≤◌, ◌≡◌, List, length, set}
+use Rattle.std.specs.Prelude.{ℕ, ◌<◌, ◌≤◌, ◌≡◌, List, length, set, Option}
 use Rattle.file.specs.Places.{blitter_length, copcon, flag}
 use Rattle.blit.specs.Blit.{Outcome, blit_step}
 use Rattle.job.specs.declared.types.Step.{Step}
-use Rattle.knowledge.specs.declared.types.Known.{Known}
 use Rattle.folder.specs.Fold.{learned}
 
 -- an outcome with one word of its register file replaced
@@ -24,7 +23,7 @@ pub record ScreenTouchesNeither : Type 0 where
       → copcon ≤ place
       → place < flag
       → blit_step memory (set file place word) size ≡ with_word place word (blit_step memory file size)
-  pub knowledge : (n : ℕ) (known : List Known) (place word : ℕ)
+  pub knowledge : (n : ℕ) (known : List (Option ℕ)) (place word : ℕ)
       → length known ≡ blitter_length
       → copcon ≤ place
       → learned n known (Step.Register place word) ≡ known

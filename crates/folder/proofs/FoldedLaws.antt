@@ -1,8 +1,9 @@
 -- Laws of the folding into a run, step by step: what is left of the job from a place on gives what the whole gives.
-use Rattle.std.specs.Prelude.{if◌then◌else◌, Some, None, Ok, Err}
-use Rattle.word.proofs.Base.{◌≡◌, refl, sym, ap, ap₂, ◌∙◌, ℕ, ◌+◌, ◌*◌, ◌<◌, ◌≤◌, zero-add, arith, Bool, true, false, ◌||◌}
-use Rattle.word.proofs.Base.{not, eqb, leb, ne_eqb, le-leb, lt-leb, List, [], ◌∷◌, ◌++◌, length, drop, length-append}
+use Rattle.std.specs.Prelude.{if◌then◌else◌, Option, Some, None, Ok, Err}
+use Rattle.word.proofs.Base.{◌≡◌, refl, sym, ap, ap₂, ◌∙◌, ℕ, ◌+◌, ◌-◌, ◌*◌, ◌<◌, ◌≤◌, zero-add, arith, Bool, true, false, ◌||◌}
+use Rattle.word.proofs.Base.{not, eqb, leb, ne_eqb, List, [], ◌∷◌, ◌++◌, length, take, drop, length-append, length-take-le}
 use mathlib.Core.Bool.{or-false, or_assoc}
+use lib.ListN.{length-drop}
 use mir.Val.{Fits}
 use mir.Syntax.{w32}
 use Rattle.word.specs.Choice.{given}
@@ -12,16 +13,15 @@ use Rattle.word.proofs.LaidLaws.{laid-of-append, laid-as-long}
 use Rattle.job.specs.declared.types.Refusal as jobs
 use Rattle.job.specs.Step as jobs-numbers
 use Rattle.job.specs.declared.types.Step.{Step}
-use Rattle.job.specs.Read.{Read}
+use Rattle.job.specs.Types.{Read}
 use Rattle.job.specs.Step.{operands, step_at, read_number}
 use Rattle.job.specs.Steps.{Placed, placed, steps_from, steps}
-use Rattle.job.proofs.StepLaws.{step_at-moves, step_at-next}
-use Rattle.job.proofs.StepsLaws.{steps-of-step, steps-of-refused, steps-of-end, steps-at-end, read_number-of-refused}
+use Rattle.job.proofs.StepLaws.{step_at-moves, step_at-next, read-step, read-end, read-inside}
+use Rattle.job.proofs.StepsLaws.{steps-of-step, steps-of-refused, steps-of-end, read_number-of-refused}
 use Rattle.job.specs.Length.{job_most}
-use Rattle.knowledge.specs.declared.types.Known.{Known}
 use Rattle.knowledge.specs.Knowledge.{nothing}
 use Rattle.folder.specs.declared.types.Refusal.{Refusal}
-use Rattle.folder.specs.declared.types.Answer.{Answer}
+use Rattle.folder.specs.Types.{Answer}
 use Rattle.folder.specs.Fold.{becomes, learned, raw_words, piece, learned_after, fold_steps, fold_from, fold}
 use Rattle.folder.specs.Kept.{keeps_there, keeps_some, kept_from, kept}
 use Rattle.folder.specs.Folding.{refused, done, too_long, by_step}
@@ -31,24 +31,22 @@ use Rattle.folder.specs.Inner.Folded.{Answers, Folded}
 -- the length tested last of all
 abbrev pub fitting : (words : ℕ) → (round : Bool) → (room : ℕ) → Answer
 fitting words round room =
-    if not (leb words room) || not (leb words job_most) then Answer.Refused Refusal.TooLong 0 else Answer.Done words round
+    if not (leb words room) || not (leb words job_most) then Err (record { why = Refusal.TooLong; place = 0 }) else Ok (record { length = words; round = round })
 
-pub fitting-beyond-room : (words : ℕ) (round : Bool) (room : ℕ) → room < words → Answer.Refused Refusal.TooLong 0 ≡ fitting words round room
-fitting-beyond-room words round room far = rw (lt-leb words room far)
-
-pub fitting-beyond-most : (words : ℕ) (round : Bool) (room : ℕ) → words ≤ room → job_most < words
-    → Answer.Refused Refusal.TooLong 0 ≡ fitting words round room
-fitting-beyond-most words round room inside far = rw (le-leb words room inside, lt-leb words job_most far)
-
-pub fitting-inside : (words : ℕ) (round : Bool) (room : ℕ) → words ≤ room → words ≤ job_most → Answer.Done words round ≡ fitting words round room
-fitting-inside words round room inside short = rw (le-leb words room inside, le-leb words job_most short)
+-- a step has two words at most after its first
+operands-few : (step : Step) → operands step ≤ 2
+unfolding operands
+operands-few (Step.Register place value) = omega arith
+operands-few (Step.Size size) = omega arith
+operands-few (Step.Store to value) = omega arith
+operands-few (Step.Flag value) = omega arith
 
 -- the steps of a job from a place on
 abbrev steps_at : (job : List ℕ) → (at : ℕ) → List Placed
 steps_at job at = steps_from 0 at (drop at job)
 
 -- how the folding stands at a place of the job and of the run; every word of the job has become at most 197
-pub record Stands (n : ℕ) (job out start : List ℕ) (known : List Known) (at from : ℕ) (round : Bool) (run : List ℕ) : Type 0 where
+pub record Stands (n : ℕ) (job out start : List ℕ) (known : List (Option ℕ)) (at from : ℕ) (round : Bool) (run : List ℕ) : Type 0 where
   pub lays : laid (fold_steps n known job (steps_at job from)) at run ≡ laid (fold n job) 0 start
   pub counts : at + length (fold_steps n known job (steps_at job from)) ≡ length (fold n job)
   pub keeps : (round || keeps_some n known (steps_at job from)) ≡ kept n job
@@ -57,7 +55,7 @@ pub record Stands (n : ℕ) (job out start : List ℕ) (known : List Known) (at 
   pub inside : from ≤ length job
   pub long : length run ≡ length start
 
-pub stands-start : (n : ℕ) (job out run : List ℕ) (known : List Known) → known ≡ nothing → Stands n job out run known 0 0 false run
+pub stands-start : (n : ℕ) (job out run : List ℕ) (known : List (Option ℕ)) → known ≡ nothing → Stands n job out run known 0 0 false run
 unfolding fold fold_from kept kept_from
 stands-start n job out run known same =
     record {
@@ -70,7 +68,7 @@ stands-start n job out run known same =
       long = refl;
     }
 
-module _ (n : ℕ) (job out start : List ℕ) (known : List Known) (at from : ℕ) (round : Bool) (run : List ℕ)
+module _ (n : ℕ) (job out start : List ℕ) (known : List (Option ℕ)) (at from : ℕ) (round : Bool) (run : List ℕ)
     (stands : Stands n job out start known at from round run) where
   -- the end of the list
   at_last : (answer : Answer) → steps_at job from ≡ [] → answer ≡ fitting at round (length out) → Folded n job out start answer run
@@ -93,7 +91,7 @@ module _ (n : ℕ) (job out start : List ℕ) (known : List Known) (at from : �
       long = not (leb (length (fold n job)) job_most)
 
       by-test : (over : Bool) → far || long ≡ over
-          → Answers (if over then Answer.Refused Refusal.TooLong 0 else Answer.Done (length (fold n job)) (kept n job)) (fold n job) out
+          → Answers (if over then Err (record { why = Refusal.TooLong; place = 0 }) else Ok (record { length = length (fold n job); round = kept n job })) (fold n job) out
           (if over then refused 11 0 out else done (fold n job) (kept n job) out)
       by-test true is = refl
       by-test false is = (
@@ -105,18 +103,16 @@ module _ (n : ℕ) (job out start : List ℕ) (known : List Known) (at from : �
         refl,
       )
 
-  pub folded-at-end : (answer : Answer) → length job ≤ from → answer ≡ fitting at round (length out) → Folded n job out start answer run
-  folded-at-end answer past fits = at_last answer (steps-at-end job from past) fits
-
   pub room-to-put : length job ≤ job_most → at < 1000000
   room-to-put short = let few = stands.few in let inside = stands.inside in omega arith
 
   module _ (read : Read) (reads : read ≡ step_at job from) where
-    pub folded-of-end : (answer : Answer) → read ≡ Ok None → answer ≡ fitting at round (length out) → Folded n job out start answer run
-    folded-of-end answer same fits = at_last answer (steps-of-end job from (sym reads ∙ same)) fits
+    pub folded-of-end : (found : Option (Step × ℕ)) (answer : Answer) → read ≡ Ok found → found ≡ None → answer ≡ fitting at round (length out)
+        → Folded n job out start answer run
+    folded-of-end found answer is same fits = at_last answer (steps-of-end job from (read-end job from read reads found is same)) fits
 
     -- what is no step is refused with its own number, at its place, and becomes nothing
-    pub folded-of-fault : (why : jobs.Refusal) → read ≡ Err why → Folded n job out start (Answer.Refused (Refusal.Step why) from) run
+    pub folded-of-fault : (why : jobs.Refusal) → read ≡ Err why → Folded n job out start (Err (record { why = Refusal.Step why; place = from })) run
     unfolding by_step read_number given fold_steps piece laid Answers
     folded-of-fault why same =
         let alone = steps-of-refused job from why (sym reads ∙ same) in
@@ -128,25 +124,37 @@ module _ (n : ℕ) (job out start : List ℕ) (known : List Known) (at from : �
           lays = sym (ap (λ (list : List Placed). laid (fold_steps n known job list) at run) alone) ∙ stands.lays;
         }
 
-    module _ (step : Step) (next : ℕ) (same : read ≡ Ok (Some (step, next))) where
-      pub step-inside : from + (1 + operands step) ≤ length job
-      step-inside =
-          let past = step_at-next job from step next (sym reads ∙ same) in
-          let inside = (step_at-moves job from step next (sym reads ∙ same)).1 in
-          omega arith
+    module _ (found : Option (Step × ℕ)) (is : read ≡ Ok found) (step : Step) (next : ℕ) (same : found ≡ Some (step, next)) where
+      -- the step's own words
+      pub raw-few : length (take (next - from) (drop from job)) ≤ 3
+      raw-few =
+          let past = step_at-next job from step next (read-step job from read reads found is step next same) in
+          let inside = read-inside job from read reads found is step next same in
+          let few = operands-few step in
+          omega (arith, length-take-le (next - from) (drop from job) (omega (arith, length-drop from job)))
+
+      raw-of-step : take (next - from) (drop from job) ≡ raw_words job from step
+      raw-of-step =
+          let past = step_at-next job from step next (read-step job from read reads found is step next same) in
+          let many : next - from ≡ 1 + operands step = omega arith in
+          ap (λ (count : ℕ). take count (drop from job)) many
 
       -- a step passed
-      module _ (more : ℕ) (after : List Known) (here : Bool) (later : List ℕ)
-          (put : Put n known step (raw_words job from step) at run later more after here) where
+      module _ (more : ℕ) (after : List (Option ℕ)) (here : Bool) (later : List ℕ)
+          (laying : Put n known step (take (next - from) (drop from job)) at run later more after here) where
+        put : Put n known step (raw_words job from step) at run later more after here
+        put = rw raw-of-step at laying
+
         pub stands-turn : Stands n job out start after (at + more) next (round || here) later
         unfolding by_step read_number given fold_steps piece learned_after keeps_some keeps_there
         stands-turn =
-            let first = steps-of-step job from step next (sym reads ∙ same) in
-            let on = step_at-moves job from step next (sym reads ∙ same) in
+            let reads-step = read-step job from read reads found is step next same in
+            let first = steps-of-step job from step next reads-step in
+            let on = step_at-moves job from step next reads-step in
             let words : List ℕ = becomes n known step (raw_words job from step) in
             let rest : List ℕ = fold_steps n (learned n known step) job (steps_at job next) in
             let split : fold_steps n known job (steps_at job from) ≡ words ++ rest = ap (λ (list : List Placed). fold_steps n known job list) first in
-            let learns : fold_steps n after job (steps_at job next) ≡ rest = ap (λ (k : List Known). fold_steps n k job (steps_at job next)) put.learns in
+            let learns : fold_steps n after job (steps_at job next) ≡ rest = ap (λ (k : List (Option ℕ)). fold_steps n k job (steps_at job next)) put.learns in
             let joined = ap length split ∙ length-append words rest in
             let so_far = stands.counts in
             let counts = put.counts in
@@ -164,7 +172,7 @@ module _ (n : ℕ) (job out start : List ℕ) (known : List Known) (at from : �
               counts = omega arith;
               keeps =
                   or_assoc round here (keeps_some n after (steps_at job next))
-                  ∙ ap₂ (λ (yes : Bool) (k : List Known). round || (yes || keeps_some n k (steps_at job next))) put.keeps put.learns
+                  ∙ ap₂ (λ (yes : Bool) (k : List (Option ℕ)). round || (yes || keeps_some n k (steps_at job next))) put.keeps put.learns
                   ∙ sym (ap (λ (list : List Placed). round || keeps_some n known list) first)
                   ∙ stands.keeps;
               gives = sym (ap (λ (list : List Placed). by_step (fold n job) (kept n job) out list) first) ∙ stands.gives;

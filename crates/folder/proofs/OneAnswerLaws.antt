@@ -1,9 +1,9 @@
 -- The number of a refusal tells it from all others, and is never 0: what an answer leaves tells the answer.
-use Rattle.std.specs.Prelude.{if◌then◌else◌}
-use Rattle.word.proofs.Base.{◌≡◌, refl, sym, ap, ap₂, ◌∙◌, ℕ, eqb, List}
+use Rattle.std.specs.Prelude.{if◌then◌else◌, Ok, Err}
+use Rattle.word.proofs.Base.{◌≡◌, refl, sym, ap, ◌∙◌, ℕ, eqb, List}
 use Rattle.job.specs.declared.types.Refusal as jobs
 use Rattle.folder.specs.declared.types.Refusal.{Refusal}
-use Rattle.folder.specs.declared.types.Answer.{Answer}
+use Rattle.folder.specs.Types.{Answer}
 use Rattle.folder.specs.Folding.{Folding}
 use Rattle.folder.specs.Answer.{refusal_number, left}
 use Rattle.folder.specs.OneAnswer.{OneAnswer}
@@ -32,16 +32,18 @@ pub refusal_number-is-unique : (one other : Refusal) → refusal_number one ≡ 
 refusal_number-is-unique one other same = sym (numbered-of-number one) ∙ ap numbered same ∙ numbered-of-number other
 
 pub answer-is-unique : (one other : Answer) (out others : List ℕ) → left one out ≡ left other others → one ≡ other
-answer-is-unique (Answer.Done words round) (Answer.Done more told) out others same =
-    ap₂ Answer.Done (ap (λ (end : Folding). end.long) same) (ap (λ (end : Folding). end.round) same)
-answer-is-unique (Answer.Done words round) (Answer.Refused why place) out others same =
-    absurd (refusal_number-positive why (sym (ap (λ (end : Folding). end.number) same)))
-answer-is-unique (Answer.Refused why place) (Answer.Done words round) out others same =
-    absurd (refusal_number-positive why (ap (λ (end : Folding). end.number) same))
-answer-is-unique (Answer.Refused why place) (Answer.Refused reason at) out others same =
-    let reasons : why ≡ reason = refusal_number-is-unique why reason (ap (λ (end : Folding). end.number) same) in
-    let places : place ≡ at = ap (λ (end : Folding). end.place) same in
-    rw (reasons, places)
+answer-is-unique (Ok one) (Ok other) out others same =
+    let lengths : one.length ≡ other.length = ap (λ (end : Folding). end.long) same in
+    let rounds : one.round ≡ other.round = ap (λ (end : Folding). end.round) same in
+    λ i. Ok (record { length = lengths i; round = rounds i })
+answer-is-unique (Ok done) (Err stopped) out others same =
+    absurd (refusal_number-positive stopped.why (sym (ap (λ (end : Folding). end.number) same)))
+answer-is-unique (Err stopped) (Ok done) out others same =
+    absurd (refusal_number-positive stopped.why (ap (λ (end : Folding). end.number) same))
+answer-is-unique (Err one) (Err other) out others same =
+    let reasons : one.why ≡ other.why = refusal_number-is-unique one.why other.why (ap (λ (end : Folding). end.number) same) in
+    let places : one.place ≡ other.place = ap (λ (end : Folding). end.place) same in
+    λ i. Err (record { why = reasons i; place = places i })
 
 pub one_answer : OneAnswer
 one_answer n job out first second promise again =

@@ -1,4 +1,5 @@
 -- Laws of a step laid: what it becomes, how many words those are, and what is known after it.
+use Rattle.std.specs.Prelude.{Option}
 use Rattle.word.proofs.Base.{◌≡◌, refl, sym, ap, ◌∙◌, ℕ, ◌+◌, ◌*◌, ◌≤◌, arith, Bool, true, false, ◌&&◌, eqb, leb}
 use Rattle.word.proofs.Base.{leb-true, List, length, take, drop, length-append, length-take-le}
 use mir.Val.{Fits}
@@ -17,7 +18,6 @@ use Rattle.stores.specs.Stores.{stores, final_d}
 use Rattle.stores.proofs.StoresLaws.{stores-length}
 use Rattle.settled.specs.Words.{stores_words, settled_words}
 use Rattle.settled.proofs.RunLaws.{stores_words-length}
-use Rattle.knowledge.specs.declared.types.Known.{Known}
 use Rattle.knowledge.specs.Knowledge.{numbers}
 use Rattle.learning.specs.Learn.{written, moved_d}
 use Rattle.refusal.specs.Refusal.{step_refusal}
@@ -48,19 +48,16 @@ module _ (size rows words : ℕ) (tall : rows ≡ height size) (wide : words ≡
   settled-length-of-parts = rw (tall, wide)
 
 -- a settled blit laid, and what is known after it
-module _ (size : ℕ) (known : List Known) (file : List ℕ) (same : file ≡ numbers known) where
+module _ (size : ℕ) (known : List (Option ℕ)) (file : List ℕ) (same : file ≡ numbers known) where
   pub put-blit-of-parts : (at : ℕ) (run next : List ℕ) → next ≡ laid (settled_words file size) at run → next ≡ laid (settled_words (numbers known) size) at run
   put-blit-of-parts at run next lays = rw same at lays
 
-  pub settled-known-of-parts : (after : List Known) (end : Pointer) → end ≡ final_d file size → after ≡ moved_d end known
+  pub settled-known-of-parts : (after : List (Option ℕ)) (end : Pointer) → end ≡ final_d file size → after ≡ moved_d end known
       → after ≡ moved_d (final_d (numbers known) size) known
   settled-known-of-parts after end ends moves = rw (ends ∙ ap (λ (f : List ℕ). final_d f size) same) at moves
 
-copied-length : (count from : ℕ) (job : List ℕ) → from + count ≤ length job → count ≡ length (take count (drop from job))
-copied-length count from job inside = sym (length-take-le count (drop from job) (omega (arith, length-drop from job)))
-
 -- a 058, settled or kept
-module _ (n size : ℕ) (known : List Known) (told : Fate) (is : told ≡ fate n known size) where
+module _ (n size : ℕ) (known : List (Option ℕ)) (told : Fate) (is : told ≡ fate n known size) where
   -- a settled blit has at most 64 words
   pub few-when-settled : told ≡ Fate.Settled → height size * width size ≤ 64
   unfolding otherwise_settled
@@ -72,10 +69,10 @@ module _ (n size : ℕ) (known : List Known) (told : Fate) (is : told ≡ fate n
       (and_left (before && small) (sources_known (function (con0 (numbers known))) known)
       (settled-is-otherwise n known size (fate-settled n size known told is same))))
 
-  module _ (at from : ℕ) (job run next : List ℕ) (long : ℕ) (after : List Known) where
+  module _ (at : ℕ) (raw run next : List ℕ) (long : ℕ) (after : List (Option ℕ)) where
     pub put-when-settled : told ≡ Fate.Settled → next ≡ laid (settled_words (numbers known) size) at run
         → long ≡ 3 * (height size * width size) + 5 → after ≡ moved_d (final_d (numbers known) size) known
-        → Put n known (Step.Size size) (take 2 (drop from job)) at run next long after false
+        → Put n known (Step.Size size) raw at run next long after false
     unfolding becomes learned keeps_for_round
     put-when-settled same lays counts moves =
         let holds = fate-settled n size known told is same in
@@ -89,72 +86,51 @@ module _ (n size : ℕ) (known : List Known) (told : Fate) (is : told ≡ fate n
         }
 
     -- kept, and the yes it is kept with
-    put-when-not : (says round : Bool) → settled n known size ≡ false → kept_for_round n known size ≡ says → from + 2 ≤ length job
-        → Kept known (take 2 (drop from job)) at says run next long after round
-        → Put n known (Step.Size size) (take 2 (drop from job)) at run next long after round
+    put-when-not : (says round : Bool) → settled n known size ≡ false → kept_for_round n known size ≡ says → length raw ≤ 3
+        → Kept known raw at says run next long after round
+        → Put n known (Step.Size size) raw at run next long after round
     unfolding becomes learned keeps_for_round
     put-when-not says round fails tells inside put =
         let counts = put.counts in
         record {
           lays = rw fails put.lays;
-          counts = rw fails (put.counts ∙ copied-length 2 from job inside);
+          counts = rw fails put.counts;
           few = omega arith;
           learns = rw fails put.learns;
           keeps = put.keeps ∙ sym tells;
         }
 
-    pub put-when-round : (round : Bool) → told ≡ Fate.KeptForRound → from + 2 ≤ length job
-        → Kept known (take 2 (drop from job)) at true run next long after round
-        → Put n known (Step.Size size) (take 2 (drop from job)) at run next long after round
+    pub put-when-round : (round : Bool) → told ≡ Fate.KeptForRound → length raw ≤ 3
+        → Kept known raw at true run next long after round
+        → Put n known (Step.Size size) raw at run next long after round
     put-when-round round same inside put =
         let tells = fate-round n size known told is same in put-when-not true round tells.0 tells.1 inside put
 
-    pub put-when-kept : (round : Bool) → told ≡ Fate.Kept → from + 2 ≤ length job
-        → Kept known (take 2 (drop from job)) at false run next long after round
-        → Put n known (Step.Size size) (take 2 (drop from job)) at run next long after round
+    pub put-when-kept : (round : Bool) → told ≡ Fate.Kept → length raw ≤ 3
+        → Kept known raw at false run next long after round
+        → Put n known (Step.Size size) raw at run next long after round
     put-when-kept round same inside put =
         let tells = fate-kept n size known told is same in put-when-not false round tells.0 tells.1 inside put
 
 -- a step by its kind
-module _ (n at from : ℕ) (known : List Known) (job run next : List ℕ) (step : Step) (inside : from + (1 + operands step) ≤ length job) where
-  pub put-of-register : (place value : ℕ) (after : List Known) → step ≡ Step.Register place value
-      → next ≡ laid (take 2 (drop from job)) at run → after ≡ written place value known
-      → Put n known step (raw_words job from step) at run next 2 after false
-  unfolding becomes learned keeps_for_round operands
-  put-of-register place value after same lays writes =
-      rw same (record { lays = lays; counts = copied-length 2 from job (rw same at inside); few = omega arith; learns = writes; keeps = refl })
+module _ (n at : ℕ) (known : List (Option ℕ)) (raw run next : List ℕ) (step : Step) (long : ℕ) (after : List (Option ℕ)) (round : Bool) where
+  pub put-of-size : (size : ℕ) → step ≡ Step.Size size → Put n known (Step.Size size) raw at run next long after round
+      → Put n known step raw at run next long after round
+  put-of-size size same put = rw same put
 
-  pub put-of-size : (size long : ℕ) (after : List Known) (round : Bool) → step ≡ Step.Size size
-      → Put n known (Step.Size size) (take 2 (drop from job)) at run next long after round
-      → Put n known step (raw_words job from step) at run next long after round
-  unfolding operands
-  put-of-size size long after round same put = rw same put
+  module _ (inside : length raw ≤ 3) (lays : next ≡ laid raw at run) (counts : long ≡ length raw) (no : round ≡ false) where
+    pub put-of-register : (place value : ℕ) → step ≡ Step.Register place value → after ≡ written place value known
+        → Put n known step raw at run next long after round
+    unfolding becomes learned keeps_for_round
+    put-of-register place value same writes =
+        rw same (record { lays = lays; counts = counts; few = omega arith; learns = writes; keeps = no })
 
-  pub put-of-store : (to value : ℕ) → step ≡ Step.Store to value → next ≡ laid (take 3 (drop from job)) at run
-      → Put n known step (raw_words job from step) at run next 3 known false
-  unfolding becomes learned keeps_for_round operands
-  put-of-store to value same lays =
-      rw same (record { lays = lays; counts = copied-length 3 from job (rw same at inside); few = omega arith; learns = refl; keeps = refl })
+    pub put-of-store : (to value : ℕ) → step ≡ Step.Store to value → after ≡ known → Put n known step raw at run next long after round
+    unfolding becomes learned keeps_for_round
+    put-of-store to value same stays =
+        rw same (record { lays = lays; counts = counts; few = omega arith; learns = stays; keeps = no })
 
-  pub put-of-flag : (value : ℕ) → step ≡ Step.Flag value → next ≡ laid (take 1 (drop from job)) at run
-      → Put n known step (raw_words job from step) at run next 1 known false
-  unfolding becomes learned keeps_for_round operands
-  put-of-flag value same lays =
-      rw same (record { lays = lays; counts = copied-length 1 from job (rw same at inside); few = omega arith; learns = refl; keeps = refl })
-
-module _ (from long : ℕ) (step : Step) (inside : from + (1 + operands step) ≤ long) where
-  pub inside-of-register : (place value : ℕ) → step ≡ Step.Register place value → from + 2 ≤ long
-  unfolding operands
-  inside-of-register place value same = rw same at inside
-
-  pub inside-of-size : (size : ℕ) → step ≡ Step.Size size → from + 2 ≤ long
-  unfolding operands
-  inside-of-size size same = rw same at inside
-
-  pub inside-of-store : (to value : ℕ) → step ≡ Step.Store to value → from + 3 ≤ long
-  unfolding operands
-  inside-of-store to value same = rw same at inside
-
-  pub inside-of-flag : (value : ℕ) → step ≡ Step.Flag value → from + 1 ≤ long
-  unfolding operands
-  inside-of-flag value same = rw same at inside
+    pub put-of-flag : (value : ℕ) → step ≡ Step.Flag value → after ≡ known → Put n known step raw at run next long after round
+    unfolding becomes learned keeps_for_round
+    put-of-flag value same stays =
+        rw same (record { lays = lays; counts = counts; few = omega arith; learns = stays; keeps = no })

@@ -1,8 +1,8 @@
 -- Paper 01, "Numbers given back": the paper's number, place and length for each case; 4, 5 and 6 are the job's of an answer.
-use Rattle.std.specs.Prelude.{ℕ, Bool, false, List}
+use Rattle.std.specs.Prelude.{ℕ, Bool, false, List, Ok, Err}
 use Rattle.job.specs.Step as jobs
 use Rattle.folder.specs.declared.types.Refusal.{Refusal}
-use Rattle.folder.specs.declared.types.Answer.{Answer}
+use Rattle.folder.specs.Types.{Answer}
 use Rattle.folder.specs.Folding.{Folding}
 
 abbrev pub refusal_number : Refusal → ℕ
@@ -12,20 +12,20 @@ refusal_number (Refusal.Step why) = jobs.refusal_number why
 refusal_number Refusal.TooLong = 11
 
 abbrev pub answer_number : Answer → ℕ
-answer_number (Answer.Done long round) = 0
-answer_number (Answer.Refused why place) = refusal_number why
+answer_number (Ok done) = 0
+answer_number (Err stopped) = refusal_number stopped.why
 
 abbrev pub answer_place : Answer → ℕ
-answer_place (Answer.Done long round) = 0
-answer_place (Answer.Refused why place) = place
+answer_place (Ok done) = 0
+answer_place (Err stopped) = stopped.place
 
 abbrev pub answer_long : Answer → ℕ
-answer_long (Answer.Done long round) = long
-answer_long (Answer.Refused why place) = 0
+answer_long (Ok done) = done.length
+answer_long (Err stopped) = 0
 
 abbrev pub answer_round : Answer → Bool
-answer_round (Answer.Done long round) = round
-answer_round (Answer.Refused why place) = false
+answer_round (Ok done) = done.round
+answer_round (Err stopped) = false
 
 -- an answer, and what the output run holds as it is given
 abbrev pub left : Answer → (out : List ℕ) → Folding

@@ -1,6 +1,6 @@
 -- Paper 01, "What each answer commits to": "Show that two answers meeting it are equal".
 use Rattle.std.specs.Prelude.{ℕ, ◌≡◌, List}
-use Rattle.folder.specs.declared.types.Answer.{Answer}
+use Rattle.folder.specs.Types.{Answer}
 use Rattle.folder.specs.Folding.{folding}
 use Rattle.folder.specs.Answer.{left}
 

@@ -4,14 +4,16 @@ ghost use Rattle.folder.specs.Answer.{refusal_number, answer_number, answer_plac
 
 use crate::types::{Answer, Refusal};
 
-fn refusal_number(why: Refusal) -> u32
-    ensures { result ≡ refusal_number why }
-{
-    match why {
-        Refusal::MemorySize => 1,
-        Refusal::JobLength => 3,
-        Refusal::Step(reason) => job::number::refusal_number(reason),
-        Refusal::TooLong => 11,
+impl Refusal {
+    pub fn number(self) -> u32
+        ensures { result ≡ refusal_number self }
+    {
+        match self {
+            Refusal::MemorySize => 1,
+            Refusal::JobLength => 3,
+            Refusal::Step(why) => why.number(),
+            Refusal::TooLong => 11,
+        }
     }
 }
 
@@ -19,8 +21,8 @@ pub fn number(answer: Answer) -> u32
     ensures { result ≡ answer_number answer }
 {
     match answer {
-        Answer::Done(_, _) => 0,
-        Answer::Refused(why, _) => refusal_number(why),
+        Ok(_) => 0,
+        Err(stopped) => stopped.why.number(),
     }
 }
 
@@ -28,8 +30,8 @@ pub fn place(answer: Answer) -> usize
     ensures { result ≡ answer_place answer }
 {
     match answer {
-        Answer::Done(_, _) => 0,
-        Answer::Refused(_, place) => place,
+        Ok(_) => 0,
+        Err(stopped) => stopped.place,
     }
 }
 
@@ -37,8 +39,8 @@ pub fn length(answer: Answer) -> usize
     ensures { result ≡ answer_long answer }
 {
     match answer {
-        Answer::Done(long, _) => long,
-        Answer::Refused(_, _) => 0,
+        Ok(done) => done.length,
+        Err(_) => 0,
     }
 }
 
@@ -47,7 +49,7 @@ pub fn round(answer: Answer) -> bool
     ensures { result ≡ answer_round answer }
 {
     match answer {
-        Answer::Done(_, round) => round,
-        Answer::Refused(_, _) => false,
+        Ok(done) => done.round,
+        Err(_) => false,
     }
 }

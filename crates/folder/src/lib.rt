@@ -6,11 +6,18 @@ pub mod theorems;
 pub mod types;
 mod write;
 
-ghost use Rattle.std.specs.Prelude.{◌≡◌};
+ghost use Rattle.std.specs.Prelude.{◌≡◌, Err};
 ghost use Rattle.folder.specs.Folding.{folding};
 ghost use Rattle.folder.specs.Answer.{left};
 
-use crate::types::{Answer, Refusal};
+use crate::types::{Answer, Refusal, Stopped};
+
+// What is refused before the first step.
+fn unstarted(why: Refusal) -> Answer
+    ensures { result ≡ Err (record { why = why; place = 0 }) }
+{
+    Err(Stopped { why, place: 0 })
+}
 
 // Folds a job for n words of memory into an output run. A refusal leaves the output as it was.
 // The folded job ends exactly as its original: `DemandThree` and `SettledAreReplaced`, in the crate `demands`.
@@ -19,18 +26,15 @@ pub fn fold(n: usize, job: &[u16], out: &mut [u16]) -> Answer
         ≡ folding n job.now out.old }
 {
     if word::memory::memory_size(n) {
-        return Answer::Refused(Refusal::MemorySize, 0);
+        return unstarted(Refusal::MemorySize);
     }
     if job::length::job_length(job) {
-        return Answer::Refused(Refusal::JobLength, 0);
+        return unstarted(Refusal::JobLength);
     }
     let mut run = [0u16; job::length::JOB_MOST];
     let answer = crate::write::folded(n, job, out, &mut run);
-    match answer {
-        Answer::Done(long, round) => {
-            crate::write::hand_out(&run, long, out);
-            Answer::Done(long, round)
-        }
-        Answer::Refused(why, place) => Answer::Refused(why, place),
+    if let Ok(done) = answer {
+        crate::write::hand_out(&run, done.length, out);
     }
+    answer
 }

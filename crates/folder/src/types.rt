@@ -1,5 +1,4 @@
 // The types that the answers of a folding speak of.
-use knowledge::types::Knowledge;
 
 // Why a folding is refused, in the order of the paper: memory, the job's length, what is no step, and a folded job that
 // is too long.
@@ -11,19 +10,26 @@ pub enum Refusal {
     TooLong,
 }
 
-// What a folding answers: done with the length of the folded job and whether a blit was kept for going round alone, or
-// refused, with the place of the refused step.
+// What a folding that is done answers: the length of the folded job, and whether a blit was kept for going round alone.
 #[derive(Clone, Copy)]
-pub enum Answer {
-    Done(usize, bool),
-    Refused(Refusal, usize),
+pub struct Done {
+    pub length: usize,
+    pub round: bool,
 }
 
-// What is left of a step: how many words it became, what is known after it, and whether it is a blit that was kept for
-// going round alone.
+// What a refused folding answers: why, and the place of the refused step.
+#[derive(Clone, Copy)]
+pub struct Stopped {
+    pub why: Refusal,
+    pub place: usize,
+}
+
+// What a folding answers.
+pub type Answer = Result<Done, Stopped>;
+
+// What is left of a step: how many words it became, and whether it is a blit that was kept for going round alone.
 #[derive(Clone, Copy)]
 pub struct Piece {
     pub long: u32,
-    pub known: Knowledge,
     pub round: bool,
 }

@@ -1,5 +1,5 @@
 // The folded job laid into a run of our own, from its front on, and handed out.
-ghost use Rattle.std.specs.Prelude.{◌≡◌, not, ◌||◌, ◌++◌, ◌+◌, ◌*◌, ◌<◌, ◌≤◌, leb, length, take, drop, if◌then◌else◌};
+ghost use Rattle.std.specs.Prelude.{◌≡◌, Ok, Err, false, not, ◌||◌, ◌+◌, ◌*◌, ◌<◌, ◌≤◌, leb, length, take, drop, ◌++◌, if◌then◌else◌};
 ghost use Rattle.word.specs.Laid.{laid};
 ghost use Rattle.word.specs.Size.{height, width};
 ghost use Rattle.job.specs.declared.types.Step as steps;
@@ -7,16 +7,14 @@ ghost use Rattle.job.specs.Step.{operands};
 ghost use Rattle.job.specs.Length.{job_most};
 ghost use Rattle.stores.specs.Stores.{final_d};
 ghost use Rattle.settled.specs.Words.{settled_words};
-ghost use Rattle.knowledge.specs.Knowledge.{listed, numbers};
+ghost use Rattle.knowledge.specs.Knowledge.{numbers};
 ghost use Rattle.learning.specs.Learn.{moved_d};
-ghost use Rattle.folder.specs.Fold.{raw_words};
 ghost use Rattle.folder.specs.Inner.Put.{Put, Kept};
 ghost use Rattle.folder.specs.Inner.Folded.{Folded};
 ghost use Rattle.folder.specs.declared.types.Refusal.TheVariants.{TooLong};
-ghost use Rattle.folder.specs.declared.types.Answer.TheVariants.{Done, Refused};
 
-use crate::types::{Answer, Piece, Refusal};
-use job::types::{Read, Step};
+use crate::types::{Answer, Done, Piece, Refusal, Stopped};
+use job::types::Step;
 use knowledge::types::Knowledge;
 use settled::types::Fate;
 
@@ -24,129 +22,103 @@ use settled::types::Fate;
 fn settled_length(size: u16) -> u32
     ensures { result ≡ 3 * (height size * width size) + 5 }
 {
-    let height = word::size::height(size);
-    let width = word::size::width(size);
-    3 * (height * width) + 5
+    3 * (word::size::height(size) * word::size::width(size)) + 5
 }
 
-// Lays a settled blit, and answers what is known after it.
-fn put_blit(run: &mut [u16], at: u32, known: Knowledge, size: u16) -> Knowledge
+// Lays a settled blit.
+fn put_blit(run: &mut [u16], at: u32, known: &mut Knowledge, size: u16)
     requires { (at < 1000000) × (height size * width size ≤ 64) }
-    ensures { (run.new ≡ laid (settled_words (numbers (listed known)) size) at run.old)
-        × (listed result ≡ moved_d (final_d (numbers (listed known)) size) (listed known)) }
+    ensures { (run.new ≡ laid (settled_words (numbers known.old.registers) size) at run.old)
+        × (known.new.registers ≡ moved_d (final_d (numbers known.old.registers) size) known.old.registers) }
 {
     let file = known.numbers();
     let end = output::words::put_settled(run, at, &file, size);
-    learning::moved_d(known, end)
+    learning::moved_d(known, end);
 }
 
-// Copies a blit that is kept, for going round alone or not, and answers what is known after it.
-fn put_kept(
-    run: &mut [u16],
-    at: u32,
-    known: Knowledge,
-    job: &[u16],
-    from: usize,
-    round: bool,
-) -> Piece
-    requires { (at < 1000000) × (from + 2 ≤ length job.now) }
-    ensures { Kept (listed known) (take 2 (drop from job.now)) at round
-        run.old run.new result.long (listed result.known) result.round }
+// Copies a step's own words.
+fn put_raw(run: &mut [u16], at: u32, raw: &[u16]) -> Piece
+    requires { (at < 1000000) × (length raw.now ≤ 3) }
+    ensures { (run.new ≡ laid raw.now at run.old) × (result.long ≡ length raw.now) × (result.round ≡ false) }
 {
-    output::put::put_copied(run, at, job, from, 2);
-    let after = learning::forgotten(known);
-    Piece {
-        long: 2,
-        known: after,
-        round,
-    }
+    let long = raw.len() as u32;
+    output::put::put_copied(run, at, raw, 0, long);
+    Piece { long, round: false }
+}
+
+// Copies a blit that is kept, for going round alone or not.
+fn put_kept(run: &mut [u16], at: u32, known: &mut Knowledge, raw: &[u16], round: bool) -> Piece
+    requires { (at < 1000000) × (length raw.now ≤ 3) }
+    ensures { Kept known.old.registers raw.now at round
+        run.old run.new result.long known.new.registers result.round }
+{
+    let piece = put_raw(run, at, raw);
+    learning::forgotten(known);
+    Piece { round, ..piece }
 }
 
 fn put_size(
     run: &mut [u16],
     at: u32,
     n: usize,
-    known: Knowledge,
+    known: &mut Knowledge,
     size: u16,
-    job: &[u16],
-    from: usize,
+    raw: &[u16],
 ) -> Piece
-    requires { (at < 1000000) × (from + 2 ≤ length job.now) }
-    ensures { Put n (listed known) (steps.Step.Size size) (take 2 (drop from job.now)) at
-        run.old run.new result.long (listed result.known) result.round }
+    requires { (at < 1000000) × (length raw.now ≤ 3) }
+    ensures { Put n known.old.registers (steps.Step.Size size) raw.now at
+        run.old run.new result.long known.new.registers result.round }
 {
-    let fate = settled::settle::fate(n, known, size);
-    match fate {
+    match settled::settle::fate(n, known, size) {
         Fate::Settled => {
-            let after = put_blit(run, at, known, size);
+            put_blit(run, at, known, size);
             Piece {
                 long: settled_length(size),
-                known: after,
                 round: false,
             }
         }
-        Fate::KeptForRound => put_kept(run, at, known, job, from, true),
-        Fate::Kept => put_kept(run, at, known, job, from, false),
+        Fate::KeptForRound => put_kept(run, at, known, raw, true),
+        Fate::Kept => put_kept(run, at, known, raw, false),
     }
 }
 
-// Lays what a step becomes, and answers how many words that were, what is known after it, and whether it is a blit kept
-// for going round alone.
+// Lays what a step becomes, of which these are the words, and learns what is known after it.
 fn put_step(
     run: &mut [u16],
     at: u32,
     n: usize,
-    known: Knowledge,
+    known: &mut Knowledge,
     step: Step,
-    job: &[u16],
-    from: usize,
+    raw: &[u16],
 ) -> Piece
-    requires { (at < 1000000) × (from + (1 + operands step) ≤ length job.now) }
-    ensures { Put n (listed known) step (raw_words job.now from step) at
-        run.old run.new result.long (listed result.known) result.round }
+    requires { (at < 1000000) × (length raw.now ≤ 3) }
+    ensures { Put n known.old.registers step raw.now at
+        run.old run.new result.long known.new.registers result.round }
 {
     match step {
-        Step::Register(place, value) => {
-            output::put::put_copied(run, at, job, from, 2);
-            let after = learning::written(known, place, value);
-            Piece {
-                long: 2,
-                known: after,
-                round: false,
-            }
+        Step::Register { place, value } => {
+            learning::written(known, place, value);
+            put_raw(run, at, raw)
         }
-        Step::Size(size) => put_size(run, at, n, known, size, job, from),
-        Step::Store(_, _) => {
-            output::put::put_copied(run, at, job, from, 3);
-            Piece {
-                long: 3,
-                known,
-                round: false,
-            }
-        }
-        Step::Flag(_) => {
-            output::put::put_copied(run, at, job, from, 1);
-            Piece {
-                long: 1,
-                known,
-                round: false,
-            }
-        }
+        Step::Size(size) => put_size(run, at, n, known, size, raw),
+        Step::Store { .. } => put_raw(run, at, raw),
+        Step::Flag(_) => put_raw(run, at, raw),
     }
 }
 
 // Last of all, whether a folding of this length fits.
 fn ended(words: u32, round: bool, out: &[u16]) -> Answer
     ensures { result
-        ≡ (if not (leb words (length out.now)) || not (leb words job_most) then Refused TooLong 0 else Done words round) }
+        ≡ (if not (leb words (length out.now)) || not (leb words job_most) then Err (record { why = TooLong; place = 0 }) else Ok (record { length = words; round = round })) }
 {
-    if out.len() < words as usize {
-        return Answer::Refused(Refusal::TooLong, 0);
+    let length = words as usize;
+    if out.len() < length || job::length::JOB_MOST < length {
+        return Err(Stopped {
+            why: Refusal::TooLong,
+            place: 0,
+        });
     }
-    if job::length::JOB_MOST < words as usize {
-        return Answer::Refused(Refusal::TooLong, 0);
-    }
-    Answer::Done(words as usize, round)
+    Ok(Done { length, round })
 }
 
 // Lays the folded job into a run, as far as that goes, and answers what its folding into the output gives.
@@ -158,20 +130,23 @@ pub fn folded(n: usize, job: &[u16], out: &[u16], run: &mut [u16]) -> Answer
     let mut from: usize = 0;
     let mut known = knowledge::knowledge::nothing();
     let mut round = false;
-    while from < job.len() {
+    loop {
         match job::reader::read_at(job, from) {
-            Read::Step(step, next) => {
-                let piece = put_step(run, at, n, known, step, job, from);
-                at = at + piece.long;
-                round = round | piece.round;
-                known = piece.known;
+            Ok(Some((step, next))) => {
+                let piece = put_step(run, at, n, &mut known, step, &job[from..next]);
+                at += piece.long;
+                round |= piece.round;
                 from = next;
             }
-            Read::End => return ended(at, round, out),
-            Read::Refused(why) => return Answer::Refused(Refusal::Step(why), from),
+            Ok(None) => return ended(at, round, out),
+            Err(why) => {
+                return Err(Stopped {
+                    why: Refusal::Step(why),
+                    place: from,
+                });
+            }
         }
     }
-    ended(at, round, out)
 }
 
 // The first words of a run, into an output that has room for them.
@@ -179,9 +154,5 @@ pub fn hand_out(run: &[u16], long: usize, out: &mut [u16])
     requires { (long ≤ length run.now) × (long ≤ length out.old) }
     ensures { out.new ≡ take long run.now ++ drop long out.old }
 {
-    let mut at: usize = 0;
-    while at < long {
-        out[at] = run[at];
-        at = at + 1;
-    }
+    out[..long].copy_from_slice(&run[..long]);
 }

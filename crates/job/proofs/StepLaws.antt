@@ -9,7 +9,7 @@ use Rattle.word.specs.declared.types.Pointer.{Pointer}
 use Rattle.job.specs.declared.types.Kind.{Kind}
 use Rattle.job.specs.declared.types.Step.{Step}
 use Rattle.job.specs.declared.types.Refusal.{Refusal}
-use Rattle.job.specs.Read.{Read}
+use Rattle.job.specs.Types.{Read}
 use Rattle.job.specs.Kind.{kind}
 use Rattle.job.specs.Step.{operands, found, is_odd, begun, front, step_at}
 
@@ -136,15 +136,22 @@ module _ (job : List ℕ) (at : ℕ) (step : Step) (next : ℕ) (reads : step_at
       (omega arith, omega (arith, length-drop at job))
 
 -- the same of what a reader has given
-module _ (job : List ℕ) (at : ℕ) (read : Read) (reads : read ≡ step_at job at) (step : Step) (next : ℕ) (same : read ≡ Ok (Some (step, next))) where
-  pub read-moves : at < next
-  read-moves = (step_at-moves job at step next (sym reads ∙ same)).0
+module _ (job : List ℕ) (at : ℕ) (read : Read) (reads : read ≡ step_at job at) (found : Option (Step × ℕ)) (is : read ≡ Ok found) where
+  module _ (step : Step) (next : ℕ) (same : found ≡ Some (step, next)) where
+    pub read-step : step_at job at ≡ Ok (Some (step, next))
+    read-step = sym reads ∙ is ∙ ap Ok same
 
-  pub read-inside : next ≤ length job
-  read-inside = (step_at-moves job at step next (sym reads ∙ same)).1
+    pub read-moves : at < next
+    read-moves = (step_at-moves job at step next read-step).0
 
-  pub read-falls : at < length job → length job - next < length job - at
-  read-falls inside = let on = read-moves in omega arith
+    pub read-inside : next ≤ length job
+    read-inside = (step_at-moves job at step next read-step).1
+
+    pub read-falls : length job - next < length job - at
+    read-falls = let on = read-moves in let inside = read-inside in omega arith
+
+  pub read-end : found ≡ None → step_at job at ≡ Ok None
+  read-end same = sym reads ∙ is ∙ ap Ok same
 
 -- only past the last word does the end stand
 begun-is-some : (begins : Option Kind) (at : ℕ) (rest : List ℕ) → begun begins at rest ≡ Ok None → ⊥

@@ -6,7 +6,7 @@ use lib.Seq.{drop-drop}
 use Rattle.word.specs.Choice.{given}
 use Rattle.job.specs.declared.types.Step.{Step}
 use Rattle.job.specs.declared.types.Refusal.{Refusal}
-use Rattle.job.specs.Read.{Read}
+use Rattle.job.specs.Types.{Read}
 use Rattle.job.specs.Step.{operands, front, step_at, read_number}
 use Rattle.job.specs.Steps.{Placed, placed, behind, steps_from}
 use Rattle.job.proofs.StepLaws.{front-next, step_at-of-end}

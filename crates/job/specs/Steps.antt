@@ -1,7 +1,7 @@
 -- Paper 01, "Jobs": a job as the list of its steps, in their order, each with "the word index" of its first word.
 -- What is refused stands in the list too, at its place, and ends it.
 use Rattle.std.specs.Prelude.{ℕ, zero, suc, ◌+◌, List, [], ◌∷◌, Some, None, Ok, Err}
-use Rattle.job.specs.Read.{Read}
+use Rattle.job.specs.Types.{Read}
 use Rattle.job.specs.Step.{operands, front}
 
 pub record Placed : Type 0 where

@@ -6,7 +6,7 @@ use Prim.Native.Nat.{ℕ, zero, suc, ◌<◌, ◌≤◌}
 use native.Mathlib.Nat.{le_of_suc-le-suc, not-suc-le-zero}
 use mathlib.Core.List.{List, [], ◌∷◌}
 use lib.ListN.{length, get_or, length-map}
-use Rattle.std.specs.Prelude.{Option}
+use Rattle.std.specs.Prelude.{Option, Some, None, is_some, true}
 use Rattle.file.specs.Places.{blitter_length}
 use Rattle.knowledge.specs.Knowledge.{known_at, nothing, number, numbers}
 
@@ -28,3 +28,8 @@ unfolding numbers
 numbers-of-places known words place long held past each =
     same_number_lists words (numbers known) (long ∙ sym held ∙ sym (length-map known number))
     (λ (k : ℕ) (inside : k < length words). each k (omega arith) ∙ sym (numbers-at known k (omega arith)))
+
+-- a register that is known is known with its number
+pub known-is-number : (known : Option ℕ) → is_some known ≡ true → known ≡ Some (number known)
+known-is-number (Some value) told = refl
+known-is-number None told = let n : ◌≡◌ {A = ℕ} 0 1 = cc in absurd (omega arith)

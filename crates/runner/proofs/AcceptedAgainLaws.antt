@@ -16,7 +16,7 @@ use Rattle.blit.specs.Blit.{Outcome, refused}
 use Rattle.blit.proofs.AcceptedAgain as blits
 use Rattle.job.specs.declared.types.Kind.{Kind}
 use Rattle.job.specs.declared.types.Step.{Step}
-use Rattle.job.specs.Read.{Read}
+use Rattle.job.specs.Types.{Read}
 use Rattle.job.specs.Kind.{kind}
 use Rattle.job.specs.declared.types.Refusal.{Refusal}
 use Rattle.job.specs.Step.{found, is_odd, begun, front, step_at, read_number}

@@ -4,7 +4,7 @@ use Rattle.word.proofs.Base.{◌≡◌, refl, sym, ap, ◌∙◌, ℕ, zero, suc
 use Rattle.word.proofs.Base.{eqb, eq-eqb, eqb-true, List, [], ◌∷◌, take, drop}
 use Rattle.blit.specs.Blit.{refused}
 use Rattle.job.specs.declared.types.Step.{Step}
-use Rattle.job.specs.Read.{Read}
+use Rattle.job.specs.Types.{Read}
 use Rattle.job.specs.Step.{operands, front}
 use Rattle.job.specs.Steps.{Placed, placed, behind, steps_from}
 use Rattle.job.proofs.StepsLaws.{behind-either, read_number-of-refused}

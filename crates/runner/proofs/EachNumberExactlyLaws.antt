@@ -4,7 +4,7 @@ use Rattle.word.proofs.Base.{◌≡◌, refl, sym, ap, ◌∙◌, ℕ, ◌+◌, 
 use Rattle.word.proofs.Base.{drop, length-take-le}
 use lib.ListN.{take-append-drop}
 use Rattle.word.specs.Choice.{given}
-use Rattle.job.specs.Read.{Read}
+use Rattle.job.specs.Types.{Read}
 use Rattle.job.specs.Step.{front, step_at}
 use Rattle.job.proofs.StepLaws.{step_at-at-end}
 use Rattle.job.proofs.WellCutLaws.{well_cut}

@@ -13,27 +13,26 @@ use Rattle.blit.specs.declared.types.Done.{Done}
 use Rattle.blit.proofs.BlitLaws.{done-number, blit_step-counts}
 use Rattle.job.specs.declared.types.Step.{Step}
 use Rattle.runner.specs.declared.types.Refusal as reasons
-use Rattle.runner.specs.declared.types.Taken.{Taken}
 use Rattle.runner.specs.Effect.{store_outside, own_rules, step_rules, taken, answered, step_effect}
 use Rattle.runner.specs.Answer.{left_by_step}
 
 pub step_effect-of-register : (place value word : ℕ) (memory file next : List ℕ) → word ≡ kept place value → next ≡ set file place word
-    → left_by_step (Taken.Done 0 false) memory next ≡ step_effect (Step.Register place value) memory file
+    → left_by_step (Ok (record { stored = 0; round = false })) memory next ≡ step_effect (Step.Register place value) memory file
 unfolding step_effect answered taken store_outside own_rules given
 step_effect-of-register place value word memory file next keeps writes = rw (writes, keeps)
 
 pub step_effect-of-flag : (value : ℕ) (memory file next : List ℕ) → next ≡ set file flag value
-    → left_by_step (Taken.Done 0 false) memory next ≡ step_effect (Step.Flag value) memory file
+    → left_by_step (Ok (record { stored = 0; round = false })) memory next ≡ step_effect (Step.Flag value) memory file
 unfolding step_effect answered taken store_outside own_rules given
 step_effect-of-flag value memory file next writes = rw writes
 
 pub step_effect-when-outside : (to value : ℕ) (memory file : List ℕ) → length memory ≤ to
-    → left_by_step (Taken.Refused reasons.Refusal.StoreOutside) memory file ≡ step_effect (Step.Store to value) memory file
+    → left_by_step (Err reasons.Refusal.StoreOutside) memory file ≡ step_effect (Step.Store to value) memory file
 unfolding step_effect answered store_outside own_rules given refused
 step_effect-when-outside to value memory file outside = rw (le-leb (length memory) to outside)
 
 pub step_effect-when-inside : (to value : ℕ) (memory file next : List ℕ) → to < length memory → next ≡ set memory to value
-    → left_by_step (Taken.Done 1 false) next file ≡ step_effect (Step.Store to value) memory file
+    → left_by_step (Ok (record { stored = 1; round = false })) next file ≡ step_effect (Step.Store to value) memory file
 unfolding step_effect answered taken store_outside own_rules given
 step_effect-when-inside to value memory file next inside writes = rw (lt-leb (length memory) to inside, writes)
 
@@ -45,12 +44,12 @@ step_effect-of-blit size memory file = refl
 -- a blit's answer, as a step's
 pub blit_step-when-done : (size : ℕ) (done : Done) (answer : Result Done Refusal) (memory file next end : List ℕ)
     → blit.left answer next end ≡ blit_step memory file size → answer ≡ Ok done
-    → left_by_step (Taken.Done done.stored done.round) next end ≡ blit_step memory file size
+    → left_by_step (Ok done) next end ≡ blit_step memory file size
 blit_step-when-done size done answer memory file next end blits same = rw same at blits
 
 pub blit_step-when-refused : (size : ℕ) (why : Refusal) (answer : Result Done Refusal) (memory file next end : List ℕ)
     → blit.left answer next end ≡ blit_step memory file size → answer ≡ Err why
-    → left_by_step (Taken.Refused (reasons.Refusal.Blit why)) next end ≡ blit_step memory file size
+    → left_by_step (Err (reasons.Refusal.Blit why)) next end ≡ blit_step memory file size
 blit_step-when-refused size why answer memory file next end gives same = rw same at gives
 
 -- by the step's kind

@@ -6,7 +6,7 @@ use Rattle.file.specs.Places.{flag}
 use Rattle.blit.specs.Blit.{Outcome, refused}
 use Rattle.blit.proofs.BlitLaws.{blit_step-keeps-memory-length, blit_step-keeps-file-length}
 use Rattle.job.specs.declared.types.Step.{Step}
-use Rattle.job.specs.Read.{Read}
+use Rattle.job.specs.Types.{Read}
 use Rattle.job.specs.Steps.{Placed}
 use Rattle.runner.specs.Effect.{taken, step_effect, effect}
 use Rattle.runner.proofs.EffectLaws.{step_effect-either, step_effect-of-blit}

@@ -1,10 +1,11 @@
 -- The number of a refusal tells it from all others, and is never 0: what an answer leaves tells the answer.
-use Rattle.std.specs.Prelude.{if◌then◌else◌}
-use Rattle.word.proofs.Base.{◌≡◌, refl, sym, ap, ap₂, ◌∙◌, ℕ, eqb, List}
+use Rattle.std.specs.Prelude.{if◌then◌else◌, Ok, Err}
+use Rattle.word.proofs.Base.{◌≡◌, refl, sym, ap, ◌∙◌, ℕ, eqb, List}
 use Rattle.refusal.proofs.OneAnswerLaws.{refusal_of, refusal_number-tells, is_own, refusal_number-is-own}
 use Rattle.job.specs.declared.types.Refusal as jobs
 use Rattle.runner.specs.declared.types.Refusal.{Refusal}
-use Rattle.runner.specs.declared.types.Answer.{Answer}
+use Rattle.blit.specs.declared.types.Done.{Done}
+use Rattle.runner.specs.Types.{Answer}
 use Rattle.runner.specs.Run.{End}
 use Rattle.runner.specs.Answer.{refusal_number, left}
 use Rattle.runner.specs.OneAnswer.{OneAnswer}
@@ -32,20 +33,22 @@ numbered-of-number Refusal.StoreOutside = refl
 pub refusal_number-is-unique : (one other : Refusal) → refusal_number one ≡ refusal_number other → one ≡ other
 refusal_number-is-unique one other same = sym (numbered-of-number one) ∙ ap numbered same ∙ numbered-of-number other
 
+done-is-unique : (one other : Done) → one.stored ≡ other.stored → one.round ≡ other.round → one ≡ other
+done-is-unique one other counts rounds = λ i. record { stored = counts i; round = rounds i }
+
 pub answer-is-unique : (one other : Answer) (memory file others other_file : List ℕ)
     → left one memory file ≡ left other others other_file → one ≡ other
-answer-is-unique (Answer.Done stored round) (Answer.Done count told) memory file others other_file same =
-    ap₂ Answer.Done (ap (λ (end : End). end.machine.stored) same) (ap (λ (end : End). end.machine.round) same)
-answer-is-unique (Answer.Done stored round) (Answer.Refused why place count told) memory file others other_file same =
-    absurd (refusal_number-positive why (sym (ap (λ (end : End). end.number) same)))
-answer-is-unique (Answer.Refused why place stored round) (Answer.Done count told) memory file others other_file same =
-    absurd (refusal_number-positive why (ap (λ (end : End). end.number) same))
-answer-is-unique (Answer.Refused why place stored round) (Answer.Refused reason at count told) memory file others other_file same =
-    let reasons : why ≡ reason = refusal_number-is-unique why reason (ap (λ (end : End). end.number) same) in
-    let places : place ≡ at = ap (λ (end : End). end.place) same in
-    let counts : stored ≡ count = ap (λ (end : End). end.machine.stored) same in
-    let rounds : round ≡ told = ap (λ (end : End). end.machine.round) same in
-    rw (reasons, places, counts, rounds)
+answer-is-unique (Ok one) (Ok other) memory file others other_file same =
+    ap Ok (done-is-unique one other (ap (λ (end : End). end.machine.stored) same) (ap (λ (end : End). end.machine.round) same))
+answer-is-unique (Ok done) (Err stopped) memory file others other_file same =
+    absurd (refusal_number-positive stopped.why (sym (ap (λ (end : End). end.number) same)))
+answer-is-unique (Err stopped) (Ok done) memory file others other_file same =
+    absurd (refusal_number-positive stopped.why (ap (λ (end : End). end.number) same))
+answer-is-unique (Err one) (Err other) memory file others other_file same =
+    let reasons = refusal_number-is-unique one.why other.why (ap (λ (end : End). end.number) same) in
+    let places = ap (λ (end : End). end.place) same in
+    let did = done-is-unique one.done other.done (ap (λ (end : End). end.machine.stored) same) (ap (λ (end : End). end.machine.round) same) in
+    λ i. Err (record { why = reasons i; place = places i; done = did i })
 
 pub one_answer : OneAnswer
 one_answer memory file job first second promise again =

@@ -5,7 +5,7 @@ use mathlib.Core.Bool.{or-false, or_assoc}
 use Rattle.blit.specs.Blit.{Outcome, refused}
 use Rattle.blit.proofs.BlitLaws.{done-round}
 use Rattle.job.specs.declared.types.Step.{Step}
-use Rattle.job.specs.Read.{Read}
+use Rattle.job.specs.Types.{Read}
 use Rattle.job.specs.Steps.{Placed, steps}
 use Rattle.runner.specs.Effect.{taken, effect}
 use Rattle.runner.specs.Run.{Machine, machine, effect_on, after, ended, run_steps, start_refusal, run}

@@ -9,7 +9,7 @@ use Rattle.refusal.proofs.PlanLaws.{line_or_area-cases}
 use Rattle.blit.specs.Blit.{refused}
 use Rattle.job.specs.declared.types.Refusal.{Refusal}
 use Rattle.job.specs.declared.types.Step.{Step}
-use Rattle.job.specs.Read.{Read}
+use Rattle.job.specs.Types.{Read}
 use Rattle.job.specs.Step.{read_number}
 use Rattle.runner.specs.Effect.{own_rules, step_rules, rules_at, taken, answered, step_effect, effect}
 use Rattle.runner.specs.Run.{Machine, effect_on}

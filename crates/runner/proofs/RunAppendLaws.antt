@@ -3,7 +3,7 @@ use Rattle.std.specs.Prelude.{if◌then◌else◌, Some, None, Ok, Err}
 use Rattle.word.proofs.Base.{◌≡◌, refl, sym, ap, ◌∙◌, ℕ, ◌+◌, ◌≤◌, arith, Bool, true, false, eqb, ne_eqb, List, [], ◌∷◌}
 use Rattle.word.proofs.Base.{◌++◌, length, length-append}
 use Rattle.blit.specs.Blit.{refused}
-use Rattle.job.specs.Read.{Read}
+use Rattle.job.specs.Types.{Read}
 use Rattle.job.specs.Length.{job_most}
 use Rattle.job.specs.Steps.{Placed, behind, steps_from, steps}
 use Rattle.job.proofs.StepsLaws.{read_number-of-refused}

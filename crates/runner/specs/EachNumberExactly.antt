@@ -4,7 +4,7 @@ use Rattle.std.specs.Prelude.{ℕ, ◌<◌, ◌≡◌, true, false, List, ◌↔
 use Rattle.word.specs.Choice.{Rule, given}
 use Rattle.file.specs.File.{accepted}
 use Rattle.word.specs.Memory.{memory_size}
-use Rattle.job.specs.Read.{Read}
+use Rattle.job.specs.Types.{Read}
 use Rattle.job.specs.Step.{step_at}
 use Rattle.job.specs.Length.{job_length}
 use Rattle.runner.specs.Effect.{rules_at}

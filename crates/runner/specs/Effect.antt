@@ -7,7 +7,7 @@ use Rattle.file.specs.Places.{flag}
 use Rattle.refusal.specs.Refusal.{blit_rules}
 use Rattle.blit.specs.Blit.{Outcome, done, refused}
 use Rattle.job.specs.declared.types.Step.{Step}
-use Rattle.job.specs.Read.{Read}
+use Rattle.job.specs.Types.{Read}
 use Rattle.job.specs.Step.{read_rules, read_number}
 
 -- "10 for stores only": the store "lies at N or above"

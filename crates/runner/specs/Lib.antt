@@ -1,4 +1,5 @@
 -- What a reader must believe of a run, in the order of paper 01; then what is proved of it.
+pub mod Types
 pub mod Effect
 pub mod Run
 pub mod Answer

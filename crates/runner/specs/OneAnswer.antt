@@ -1,6 +1,6 @@
 -- Paper 01, "What each answer commits to": "Show that two answers meeting it are equal".
 use Rattle.std.specs.Prelude.{ℕ, ◌≡◌, List}
-use Rattle.runner.specs.declared.types.Answer.{Answer}
+use Rattle.runner.specs.Types.{Answer}
 use Rattle.runner.specs.Run.{run}
 use Rattle.runner.specs.Answer.{left}
 

@@ -3,7 +3,7 @@
 use Rattle.std.specs.Prelude.{ℕ, ◌≡◌, Bool, false, ◌||◌, List, [], ◌∷◌, ◌++◌, eqb, if◌then◌else◌, Some, None, Ok, Err}
 use Rattle.round.specs.Round.{goes_round}
 use Rattle.job.specs.declared.types.Step.{Step}
-use Rattle.job.specs.Read.{Read}
+use Rattle.job.specs.Types.{Read}
 use Rattle.job.specs.Steps.{Placed, steps}
 use Rattle.runner.specs.Run.{Machine, machine, effect_on, after, start_refusal, run}
 

@@ -5,7 +5,7 @@ use Rattle.word.specs.Choice.{Rule, ◌when◌, given}
 use Rattle.file.specs.File.{accepted}
 use Rattle.word.specs.Memory.{memory_size}
 use Rattle.blit.specs.Blit.{Outcome}
-use Rattle.job.specs.Read.{Read}
+use Rattle.job.specs.Types.{Read}
 use Rattle.job.specs.Length.{job_length}
 use Rattle.job.specs.Steps.{Placed, steps_from}
 use Rattle.runner.specs.Effect.{effect}

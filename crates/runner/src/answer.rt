@@ -4,14 +4,16 @@ ghost use Rattle.runner.specs.Answer.{refusal_number, answer_number, answer_plac
 
 use crate::types::{Answer, Refusal};
 
-fn refusal_number(why: Refusal) -> u32
-    ensures { result ≡ refusal_number why }
-{
-    match why {
-        Refusal::Blit(reason) => reason.number(),
-        Refusal::JobLength => 3,
-        Refusal::Step(reason) => job::number::refusal_number(reason),
-        Refusal::StoreOutside => 10,
+impl Refusal {
+    pub fn number(self) -> u32
+        ensures { result ≡ refusal_number self }
+    {
+        match self {
+            Refusal::Blit(why) => why.number(),
+            Refusal::JobLength => 3,
+            Refusal::Step(why) => why.number(),
+            Refusal::StoreOutside => 10,
+        }
     }
 }
 
@@ -19,8 +21,8 @@ pub fn number(answer: Answer) -> u32
     ensures { result ≡ answer_number answer }
 {
     match answer {
-        Answer::Done(_, _) => 0,
-        Answer::Refused(why, _, _, _) => refusal_number(why),
+        Ok(_) => 0,
+        Err(stopped) => stopped.why.number(),
     }
 }
 
@@ -28,8 +30,8 @@ pub fn place(answer: Answer) -> usize
     ensures { result ≡ answer_place answer }
 {
     match answer {
-        Answer::Done(_, _) => 0,
-        Answer::Refused(_, place, _, _) => place,
+        Ok(_) => 0,
+        Err(stopped) => stopped.place,
     }
 }
 
@@ -37,8 +39,8 @@ pub fn stored(answer: Answer) -> u32
     ensures { result ≡ answer_stored answer }
 {
     match answer {
-        Answer::Done(stored, _) => stored,
-        Answer::Refused(_, _, stored, _) => stored,
+        Ok(done) => done.stored,
+        Err(stopped) => stopped.done.stored,
     }
 }
 
@@ -47,7 +49,7 @@ pub fn round(answer: Answer) -> bool
     ensures { result ≡ answer_round answer }
 {
     match answer {
-        Answer::Done(_, round) => round,
-        Answer::Refused(_, _, _, round) => round,
+        Ok(done) => done.round,
+        Err(stopped) => stopped.done.round,
     }
 }

@@ -7,11 +7,22 @@ mod steps;
 pub mod theorems;
 pub mod types;
 
-ghost use Rattle.std.specs.Prelude.{◌≡◌};
+ghost use Rattle.std.specs.Prelude.{◌≡◌, Err, false};
 ghost use Rattle.runner.specs.Run.{run};
 ghost use Rattle.runner.specs.Answer.{left};
 
-use crate::types::{Answer, Refusal};
+use crate::types::{Answer, NONE_DONE, Refusal, Stopped};
+
+// What is refused before the first step: nothing is done.
+fn unstarted(why: Refusal) -> Answer
+    ensures { result ≡ Err (record { why = why; place = 0; done = record { stored = 0; round = false } }) }
+{
+    Err(Stopped {
+        why,
+        place: 0,
+        done: NONE_DONE,
+    })
+}
 
 // Runs a job. A refusal leaves memory, file, count and yes as after the last step that was done.
 pub fn run(ram: &mut [u16], file: &mut [u16], job: &[u16]) -> Answer
@@ -19,23 +30,13 @@ pub fn run(ram: &mut [u16], file: &mut [u16], job: &[u16]) -> Answer
         ≡ run ram.old file.old job.now }
 {
     if word::memory::memory_size(ram.len()) {
-        return Answer::Refused(
-            Refusal::Blit(refusal::types::Refusal::MemorySize),
-            0,
-            0,
-            false,
-        );
+        return unstarted(Refusal::Blit(refusal::types::Refusal::MemorySize));
     }
     if !file::accepted(file) {
-        return Answer::Refused(
-            Refusal::Blit(refusal::types::Refusal::RegisterFile),
-            0,
-            0,
-            false,
-        );
+        return unstarted(Refusal::Blit(refusal::types::Refusal::RegisterFile));
     }
     if job::length::job_length(job) {
-        return Answer::Refused(Refusal::JobLength, 0, 0, false);
+        return unstarted(Refusal::JobLength);
     }
     crate::steps::run_steps(ram, file, job)
 }

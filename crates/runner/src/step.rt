@@ -5,7 +5,8 @@ ghost use Rattle.job.specs.declared.types.Step as steps;
 ghost use Rattle.runner.specs.Effect.{step_effect};
 ghost use Rattle.runner.specs.Answer.{left_by_step};
 
-use crate::types::{Refusal, Taken};
+use crate::types::{NONE_DONE, Refusal, Taken};
+use blit::types::Done;
 use job::types::Step;
 
 fn register_step(ram: &[u16], file: &mut [u16], place: u32, value: u16) -> Taken
@@ -13,7 +14,7 @@ fn register_step(ram: &[u16], file: &mut [u16], place: u32, value: u16) -> Taken
         ≡ step_effect (steps.Step.Register place value) ram.now file.old }
 {
     word::memory::write(file, place, file::kept(place, value));
-    Taken::Done(0, false)
+    Ok(NONE_DONE)
 }
 
 fn size_step(ram: &mut [u16], file: &mut [u16], size: u16) -> Taken
@@ -21,8 +22,8 @@ fn size_step(ram: &mut [u16], file: &mut [u16], size: u16) -> Taken
         ≡ blit_step ram.old file.old size }
 {
     match blit::blit_step(ram, file, size) {
-        Ok(done) => Taken::Done(done.stored, done.round),
-        Err(why) => Taken::Refused(Refusal::Blit(why)),
+        Ok(done) => Ok(done),
+        Err(why) => Err(Refusal::Blit(why)),
     }
 }
 
@@ -31,10 +32,13 @@ fn store_step(ram: &mut [u16], file: &[u16], to: u32, value: u16) -> Taken
         ≡ step_effect (steps.Step.Store to value) ram.old file.now }
 {
     if ram.len() <= to as usize {
-        return Taken::Refused(Refusal::StoreOutside);
+        return Err(Refusal::StoreOutside);
     }
     word::memory::write(ram, to, value);
-    Taken::Done(1, false)
+    Ok(Done {
+        stored: 1,
+        round: false,
+    })
 }
 
 fn flag_step(ram: &[u16], file: &mut [u16], value: u16) -> Taken
@@ -42,7 +46,7 @@ fn flag_step(ram: &[u16], file: &mut [u16], value: u16) -> Taken
         ≡ step_effect (steps.Step.Flag value) ram.now file.old }
 {
     word::memory::write(file, file::FLAG, value);
-    Taken::Done(0, false)
+    Ok(NONE_DONE)
 }
 
 // Takes a step. A refused one changes nothing.
@@ -51,9 +55,9 @@ pub fn take(ram: &mut [u16], file: &mut [u16], step: Step) -> Taken
         ≡ step_effect step ram.old file.old }
 {
     match step {
-        Step::Register(place, value) => register_step(ram, file, place, value),
+        Step::Register { place, value } => register_step(ram, file, place, value),
         Step::Size(size) => size_step(ram, file, size),
-        Step::Store(to, value) => store_step(ram, file, to, value),
+        Step::Store { to, value } => store_step(ram, file, to, value),
         Step::Flag(value) => flag_step(ram, file, value),
     }
 }

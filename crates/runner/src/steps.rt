@@ -4,8 +4,7 @@ ghost use Rattle.job.specs.Length.{job_most};
 ghost use Rattle.runner.specs.Run.{machine, run_from};
 ghost use Rattle.runner.specs.Answer.{left};
 
-use crate::types::{Answer, Refusal, Taken};
-use job::types::Read;
+use crate::types::{Answer, NONE_DONE, Refusal, Stopped};
 
 // Takes the steps in order, to the job's end or to the first refused one.
 pub fn run_steps(ram: &mut [u16], file: &mut [u16], job: &[u16]) -> Answer
@@ -13,26 +12,26 @@ pub fn run_steps(ram: &mut [u16], file: &mut [u16], job: &[u16]) -> Answer
     ensures { left result ram.new file.new
         ≡ run_from 0 job.now (machine ram.old file.old 0 false) }
 {
-    let mut at: usize = 0;
-    let mut stored: u32 = 0;
-    let mut round = false;
-    while at < job.len() {
-        let read = job::reader::read_at(job, at);
-        match read {
-            Read::Step(step, next) => {
-                let taken = crate::step::take(ram, file, step);
-                match taken {
-                    Taken::Done(count, here) => {
-                        stored = stored + count;
-                        round = round | here;
-                        at = next;
-                    }
-                    Taken::Refused(why) => return Answer::Refused(why, at, stored, round),
+    let mut place: usize = 0;
+    let mut done = NONE_DONE;
+    loop {
+        match job::reader::read_at(job, place) {
+            Ok(Some((step, next))) => match crate::step::take(ram, file, step) {
+                Ok(here) => {
+                    done.stored += here.stored;
+                    done.round |= here.round;
+                    place = next;
                 }
+                Err(why) => return Err(Stopped { why, place, done }),
+            },
+            Ok(None) => return Ok(done),
+            Err(why) => {
+                return Err(Stopped {
+                    why: Refusal::Step(why),
+                    place,
+                    done,
+                });
             }
-            Read::End => return Answer::Done(stored, round),
-            Read::Refused(why) => return Answer::Refused(Refusal::Step(why), at, stored, round),
         }
     }
-    Answer::Done(stored, round)
 }

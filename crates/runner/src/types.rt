@@ -1,4 +1,5 @@
-// The types that the answers of a run speak of.
+// The types that the answers of a run speak of. A step or a run that is done answers what a blit does that is done.
+use blit::types::Done;
 
 // Why a run is refused: a blit's own reasons, among them memory and register file; a job that is too long; what is no
 // step; a store that doesn't lie in memory.
@@ -10,17 +11,22 @@ pub enum Refusal {
     StoreOutside,
 }
 
-// What one step answers: done with the count of words that it stored and whether a channel went round, or refused.
+// Of no step.
+pub const NONE_DONE: Done = Done {
+    stored: 0,
+    round: false,
+};
+
+// What a refused run answers: why, the place of the refused step, and what the steps before it answer.
 #[derive(Clone, Copy)]
-pub enum Taken {
-    Done(u32, bool),
-    Refused(Refusal),
+pub struct Stopped {
+    pub why: Refusal,
+    pub place: usize,
+    pub done: Done,
 }
 
-// What a run answers: done with the count of words stored and whether a pointer went round, or refused, with the place
-// of the refused step and these two of the steps before it.
-#[derive(Clone, Copy)]
-pub enum Answer {
-    Done(u32, bool),
-    Refused(Refusal, usize, u32, bool),
-}
+// What one step answers.
+pub type Taken = Result<Done, Refusal>;
+
+// What a run answers.
+pub type Answer = Result<Done, Stopped>;

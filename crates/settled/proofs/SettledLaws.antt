@@ -1,5 +1,5 @@
 -- Laws of a settled blit: each condition from its parts.
-use Rattle.std.specs.Prelude.{if◌then◌else◌, Result, Ok, Err}
+use Rattle.std.specs.Prelude.{if◌then◌else◌, Option, Result, Ok, Err}
 use Rattle.word.proofs.Base.{◌≡◌, refl, sym, ap, ◌∙◌, ℕ, ◌+◌, ◌*◌, Bool, true, false, ◌&&◌, ◌||◌, not, eqb, leb}
 use Rattle.word.proofs.Base.{not-true, arith, List, get_or}
 use Rattle.word.specs.Size.{height, width}
@@ -15,38 +15,10 @@ use Rattle.refusal.proofs.RefusalLaws.{refusal-is-some}
 use Rattle.round.specs.Round.{goes_round}
 use Rattle.depends.specs.Types.{Depends}
 use Rattle.depends.specs.Depends.{depends}
-use Rattle.knowledge.specs.declared.types.Known.{Known}
 use Rattle.knowledge.specs.Knowledge.{numbers}
 use Rattle.settled.specs.declared.types.Fate.{Fate}
 use Rattle.settled.specs.Settled.{has, controls_known, only_d_used, sources_known, otherwise_settled, settled, kept_for_round}
 use Rattle.settled.specs.Inner.Fate.{fate, by_round}
-
-pub controls_known-of-parts : (known : List Known) (a b c d e : Bool)
-    → a ≡ has known control0 → b ≡ has known control1 → c ≡ has known pointer_d → d ≡ has known (pointer_d + 1) → e ≡ has known modulo_d
-    → (a && b && c && d && e) ≡ controls_known known
-unfolding controls_known
-controls_known-of-parts known a b c d e is-a is_b is_c is-d is-e = rw (is-a, is_b, is_c, is-d, is-e)
-
-pub only_d_used-of-uses : (con0 : ℕ) (used : Uses) → used ≡ uses con0 → (not used.a && not used.b && not used.c && used.d) ≡ only_d_used con0
-unfolding only_d_used
-only_d_used-of-uses con0 used same = ap (λ (u : Uses). not u.a && not u.b && not u.c && u.d) same
-
-pub sources_known-of-parts : (con0 decoded : ℕ) (known : List Known) (on : Depends) (a first last b c : Bool)
-    → decoded ≡ function con0 → on ≡ depends decoded
-    → a ≡ has known source_a → first ≡ has known first_mask → last ≡ has known last_mask → b ≡ has known source_b → c ≡ has known source_c
-    → ((not on.a || a && first && last) && (not on.b || b) && (not on.c || c)) ≡ sources_known (function con0) known
-unfolding sources_known
-sources_known-of-parts con0 decoded known on a first last b c is-function same is-a is-first is_last is_b is_c =
-    rw (is-a, is-first, is_last, is_b, is_c)
-    (ap (λ (d : Depends). (not d.a || has known source_a && has known first_mask && has known last_mask) && (not d.b || has known source_b) && (not d.c || has known source_c)) (same ∙ ap depends is-function))
-
-pub by_round-when-round : (round : Bool) → round ≡ true → Fate.KeptForRound ≡ by_round round
-unfolding by_round
-by_round-when-round round holds = rw holds
-
-pub by_round-when-not : (round : Bool) → round ≡ false → Fate.Settled ≡ by_round round
-unfolding by_round
-by_round-when-not round fails = rw fails
 
 -- a verdict, and the moves of a lawful blit
 module _ (n : ℕ) (file : List ℕ) (size : ℕ) (verdict : Result Plan Refusal) (gives : verdict_number verdict ≡ step_refusal n file size) where
@@ -63,7 +35,7 @@ pub small-of-parts : (size rows words : ℕ) → rows ≡ height size → words 
 small-of-parts size rows words tall wide = rw (tall, wide)
 
 -- the conditions, the cheap ones first
-module _ (n size : ℕ) (known : List Known) (few : Bool) (of-few : few ≡ leb (height size * width size) 64) where
+module _ (n size : ℕ) (known : List (Option ℕ)) (few : Bool) (of-few : few ≡ leb (height size * width size) 64) where
   pub fate-when-large : few ≡ false → Fate.Kept ≡ fate n known size
   unfolding fate settled kept_for_round otherwise_settled
   fate-when-large fails =
@@ -103,7 +75,7 @@ module _ (n size : ℕ) (known : List Known) (few : Bool) (of-few : few ≡ leb 
             by_tests false round = refl
 
 -- what each fate says of a blit
-module _ (n size : ℕ) (known : List Known) (told : Fate) (is : told ≡ fate n known size) where
+module _ (n size : ℕ) (known : List (Option ℕ)) (told : Fate) (is : told ≡ fate n known size) where
   pub fate-settled : told ≡ Fate.Settled → settled n known size ≡ true
   unfolding fate
   fate-settled same = by-test (settled n known size) (kept_for_round n known size) (sym same ∙ is)
@@ -134,7 +106,7 @@ module _ (n size : ℕ) (known : List Known) (told : Fate) (is : told ≡ fate n
       by-test false false tells = (refl, refl)
 
 -- a settled blit isn't also kept, and doesn't go round
-pub settled-is-not-kept : (n : ℕ) (known : List Known) (size : ℕ) → settled n known size ≡ true → kept_for_round n known size ≡ false
+pub settled-is-not-kept : (n : ℕ) (known : List (Option ℕ)) (size : ℕ) → settled n known size ≡ true → kept_for_round n known size ≡ false
 unfolding settled kept_for_round
 settled-is-not-kept n known size = by_tests (otherwise_settled n known size) (goes_round (numbers known) size)
   where
@@ -143,10 +115,10 @@ settled-is-not-kept n known size = by_tests (otherwise_settled n known size) (go
     by_tests true false holds = refl
     by_tests false round holds = refl
 
-pub settled-is-otherwise : (n : ℕ) (known : List Known) (size : ℕ) → settled n known size ≡ true → otherwise_settled n known size ≡ true
+pub settled-is-otherwise : (n : ℕ) (known : List (Option ℕ)) (size : ℕ) → settled n known size ≡ true → otherwise_settled n known size ≡ true
 unfolding settled
 settled-is-otherwise n known size holds = and_left (otherwise_settled n known size) (not (goes_round (numbers known) size)) holds
 
-pub settled-never-goes-round : (n : ℕ) (known : List Known) (size : ℕ) → settled n known size ≡ true → goes_round (numbers known) size ≡ false
+pub settled-never-goes-round : (n : ℕ) (known : List (Option ℕ)) (size : ℕ) → settled n known size ≡ true → goes_round (numbers known) size ≡ false
 unfolding settled
 settled-never-goes-round n known size holds = not-true (goes_round (numbers known) size) (and_right (otherwise_settled n known size) (not (goes_round (numbers known) size)) holds)

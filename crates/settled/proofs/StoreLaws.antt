@@ -1,5 +1,5 @@
 -- Laws of store steps: what the words of a store, a pointer and a flag do when they are run.
-use Rattle.std.specs.Prelude.{if◌then◌else◌}
+use Rattle.std.specs.Prelude.{if◌then◌else◌, Some}
 use Rattle.word.proofs.Base.{◌≡◌, refl, ℕ, zero, suc, ◌+◌, ◌%◌, ◌<◌, add-zero, arith, Bool, true, false, ne_eqb}
 use Rattle.word.proofs.Base.{lt-leb, List, ◌∷◌, ◌++◌, length, set}
 use mathlib.Core.Bool.{or-false}
@@ -18,7 +18,7 @@ use Rattle.runner.specs.Effect.{store_outside, own_rules, taken, answered, step_
 use Rattle.runner.specs.Run.{machine, run_steps, run_from}
 use Rattle.settled.specs.Words.{store_words, pointer_words, flag_words}
 
-kind-of-store : (half : ℕ) → half < 8 → kind (0x8000 + half) ≡ Kind.Store half
+kind-of-store : (half : ℕ) → half < 8 → kind (0x8000 + half) ≡ Some (Kind.Store half)
 unfolding kind is_register place place_in registers
 kind-of-store zero small = refl
 kind-of-store (suc zero) small = refl

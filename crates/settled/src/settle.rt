@@ -5,8 +5,7 @@ ghost use Rattle.word.specs.Control.{function};
 ghost use Rattle.refusal.specs.Plan.{plan};
 ghost use Rattle.refusal.specs.Refusal.{step_refusal};
 ghost use Rattle.round.specs.Round.{goes_round};
-ghost use Rattle.knowledge.specs.Knowledge.{listed, numbers};
-ghost use Rattle.settled.specs.Settled.{controls_known, only_d_used, sources_known};
+ghost use Rattle.settled.specs.Settled.{controls_known, has, only_d_used, sources_known};
 ghost use Rattle.settled.specs.Inner.Fate.{by_round, fate};
 ghost use Rattle.settled.specs.declared.types.Fate.TheVariants.{Kept};
 
@@ -14,21 +13,24 @@ use crate::types::Fate;
 use knowledge::types::Knowledge;
 use refusal::types::Plan;
 
-fn controls_known(known: Knowledge) -> bool
-    ensures { result ≡ controls_known (listed known) }
+fn has(known: &Knowledge, place: u32) -> bool
+    ensures { result ≡ has known.now.registers place }
 {
-    let controls = known.controls;
-    let con0 = controls.con0;
-    let con1 = controls.con1;
-    let pointers = known.pointers;
-    let d = pointers.d;
-    let high = d.high;
-    let low = d.low;
-    let modulos = known.modulos;
-    let modulo = modulos.d;
-    con0.is_known() & con1.is_known() & high.is_known() & low.is_known() & modulo.is_known()
+    known.at(place).is_some()
 }
 
+#[tactic(auto, unfolding(crate::specs::Settled::controls_known))]
+fn controls_known(known: &Knowledge) -> bool
+    ensures { result ≡ controls_known known.now.registers }
+{
+    has(known, file::CONTROL_0)
+        & has(known, file::CONTROL_1)
+        & has(known, file::POINTER_D)
+        & has(known, file::POINTER_D + 1)
+        & has(known, file::MODULO_D)
+}
+
+#[tactic(auto, unfolding(crate::specs::Settled::only_d_used))]
 fn only_d_used(con0: u16) -> bool
     ensures { result ≡ only_d_used con0 }
 {
@@ -36,24 +38,20 @@ fn only_d_used(con0: u16) -> bool
     !uses.a & !uses.b & !uses.c & uses.d
 }
 
-fn sources_known(con0: u16, known: Knowledge) -> bool
-    ensures { result ≡ sources_known (function con0) (listed known) }
+#[tactic(auto, unfolding(crate::specs::Settled::sources_known))]
+fn sources_known(con0: u16, known: &Knowledge) -> bool
+    ensures { result ≡ sources_known (function con0) known.now.registers }
 {
     let depends = depends::depends::depends(word::control::function(con0));
-    let controls = known.controls;
-    let first = controls.afwm;
-    let last = controls.alwm;
-    let sources = known.sources;
-    let source_a = sources.a;
-    let source_b = sources.b;
-    let source_c = sources.c;
-    let a = !depends.a | (source_a.is_known() & first.is_known() & last.is_known());
-    let b = !depends.b | source_b.is_known();
-    let c = !depends.c | source_c.is_known();
+    let masks = has(known, file::FIRST_MASK) & has(known, file::LAST_MASK);
+    let a = !depends.a | (has(known, file::SOURCE_A) & masks);
+    let b = !depends.b | has(known, file::SOURCE_B);
+    let c = !depends.c | has(known, file::SOURCE_C);
     a & b & c
 }
 
 // A blit that every other condition settles: kept if it goes round.
+#[tactic(auto, unfolding(crate::specs::Inner::Fate::by_round))]
 fn by_round(round: bool) -> Fate
     ensures { result ≡ by_round round }
 {
@@ -93,8 +91,8 @@ fn small(size: u16) -> bool
 
 // The conditions in the order of what they cost: a blit's rows are looked at only where it is small and all else holds,
 // and its moves last.
-pub fn fate(n: usize, known: Knowledge, size: u16) -> Fate
-    ensures { result ≡ fate n (listed known) size }
+pub fn fate(n: usize, known: &Knowledge, size: u16) -> Fate
+    ensures { result ≡ fate n known.now.registers size }
 {
     if !small(size) {
         return Fate::Kept;

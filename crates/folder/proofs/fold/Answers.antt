@@ -15,8 +15,8 @@ folded-answer-requires c = search job_length-when-short
 pub hand_out-requires : goal.hand_out-requires
 hand_out-requires c = (search run-when-done, search room-when-done)
 
-pub returns-in-Done : goal.returns-in-Done
-returns-in-Done c = search folding-by-done
+pub returns-in-Ok : goal.returns-in-Ok
+returns-in-Ok c = search folding-by-done
 
-pub returns-in-Refused : goal.returns-in-Refused
-returns-in-Refused c = search folding-by-refused
+pub returns-in_default : goal.returns-in_default
+returns-in_default c = search folding-by-refused

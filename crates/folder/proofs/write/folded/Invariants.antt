@@ -1,12 +1,11 @@
 -- `folder::write::folded` meets its contract: what is left of the job from here gives what the whole gives.
 -- The facts of a step are named by their paths: the structs hold more records than a search looks into.
 use Rattle.word.proofs.Base.{◌-◌, length}
-use Rattle.knowledge.specs.Knowledge.{listed}
 use Rattle.folder.proofs.FoldedLaws.{Stands}
 use Rattle.folder.proofs.write.folded.Given as goal
 
-abbrev pub invariant-loop-from : goal.invariant-loop-from
-invariant-loop-from l = Stands l.n l.job l.out l.initial.run (listed l.known) l.at l.from l.round l.run
+abbrev pub invariant-loop-step : goal.invariant-loop-step
+invariant-loop-step l = Stands l.n l.job l.out l.initial.run l.known.registers l.at l.from l.round l.run
 
-abbrev pub decreases-loop-from : goal.decreases-loop-from
-decreases-loop-from l = length l.job - l.from
+abbrev pub decreases-loop-step : goal.decreases-loop-step
+decreases-loop-step l = length l.job - l.from

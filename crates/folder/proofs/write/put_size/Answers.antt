@@ -3,8 +3,8 @@ use Rattle.folder.proofs.PutLaws.{few-when-settled, put-when-settled, put-when-r
 use Rattle.word.proofs.Base.{rules}
 use Rattle.folder.proofs.write.put_size.Goals as goal
 
-pub put_blit-after-requires : goal.put_blit-after-requires
-put_blit-after-requires c = search (rules, few-when-settled)
+pub put_blit-requires : goal.put_blit-requires
+put_blit-requires c = search (rules, few-when-settled)
 
 pub returns-in-Settled : goal.returns-in-Settled
 returns-in-Settled c = search put-when-settled

@@ -124,3 +124,14 @@ told-none line tells = by-test (eqb line 0) refl tells
     by-test : (none : Bool) → eqb line 0 ≡ none → ◌≡◌ {A = Option ℕ} None (if none then None else Some line) → line ≡ 0
     by-test true is tells = eqb-true line 0 is
     by-test false is tells = let wrong : ◌≡◌ {A = ℕ} 0 1 = cc in absurd (omega arith)
+
+pub told-some : (line number : ℕ) → Some number ≡ told line → number ≡ 0 → ⊥
+unfolding told
+told-some line number tells none = by-test (eqb line 0) refl tells
+  where
+    by-test : (zero : Bool) → eqb line 0 ≡ zero → Some number ≡ (if zero then None else Some line) → ⊥
+    by-test true is tells = let wrong : ◌≡◌ {A = ℕ} 0 1 = cc in absurd (omega arith)
+    by-test false is tells =
+        let same : line ≡ 0 = cc in
+        let wrong : eqb line 0 ≡ true = eq-eqb line 0 same in
+        let n : ◌≡◌ {A = ℕ} 0 1 = cc in absurd (omega arith)

@@ -1,6 +1,6 @@
 -- Laws of a card's job: its writes one by one.
 use Rattle.word.proofs.Base.{◌≡◌, refl, sym, ap, ◌∙◌, ℕ, suc, ◌+◌, ◌-◌, ◌*◌, ◌<◌, ◌≤◌, arith, eqb, eqb→eq, List, []}
-use Rattle.word.proofs.Base.{◌∷◌, length, get_or, set, drop, drop_of_length-le, drop-cons}
+use Rattle.word.proofs.Base.{◌∷◌, length, get_or, drop, drop_of_length-le, drop-cons}
 use Rattle.word.specs.Laid.{laid}
 use Rattle.word.proofs.ChoiceLaws.{every-at}
 use Rattle.word.proofs.LaidLaws.{laid-over}
@@ -31,34 +31,34 @@ unfolding write_order
 write_order-length = refl
 
 -- the writes one by one
-pub writes-of-step : (text job one two : List ℕ) (start step key offset word : ℕ)
+pub writes-of-step : (text job two : List ℕ) (start step key offset word at : ℕ)
     → key ≡ get_or write_order step 0 → offset ≡ get_or offsets key 0 → word ≡ value text start key
-    → one ≡ set job (step * 2) offset → two ≡ set one (step * 2 + 1) word
-    → two ≡ laid (writes text start (get_or write_order step 0 ∷ [])) (step * 2) job
-unfolding writes laid
-writes-of-step text job one two start step key offset word is_key is-offset is_IsWord first second =
-    rw (← is_key, ← is-offset, ← is_IsWord, ← first) second
+    → two ≡ laid (offset ∷ word ∷ []) at job
+    → two ≡ laid (writes text start (get_or write_order step 0 ∷ [])) at job
+unfolding writes
+writes-of-step text job two start step key offset word at is_key is-offset is_IsWord lays =
+    rw (← is_key, ← is-offset, ← is_IsWord) lays
 
-pub writes-turn : (text job next whole : List ℕ) (start step : ℕ) → step < 20
-    → next ≡ laid (writes text start (get_or write_order step 0 ∷ [])) (step * 2) job
-    → laid (writes text start (drop step write_order)) (step * 2) job ≡ whole
-    → laid (writes text start (drop (step + 1) write_order)) ((step + 1) * 2) next ≡ whole
+pub writes-turn : (text job next whole : List ℕ) (start step at to : ℕ) → step < 20
+    → next ≡ laid (writes text start (get_or write_order step 0 ∷ [])) at job → to ≡ at + 2
+    → laid (writes text start (drop step write_order)) at job ≡ whole
+    → laid (writes text start (drop (step + 1) write_order)) to next ≡ whole
 unfolding writes laid
-writes-turn text job next whole start step inside lays so_far =
+writes-turn text job next whole start step at to inside lays moves so_far =
     let same : suc step ≡ step + 1 = omega arith in
-    let place : (step + 1) * 2 ≡ step * 2 + 1 + 1 = omega arith in
+    let place : at + 2 ≡ at + 1 + 1 = omega arith in
     let split : drop step write_order ≡ get_or write_order step 0 ∷ drop (step + 1) write_order =
     drop-cons write_order step 0 (omega (arith, inside, write_order-length))
-    ∙ ap (λ (at : ℕ). get_or write_order step 0 ∷ drop at write_order) same in
-    let here : laid (writes text start (get_or write_order step 0 ∷ drop (step + 1) write_order)) (step * 2) job ≡ whole =
-    sym (ap (λ (keys : List ℕ). laid (writes text start keys) (step * 2) job) split) ∙ so_far in
-    rw (place, lays) here
+    ∙ ap (λ (key : ℕ). get_or write_order step 0 ∷ drop key write_order) same in
+    let here : laid (writes text start (get_or write_order step 0 ∷ drop (step + 1) write_order)) at job ≡ whole =
+    sym (ap (λ (keys : List ℕ). laid (writes text start keys) at job) split) ∙ so_far in
+    rw (moves, place, lays) here
 
-pub writes-done : (text job whole : List ℕ) (start step : ℕ) → 20 ≤ step
-    → laid (writes text start (drop step write_order)) (step * 2) job ≡ whole → job ≡ whole
+pub writes-done : (text job whole : List ℕ) (start step at : ℕ) → 20 ≤ step
+    → laid (writes text start (drop step write_order)) at job ≡ whole → job ≡ whole
 unfolding writes laid
-writes-done text job whole start step past so_far =
-    sym (ap (λ (keys : List ℕ). laid (writes text start keys) (step * 2) job) (drop_of_length-le write_order {i = step} (omega (arith, past, write_order-length)))) ∙ so_far
+writes-done text job whole start step at past so_far =
+    sym (ap (λ (keys : List ℕ). laid (writes text start keys) at job) (drop_of_length-le write_order {i = step} (omega (arith, past, write_order-length)))) ∙ so_far
 
 writes-length : (text : List ℕ) (start : ℕ) (keys : List ℕ) → length (writes text start keys) ≡ length keys * 2
 unfolding writes

@@ -1,5 +1,5 @@
 -- Laws of a card's first line: its digits one by one, and what they give.
-use Rattle.std.specs.Prelude.{if◌then◌else◌}
+use Rattle.std.specs.Prelude.{Option, Some, None, if◌then◌else◌}
 use Rattle.word.proofs.Base.{◌≡◌, refl, sym, ap, ◌∙◌, ℕ, zero, suc, ◌+◌, ◌<◌, ◌≤◌, dec_lt, arith, Bool, true, false}
 use Rattle.word.proofs.Base.{◌&&◌, not, eqb, leb, ne_eqb, eqb-true, le-leb, lt-leb, leb-true, List, [], ◌∷◌, length}
 use Rattle.word.proofs.Base.{get_or, drop, List·get_or-eq-default, drop_of_length-le, drop-cons}
@@ -8,19 +8,19 @@ use Rattle.word.proofs.ChoiceLaws.{and_left, and_right, and_none}
 use Rattle.card_reading.specs.declared.types.Ram.{Ram}
 use Rattle.card_reading.specs.Text.{newline, byte, decimal_digit}
 use Rattle.card_reading.specs.RamLine.{digits, with_digit, spelled, ram_words, ram_end, ram_key, ram_line}
-use Rattle.card_reading.specs.Inner.Ram.{ram_read, ram_ended}
+use Rattle.card_reading.specs.Inner.Ram.{ram, ram_read, ram_ended}
 
 -- the digits ended
-pub ram_ended-when-none : (text : List ℕ) (at words : ℕ) → words ≡ 0 → Ram.Bad ≡ ram_ended text at words
+pub ram_ended-when-none : (text : List ℕ) (at words : ℕ) → words ≡ 0 → ◌≡◌ {A = Option Ram} None (ram_ended text at words)
 unfolding ram_ended
 ram_ended-when-none text at words none = rw none
 
-pub ram_ended-at-end : (text : List ℕ) (at words : ℕ) → length text ≤ at → Ram.Bad ≡ ram_ended text at words
+pub ram_ended-at-end : (text : List ℕ) (at words : ℕ) → length text ≤ at → ◌≡◌ {A = Option Ram} None (ram_ended text at words)
 unfolding ram_ended
 ram_ended-at-end text at words past = rw (List·get_or-eq-default text 0 past, and_none (leb 1 words))
 
 pub ram_ended-when-newline : (text : List ℕ) (at words : ℕ) → (words ≡ 0 → ⊥) → get_or text at 0 ≡ 10
-    → Ram.Words words (at + 1) ≡ ram_ended text at words
+    → Some (ram words (at + 1)) ≡ ram_ended text at words
 unfolding ram_ended
 ram_ended-when-newline text at words some is =
     let reached : leb 1 words ≡ true = le-leb 1 words (some-le words some) in
@@ -30,7 +30,7 @@ ram_ended-when-newline text at words some is =
     some-le zero some = absurd (some refl)
     some-le (suc words) some = omega arith
 
-pub ram_ended-when-other : (text : List ℕ) (at words : ℕ) → (get_or text at 0 ≡ 10 → ⊥) → Ram.Bad ≡ ram_ended text at words
+pub ram_ended-when-other : (text : List ℕ) (at words : ℕ) → (get_or text at 0 ≡ 10 → ⊥) → ◌≡◌ {A = Option Ram} None (ram_ended text at words)
 unfolding ram_ended
 ram_ended-when-other text at words other = rw (ne_eqb (byte text at) newline other, and_none (leb 1 words))
 
@@ -69,26 +69,26 @@ spelled-ge before [] = omega arith
 spelled-ge before (byte ∷ rest) = omega (arith, spelled-ge (with_digit before byte) rest)
 
 -- a number that is too large stays so
-ram_read-when-far : (text : List ℕ) → 32768 < ram_words text → Ram.Bad ≡ ram_read text
+ram_read-when-far : (text : List ℕ) → 32768 < ram_words text → None ≡ ram_read text
 unfolding ram_read ram_line
 ram_read-when-far text far =
     rw (lt-leb (ram_words text) 32768 far, and_none (ram_key text && not (eqb (byte text 4) (code "0")) && leb 1 (ram_words text)))
 
 pub ram_read-when-large : (text : List ℕ) (at here : ℕ) (digit : Bool) (words next : ℕ)
     → here ≡ get_or text at 0 → digit ≡ decimal_digit here → at < length text → digit ≡ true → next ≡ with_digit words here
-    → 32768 < next → spelled words (digits (drop at text)) ≡ ram_words text → Ram.Bad ≡ ram_read text
+    → 32768 < next → spelled words (digits (drop at text)) ≡ ram_words text → None ≡ ram_read text
 ram_read-when-large text at here digit words next is is_digit inside holds grows large so_far =
     let later = spelled-turn text at here is digit is_digit words next (ram_words text) inside holds grows so_far in
     ram_read-when-far text (omega (arith, large, later, spelled-ge next (digits (drop (at + 1) text))))
 
 -- the whole line
 module _ (text : List ℕ) (is : Bool) (of-key : is ≡ ram_key text) where
-  pub ram_read-when-keyless : is ≡ false → Ram.Bad ≡ ram_read text
+  pub ram_read-when-keyless : is ≡ false → None ≡ ram_read text
   unfolding ram_read ram_line
   ram_read-when-keyless fails = rw (← of-key, fails)
 
   module _ (named : is ≡ true) (first : ℕ) (of-first : first ≡ get_or text 4 0) where
-    pub ram_read-when-zero : first ≡ code "0" → Ram.Bad ≡ ram_read text
+    pub ram_read-when-zero : first ≡ code "0" → None ≡ ram_read text
     unfolding ram_read ram_line
     ram_read-when-zero same = rw (← of-key, named, ← of-first, same)
 
@@ -100,16 +100,16 @@ module _ (text : List ℕ) (is : Bool) (of-key : is ≡ ram_key text) where
           (by-test (leb 1 words))
         where
           by-test : (some : Bool)
-              → (if some && eqb (byte text at) newline then Ram.Words words (at + 1) else Ram.Bad)
-              ≡ (if some && true && eqb (byte text at) newline then Ram.Words words (at + 1) else Ram.Bad)
+              → (if some && eqb (byte text at) newline then Some (ram words (at + 1)) else None)
+              ≡ (if some && true && eqb (byte text at) newline then Some (ram words (at + 1)) else None)
           by-test true = refl
           by-test false = refl
 
-      pub ram_read-when-ended : (at words : ℕ) (ram : Ram) → words ≤ 32768 → spelled words (digits (drop at text)) ≡ ram_words text
-          → at + length (digits (drop at text)) ≡ ram_end text → digits (drop at text) ≡ [] → ram ≡ ram_ended text at words
-          → ram ≡ ram_read text
+      pub ram_read-when-ended : (at words : ℕ) (read : Option Ram) → words ≤ 32768 → spelled words (digits (drop at text)) ≡ ram_words text
+          → at + length (digits (drop at text)) ≡ ram_end text → digits (drop at text) ≡ [] → read ≡ ram_ended text at words
+          → read ≡ ram_read text
       unfolding spelled
-      ram_read-when-ended at words ram small so_far to none is =
+      ram_read-when-ended at words read small so_far to none is =
           is
           ∙ ended at words small (sym (ap (spelled words) none) ∙ so_far) (omega (arith, ap length none, to))
 
@@ -141,15 +141,16 @@ ram_words-le text good =
     (and_right (ram_key text && not (eqb (byte text 4) (code "0")) && leb 1 (ram_words text)) _
     (and_left (ram_key text && not (eqb (byte text 4) (code "0")) && leb 1 (ram_words text) && leb (ram_words text) 32768) _ good))
 
-pub ram_read-of-words : (text : List ℕ) (words start : ℕ) → Ram.Words words start ≡ ram_read text → RamIs text words start
+pub ram_read-of-words : (text : List ℕ) (words start : ℕ) → Some (ram words start) ≡ ram_read text → RamIs text words start
 unfolding ram_read
 ram_read-of-words text words start reads = by-test (ram_line text) refl reads
   where
     by-test : (good : Bool) → ram_line text ≡ good
-        → Ram.Words words start ≡ (if good then Ram.Words (ram_words text) (ram_end text + 1) else Ram.Bad) → RamIs text words start
+        → Some (ram words start) ≡ (if good then Some (ram (ram_words text) (ram_end text + 1)) else None) → RamIs text words start
     by-test true good same =
-        let many : words ≡ ram_words text = cc in
-        let next : start ≡ ram_end text + 1 = cc in
+        let parts : ram words start ≡ ram (ram_words text) (ram_end text + 1) = cc in
+        let many : words ≡ ram_words text = ap (λ (read : Ram). read.words) parts in
+        let next : start ≡ ram_end text + 1 = ap (λ (read : Ram). read.start) parts in
         record {
           good = good;
           many = many;
@@ -159,11 +160,11 @@ ram_read-of-words text words start reads = by-test (ram_line text) refl reads
         }
     by-test false bad same = let n : ◌≡◌ {A = ℕ} 0 1 = cc in absurd (omega arith)
 
-pub ram_read-of-bad : (text : List ℕ) → Ram.Bad ≡ ram_read text → ram_line text ≡ false
+pub ram_read-of-bad : (text : List ℕ) → None ≡ ram_read text → ram_line text ≡ false
 unfolding ram_read
 ram_read-of-bad text reads = by-test (ram_line text) refl reads
   where
     by-test : (good : Bool) → ram_line text ≡ good
-        → Ram.Bad ≡ (if good then Ram.Words (ram_words text) (ram_end text + 1) else Ram.Bad) → good ≡ false
+        → None ≡ (if good then Some (ram (ram_words text) (ram_end text + 1)) else None) → good ≡ false
     by-test true good same = let n : ◌≡◌ {A = ℕ} 0 1 = cc in absurd (omega arith)
     by-test false bad same = refl

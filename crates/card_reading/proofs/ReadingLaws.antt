@@ -1,20 +1,14 @@
 -- Laws of a card's lines: what is read of the first, and the first bad one of the others.
-use Rattle.std.specs.Prelude.{if◌then◌else◌}
+use Rattle.std.specs.Prelude.{Option, Some, None, if◌then◌else◌}
 use Rattle.word.proofs.Base.{◌≡◌, refl, sym, ap, ◌∙◌, ℕ, zero, suc, ◌+◌, ◌-◌, ◌*◌, ◌<◌, ◌≤◌, add-zero, dec_lt, arith}
 use Rattle.word.proofs.Base.{Bool, true, false, ◌&&◌, eqb, eq-eqb, ne_eqb, eqb-true, List, length, get_or}
 use Rattle.word.proofs.Base.{List·get_or-eq-default}
-use Prim.Native.Char.{code}
 use Rattle.word.proofs.ChoiceLaws.{and_none}
 use Rattle.card_reading.specs.Text.{newline, equals, byte, hex_digit}
-use Rattle.card_reading.specs.RamLine.{digits, ram_key}
+use Rattle.card_reading.specs.RamLine.{digits}
 use Rattle.card_reading.specs.Keys.{letter}
 use Rattle.card_reading.specs.Reading.{key_at, word_at, key_line, bad_from}
-
-pub ram_key-of-parts : (text : List ℕ) (a b c d : ℕ)
-    → a ≡ get_or text 0 0 → b ≡ get_or text 1 0 → c ≡ get_or text 2 0 → d ≡ get_or text 3 0
-    → (eqb a (code "r") && eqb b (code "a") && eqb c (code "m") && eqb d equals) ≡ ram_key text
-unfolding ram_key
-ram_key-of-parts text a b c d is-a is_b is_c is-d = rw (is-a, is_b, is_c, is-d)
+use Rattle.card_reading.specs.Inner.Ram.{told}
 
 pub key_at-of-parts : (text : List ℕ) (at key a b c d : ℕ)
     → a ≡ letter key 0 → b ≡ letter key 1 → c ≡ letter key 2 → d ≡ letter key 3
@@ -103,3 +97,41 @@ bad_from-of-none text at key (suc to_come) none =
 
 pub good-fits : (text : List ℕ) (start line : ℕ) → line ≡ bad_from text start 0 20 → line ≡ 0 → start + 200 ≤ length text
 good-fits text start line is none = omega (arith, bad_from-of-none text start 0 20 (sym is ∙ none))
+
+-- a line's number is told, where it isn't 0
+pub told-when-some : (line number : ℕ) → 1 ≤ number → number ≡ line → Some number ≡ told line
+unfolding told
+told-when-some line number some is =
+    let other : number ≡ 0 → ⊥ = λ same. absurd (omega arith) in
+    rw (← is, ne_eqb number 0 other)
+
+pub told-when-none : (line : ℕ) → 0 ≡ line → ◌≡◌ {A = Option ℕ} None (told line)
+unfolding told
+told-when-none line is = rw (← is)
+
+pub told-is : (line number : ℕ) → Some number ≡ told line → number ≡ line
+unfolding told
+told-is line number tells = by-test (eqb line 0) tells
+  where
+    by-test : (none : Bool) → Some number ≡ (if none then None else Some line) → number ≡ line
+    by-test true tells = let wrong : ◌≡◌ {A = ℕ} 0 1 = cc in absurd (omega arith)
+    by-test false tells = cc
+
+pub told-none : (line : ℕ) → ◌≡◌ {A = Option ℕ} None (told line) → line ≡ 0
+unfolding told
+told-none line tells = by-test (eqb line 0) refl tells
+  where
+    by-test : (none : Bool) → eqb line 0 ≡ none → ◌≡◌ {A = Option ℕ} None (if none then None else Some line) → line ≡ 0
+    by-test true is tells = eqb-true line 0 is
+    by-test false is tells = let wrong : ◌≡◌ {A = ℕ} 0 1 = cc in absurd (omega arith)
+
+pub told-some : (line number : ℕ) → Some number ≡ told line → number ≡ 0 → ⊥
+unfolding told
+told-some line number tells none = by-test (eqb line 0) refl tells
+  where
+    by-test : (zero : Bool) → eqb line 0 ≡ zero → Some number ≡ (if zero then None else Some line) → ⊥
+    by-test true is tells = let wrong : ◌≡◌ {A = ℕ} 0 1 = cc in absurd (omega arith)
+    by-test false is tells =
+        let same : line ≡ 0 = cc in
+        let wrong : eqb line 0 ≡ true = eq-eqb line 0 same in
+        let n : ◌≡◌ {A = ℕ} 0 1 = cc in absurd (omega arith)

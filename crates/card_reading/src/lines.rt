@@ -3,35 +3,36 @@ ghost use Rattle.std.specs.Prelude.{◌≡◌, ◌+◌, ◌<◌, ◌≤◌, true
 ghost use Rattle.card_reading.specs.Text.{decimal_digit};
 ghost use Rattle.card_reading.specs.RamLine.{with_digit, ram_key};
 ghost use Rattle.card_reading.specs.Keys.{letter};
-ghost use Rattle.card_reading.specs.Reading.{key_at, word_at, key_line, bad_from};
-ghost use Rattle.card_reading.specs.Inner.Ram.{ram_read, ram_ended};
+ghost use Rattle.card_reading.specs.Reading.{key_at, word_at, key_line};
+ghost use Rattle.card_reading.specs.Inner.Ram.{ram_read, ram_ended, bad_read};
 
 use crate::text::{byte, decimal_digit, hex_digit};
 use crate::types::Ram;
 
+#[tactic(auto, unfolding(crate::specs::RamLine::ram_key))]
 fn ram_key(text: &[u8]) -> bool
     ensures { result ≡ ram_key text.now }
 {
-    (byte(text, 0) == b'r')
-        & (byte(text, 1) == b'a')
-        & (byte(text, 2) == b'm')
-        & (byte(text, 3) == b'=')
+    text.starts_with(b"ram=")
 }
 
 // What the digits before a place give, when none follows.
-fn ram_ended(text: &[u8], at: usize, words: u32) -> Ram
+fn ram_ended(text: &[u8], at: usize, words: u32) -> Option<Ram>
     ensures { result ≡ ram_ended text.now at words }
 {
     if words == 0 {
-        return Ram::Bad;
+        return None;
     }
     if text.len() <= at {
-        return Ram::Bad;
+        return None;
     }
     if text[at] == b'\n' {
-        return Ram::Words(words, at + 1);
+        return Some(Ram {
+            words,
+            start: at + 1,
+        });
     }
-    Ram::Bad
+    None
 }
 
 fn with_digit(words: u32, digit: u8) -> u32
@@ -42,29 +43,27 @@ fn with_digit(words: u32, digit: u8) -> u32
 }
 
 // The digits are read only as long as the number is small enough.
-pub fn ram_line(text: &[u8]) -> Ram
+pub fn ram_line(text: &[u8]) -> Option<Ram>
     ensures { result ≡ ram_read text.now }
 {
     if !ram_key(text) {
-        return Ram::Bad;
+        return None;
     }
     if byte(text, 4) == b'0' {
-        return Ram::Bad;
+        return None;
     }
-    let mut at: usize = 4;
     let mut words: u32 = 0;
-    while at < text.len() {
+    for at in 4..text.len() {
         let here = text[at];
         if !decimal_digit(here) {
             return ram_ended(text, at, words);
         }
         words = with_digit(words, here);
         if 32768 < words {
-            return Ram::Bad;
+            return None;
         }
-        at = at + 1;
     }
-    ram_ended(text, at, words)
+    None
 }
 
 const LETTERS: [u8; 80] =
@@ -109,22 +108,20 @@ fn key_line(text: &[u8], at: usize, key: u32) -> bool
     key_at(text, at, key) & (equals == b'=') & word_at(text, at + 5) & (end == b'\n')
 }
 
-// The first bad line after the first, 0 where none is.
-pub fn bad_from(text: &[u8], start: usize) -> u32
+// The first bad line after the first, where one is.
+pub fn bad_from(text: &[u8], start: usize) -> Option<u32>
     requires { start ≤ length text.now }
-    ensures { result ≡ bad_from text.now start 0 20 }
+    ensures { result ≡ bad_read text.now start }
 {
     let mut at = start;
-    let mut key: u32 = 0;
-    while key < 20 {
+    for key in 0..20 {
         if !key_line(text, at, key) {
-            return key + 2;
+            return Some(key + 2);
         }
-        at = at + 10;
-        key = key + 1;
+        at += 10;
     }
     if at == text.len() {
-        return 0;
+        return None;
     }
-    22
+    Some(22)
 }

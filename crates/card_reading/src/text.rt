@@ -5,24 +5,24 @@ ghost use Rattle.card_reading.specs.Text.{decimal_digit, capital, hex_digit, hex
 pub fn byte(text: &[u8], at: usize) -> u8
     ensures { result ≡ get_or text.now at 0 }
 {
-    if at < text.len() {
-        return text[at];
-    }
-    0
+    text.get(at).copied().unwrap_or(0)
 }
 
+#[tactic(auto, unfolding(crate::specs::Text::decimal_digit))]
 pub fn decimal_digit(byte: u8) -> bool
     ensures { result ≡ decimal_digit byte }
 {
-    (b'0' <= byte) & (byte <= b'9')
+    byte.is_ascii_digit()
 }
 
+#[tactic(auto, unfolding(crate::specs::Text::capital))]
 fn capital(byte: u8) -> bool
     ensures { result ≡ capital byte }
 {
     (b'A' <= byte) & (byte <= b'F')
 }
 
+#[tactic(auto, unfolding(crate::specs::Text::hex_digit))]
 pub fn hex_digit(byte: u8) -> bool
     ensures { result ≡ hex_digit byte }
 {

@@ -1,8 +1,8 @@
 // The type that the reading of a card's first line speaks of.
 
-// The words of memory that the first line asks for, with the place of the second line; or a bad line.
+// The words of memory that the first line asks for, and the place of the second line.
 #[derive(Clone, Copy)]
-pub enum Ram {
-    Words(u32, usize),
-    Bad,
+pub struct Ram {
+    pub words: u32,
+    pub start: usize,
 }

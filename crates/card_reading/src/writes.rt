@@ -3,6 +3,8 @@ ghost use Rattle.std.specs.Prelude.{◌≡◌, [], ◌∷◌, ◌*◌, ◌+◌, 
 ghost use Rattle.word.specs.Laid.{laid};
 ghost use Rattle.card_reading.specs.Job.{offsets, write_order, value, writes};
 
+use word::laying::Laying;
+
 const OFFSETS: [u16; 20] = [
     0x040, 0x042, 0x044, 0x046, 0x048, 0x04A, 0x04C, 0x04E, 0x050, 0x052, 0x054, 0x056, 0x058,
     0x060, 0x062, 0x064, 0x066, 0x070, 0x072, 0x074,
@@ -37,14 +39,16 @@ fn value(text: &[u8], start: usize, key: u32) -> u16
     crate::text::hex_word(text, start + key as usize * 10 + 5)
 }
 
-fn write_step(job: &mut [u16], step: u32, text: &[u8], start: usize)
-    requires { (start + 200 ≤ length text.now) × (step < 20) }
-    ensures { job.new
-        ≡ laid (writes text.now start (get_or write_order step 0 ∷ [])) (step * 2) job.old }
+// The write of a step: an offset, then a value.
+fn write_step(job: &mut Laying<u16>, step: u32, text: &[u8], start: usize)
+    requires { (start + 200 ≤ length text.now) × (step < 20) × (job.old.at < 1000) }
+    ensures same_run { job.new.run.ghost_name ≡ job.old.run.ghost_name }
+    ensures words { job.new.run.now
+        ≡ laid (writes text.now start (get_or write_order step 0 ∷ [])) job.old.at job.old.run.now }
+    ensures place { job.new.at ≡ job.old.at + 2 }
 {
     let key = write_order(step);
-    word::memory::write(job, step * 2, offset(key));
-    word::memory::write(job, step * 2 + 1, value(text, start, key));
+    job.put_all(&[offset(key), value(text, start, key)]);
 }
 
 // Writes the job; the keys' lines start at a place of the text.
@@ -53,9 +57,8 @@ pub fn job(text: &[u8], start: usize, job: &mut [u16])
     ensures { job.new
         ≡ laid (writes text.now start write_order) 0 job.old }
 {
-    let mut step: u32 = 0;
-    while step < 20 {
-        write_step(job, step, text, start);
-        step = step + 1;
+    let mut words = Laying { run: job, at: 0 };
+    for step in 0..20 {
+        write_step(&mut words, step, text, start);
     }
 }

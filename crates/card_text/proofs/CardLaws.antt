@@ -1,19 +1,21 @@
 -- Laws of the card as a whole: the run that it prints, and the cases of its text.
-use Rattle.word.proofs.Base.{◌≡◌, refl, sym, ap, ◌∙◌, ℕ, ◌≤◌, arith, Bool, false, ne_eqb, List, length, take, length-take-le}
+use Rattle.std.specs.Prelude.{Option, Some, None}
+use Rattle.word.proofs.Base.{◌≡◌, refl, sym, ap, ◌∙◌, ℕ, ◌+◌, ◌≤◌, arith, Bool, false, ne_eqb, List, length, take, length-take-le}
 use Rattle.file.specs.Places.{file_length}
 use Rattle.runner.specs.declared.types.Answer.{Answer}
 use Rattle.runner.specs.Run.{ended, machine, run}
 use Rattle.runner.specs.Answer.{answer_number, answer_place, answer_stored, answer_round, left}
 use Rattle.card_reading.specs.declared.types.Ram.{Ram}
 use Rattle.card_reading.specs.Reading.{bad_from, bad_line}
-use Rattle.card_reading.specs.Inner.Ram.{ram_read}
+use Rattle.card_reading.specs.Inner.Ram.{ram_read, bad_read, told}
 use Rattle.card_reading.specs.Job.{write_order, writes}
 use Rattle.card_text.specs.Run.{counted, zeros, card_run}
 use Rattle.card_text.specs.Printing.{printed_run, printed_bad}
 use Rattle.card_text.specs.Card.{Written, writing, printed}
 use Rattle.word.specs.Laid.{laid}
 use Rattle.card_reading.proofs.JobLaws.{writes-fill}
-use Rattle.card_reading.proofs.RamLaws.{ram_read-of-words, ram_read-of-bad}
+use Rattle.card_reading.proofs.RamLaws.{RamIs, ram_read-of-words, ram_read-of-bad}
+use Rattle.card_reading.proofs.ReadingLaws.{good-fits, told-is, told-some, told-none}
 
 -- what is printed of a run tells neither its place nor its yes
 printed_run-anywhere : (number place stored : ℕ) (round : Bool) (memory file : List ℕ)
@@ -34,50 +36,55 @@ printed_run-of-answer many number stored answer start memory file job ram end be
     (printed_run-anywhere number (answer_place answer) stored (answer_round answer) memory file ∙ ap printed_run (same ∙ asked))
 
 -- what a good first line leaves to the others
-module _ (text : List ℕ) (ram : Ram) (reads : ram ≡ ram_read text) (words start : ℕ) (is : ram ≡ Ram.Words words start) where
-  pub start-le : start ≤ length text
-  start-le = (ram_read-of-words text words start (sym is ∙ reads)).inside
+module _ (text : List ℕ) (read : Option Ram) (reads : read ≡ ram_read text) (ram : Ram) (is : read ≡ Some ram) where
+  said : RamIs text ram.words ram.start
+  said = ram_read-of-words text ram.words ram.start (sym is ∙ reads)
 
-  pub words-le : words ≤ 32768
-  words-le = (ram_read-of-words text words start (sym is ∙ reads)).small
+  pub start-le : ram.start ≤ length text
+  start-le = said.inside
 
--- the card's text, case by case
-module _ (text : List ℕ) (before after : Written) where
-  pub printed-when-ram-bad : (ram : Ram) → ram ≡ ram_read text → ram ≡ Ram.Bad → after ≡ writing (printed_bad 1) before
+  pub words-le : ram.words ≤ 32768
+  words-le = said.small
+
+  pub good-fits-card : (line : Option ℕ) → line ≡ bad_read text ram.start → line ≡ None → ram.start + 200 ≤ length text
+  good-fits-card line of-line none = good-fits text ram.start 0 (sym (told-none _ (sym none ∙ of-line))) refl
+
+  line-of-lines : bad_from text ram.start 0 20 ≡ bad_line text
+  unfolding bad_line
+  line-of-lines = rw said.good (ap (λ (at : ℕ). bad_from text at 0 20) said.next)
+
+  -- the card's text, bad after its first line or good
+  pub printed-when-bad : (before after : Written) (line : Option ℕ) (number : ℕ) → line ≡ bad_read text ram.start → line ≡ Some number
+      → after ≡ writing (printed_bad number) before → after ≡ writing (printed text) before
+  unfolding printed
+  printed-when-bad before after line number of-line some prints =
+      let tells : Some number ≡ told (bad_from text ram.start 0 20) = sym some ∙ of-line in
+      let same : number ≡ bad_line text = told-is _ number tells ∙ line-of-lines in
+      rw (← same, ne_eqb number 0 (told-some _ number tells)) prints
+
+  pub printed-when-good : (before after : Written) (line : Option ℕ) → line ≡ bad_read text ram.start → line ≡ None
+      → after ≡ writing (printed_run (run (counted 0 ram.words) (zeros file_length) (writes text ram.start write_order))) before
       → after ≡ writing (printed text) before
-  unfolding printed bad_line
-  printed-when-ram-bad ram reads bad prints = rw (ram_read-of-bad text (sym bad ∙ reads)) prints
+  unfolding printed card_run
+  printed-when-good before after line of-line none prints =
+      let good : bad_line text ≡ 0 = sym line-of-lines ∙ told-none _ (sym none ∙ of-line) in
+      rw (good, ← said.many, ← said.next) prints
 
-  module _ (ram : Ram) (reads : ram ≡ ram_read text) (words start : ℕ) (is : ram ≡ Ram.Words words start)
-      (line : ℕ) (of-line : line ≡ bad_from text start 0 20) where
-    line-of-lines : line ≡ bad_line text
-    unfolding bad_line
-    line-of-lines =
-        let said = ram_read-of-words text words start (sym is ∙ reads) in
-        rw said.good (of-line ∙ ap (λ (at : ℕ). bad_from text at 0 20) said.next)
-
-    pub printed-when-bad : (line ≡ 0 → ⊥) → after ≡ writing (printed_bad line) before → after ≡ writing (printed text) before
-    unfolding printed
-    printed-when-bad some prints = rw (← line-of-lines, ne_eqb line 0 some) prints
-
-    pub printed-when-good : line ≡ 0
-        → after ≡ writing (printed_run (run (counted 0 words) (zeros file_length) (writes text start write_order))) before
-        → after ≡ writing (printed text) before
-    unfolding printed card_run
-    printed-when-good none prints =
-        let said = ram_read-of-words text words start (sym is ∙ reads) in
-        rw (← line-of-lines, none, ← said.many, ← said.next) prints
+pub printed-when-ram-bad : (text : List ℕ) (before after : Written) (read : Option Ram) → read ≡ ram_read text → read ≡ None
+    → after ≡ writing (printed_bad 1) before → after ≡ writing (printed text) before
+unfolding printed bad_line
+printed-when-ram-bad text before after read reads bad prints = rw (ram_read-of-bad text (sym bad ∙ reads)) prints
 
 -- the first words of a run that is long enough
-pub prefix-length : (room : List ℕ) (many : ℕ) → many ≤ 32768 → 32768 ≡ length room → many ≡ length (take many room)
+pub prefix-length : (room : List ℕ) (many : ℕ) → many ≤ 32768 → length room ≡ 32768 → many ≡ length (take many room)
 prefix-length room many small long = sym (length-take-le many room (omega (arith, small, long)))
 
-pub prefix-le : (room : List ℕ) (many : ℕ) → many ≤ 32768 → 32768 ≡ length room → length (take many room) ≤ 32768
+pub prefix-le : (room : List ℕ) (many : ℕ) → many ≤ 32768 → length room ≡ 32768 → length (take many room) ≤ 32768
 prefix-le room many small long = omega (arith, small, prefix-length room many small long)
 
 -- the run of a good card, its job and memory made
 pub printed_run-of-job : (text room before-job job out : List ℕ) (start words : ℕ) (before after : Written)
-    → words ≤ 32768 → 32768 ≡ length room → length before-job ≡ 40 → job ≡ laid (writes text start write_order) 0 before-job
+    → words ≤ 32768 → length room ≡ 32768 → length before-job ≡ 40 → job ≡ laid (writes text start write_order) 0 before-job
     → after ≡ writing (printed_run (run (counted 0 (length (take words room))) (zeros file_length) job)) before
     → after ≡ writing (printed_run (run (counted 0 words) (zeros file_length) (writes text start write_order))) before
 printed_run-of-job text room before-job job out start words before after small long forty lays prints =

@@ -1,21 +1,12 @@
 -- Laws of what is printed: digits, numbers and lines, out of their pieces.
-use Rattle.word.proofs.Base.{◌≡◌, sym, ap, ap₂, ◌∙◌, ℕ, suc, ◌+◌, ◌-◌, ◌*◌, ◌/◌, ◌%◌, ◌<◌, ◌≤◌, arith, false, eq-eqb, ne_eqb}
+use Rattle.word.proofs.Base.{◌≡◌, sym, ap, ap₂, ◌∙◌, ℕ, suc, ◌+◌, ◌*◌, ◌/◌, ◌%◌, ◌<◌, ◌≤◌, arith, false, eq-eqb, ne_eqb}
 use Rattle.word.proofs.Base.{le-leb, lt-leb, List, [], ◌∷◌, length, get_or, drop, drop_of_length-le, drop-cons}
-use Prim.Native.Char.{code}
 use Rattle.file.specs.Places.{pointer_d, flag}
 use Rattle.runner.specs.Run.{ended, machine}
 use Rattle.card_reading.specs.Text.{newline, colon, glyph, hex4, hex5, leading, decimal}
 use Rattle.card_text.specs.Printing.{answer_is, stored_is, zero_is, dpt_is, word_is, line_is, number_line, dpt_line, word_line, changed_word, changed, printed_run, printed_bad}
 use Rattle.card_text.specs.Card.{Written, written, writing}
 use Rattle.card_text.proofs.WritingLaws.{writing-of-none, writing-of-append, writing-then}
-
-pub glyph-when-decimal : (digit : ℕ) → digit ≤ 9 → code "0" + digit ≡ glyph digit
-unfolding glyph
-glyph-when-decimal digit small = rw (le-leb digit 9 small)
-
-pub glyph-when-letter : (digit : ℕ) → 9 < digit → code "A" + (digit - 10) ≡ glyph digit
-unfolding glyph
-glyph-when-letter digit large = rw (lt-leb digit 9 large)
 
 pub leading-when-small : (power n at : ℕ) (out : List ℕ) → n < power → written at out ≡ writing (leading power n) (written at out)
 unfolding leading
@@ -39,16 +30,11 @@ decimal-of-pieces n byte before one two three four five first second third fourt
     (writing-then _ _ two three five third
     (writing-then _ _ three four five fourth last)))
 
-pub hex4-of-pieces : (n a b c d : ℕ) (before one two three four : Written)
+pub hex4-of-pieces : (n a b c d : ℕ) (before after : Written)
     → a ≡ glyph (n / 4096 % 16) → b ≡ glyph (n / 256 % 16) → c ≡ glyph (n / 16 % 16) → d ≡ glyph (n % 16)
-    → one ≡ writing (a ∷ []) before → two ≡ writing (b ∷ []) one → three ≡ writing (c ∷ []) two → four ≡ writing (d ∷ []) three
-    → four ≡ writing (hex4 n) before
+    → after ≡ writing (a ∷ b ∷ c ∷ d ∷ []) before → after ≡ writing (hex4 n) before
 unfolding hex4
-hex4-of-pieces n a b c d before one two three four is-a is_b is_c is-d first second third fourth =
-    rw (← is-a, ← is_b, ← is_c, ← is-d)
-    (writing-then (a ∷ []) (b ∷ c ∷ d ∷ []) before one four first
-    (writing-then (b ∷ []) (c ∷ d ∷ []) one two four second
-    (writing-then (c ∷ []) (d ∷ []) two three four third fourth)))
+hex4-of-pieces n a b c d before after is-a is_b is_c is-d puts = rw (← is-a, ← is_b, ← is_c, ← is-d) puts
 
 pub hex5-of-pieces : (n a : ℕ) (before one two : Written) → a ≡ glyph (n / 65536 % 16)
     → one ≡ writing (a ∷ []) before → two ≡ writing (hex4 n) one → two ≡ writing (hex5 n) before

@@ -28,23 +28,16 @@ fn run_on(ram: &mut [u16], job: &[u16], out: &mut [u8]) -> usize
     crate::printing::print_run(out, number, stored, ram, &file)
 }
 
-// Room for the longest memory that a card may ask for.
-fn room() -> [u16; 32768]
-    ensures { 32768 ≡ length result }
-{
-    [0; 32768]
-}
-
-// A good card: its job, run on so many words of memory.
-fn good(text: &[u8], start: usize, words: u32, out: &mut [u8]) -> usize
-    requires { (start + 200 ≤ length text.now) × (words ≤ 32768) }
+// A good card: its job, run on so many words of memory. The room is for the longest that a card may ask for.
+fn good(text: &[u8], ram: Ram, out: &mut [u8]) -> usize
+    requires { (ram.start + 200 ≤ length text.now) × (ram.words ≤ 32768) }
     ensures { written result out.new
-        ≡ writing (printed_run (run (counted 0 words) (zeros file_length) (writes text.now start write_order))) (written 0 out.old) }
+        ≡ writing (printed_run (run (counted 0 ram.words) (zeros file_length) (writes text.now ram.start write_order))) (written 0 out.old) }
 {
     let mut job = [0u16; 40];
-    card_reading::writes::job(text, start, &mut job);
-    let mut ram = room();
-    run_on(&mut ram[..words as usize], &job, out)
+    card_reading::writes::job(text, ram.start, &mut job);
+    let mut room = [0u16; 32768];
+    run_on(&mut room[..ram.words as usize], &job, out)
 }
 
 // Prints what a card's text asks for into an output, and answers the length of what it prints.
@@ -53,14 +46,11 @@ pub fn card(text: &[u8], out: &mut [u8]) -> usize
     ensures { written result out.new
         ≡ writing (printed text.now) (written 0 out.old) }
 {
-    match card_reading::lines::ram_line(text) {
-        Ram::Bad => crate::printing::print_bad(out, 1),
-        Ram::Words(words, start) => {
-            let line = card_reading::lines::bad_from(text, start);
-            if line == 0 {
-                return good(text, start, words, out);
-            }
-            crate::printing::print_bad(out, line)
-        }
+    let Some(ram) = card_reading::lines::ram_line(text) else {
+        return crate::printing::print_bad(out, 1);
+    };
+    match card_reading::lines::bad_from(text, ram.start) {
+        Some(line) => crate::printing::print_bad(out, line),
+        None => good(text, ram, out),
     }
 }

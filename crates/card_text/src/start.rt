@@ -7,10 +7,7 @@ pub fn count(ram: &mut [u16])
     requires { length ram.old ≤ 32768 }
     ensures { ram.new ≡ counted 0 (length ram.old) }
 {
-    let words = ram.len();
-    let mut at: usize = 0;
-    while at < words {
-        word::memory::write(ram, at as u32, at as u16);
-        at = at + 1;
+    for at in 0..ram.len() {
+        ram[at] = at as u16;
     }
 }

@@ -1,2 +1,1 @@
--- What only the contracts of the output speak of: the words are settled's.
-pub mod Inner
+-- The words of a settled blit are settled's.

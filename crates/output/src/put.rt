@@ -3,45 +3,36 @@ ghost use Rattle.std.specs.Prelude.{◌≡◌, [], ◌∷◌, ◌++◌, ◌+◌,
 ghost use Rattle.settled.specs.Words.{store_words, pointer_words, flag_words};
 ghost use Rattle.word.specs.Laid.{laid};
 
+use stores::types::Store;
+use word::laying::Laying;
 use word::types::Pointer;
 
 // A store step.
-pub fn put_store(out: &mut [u16], at: u32, to: Pointer, value: u16)
-    requires { at < 4294967000 }
-    ensures { out.new ≡ laid (store_words to value) at out.old }
+pub fn put_store(out: &mut Laying<u16>, store: Store)
+    requires { out.old.at < 4294967000 }
+    ensures same_run { out.new.run.ghost_name ≡ out.old.run.ghost_name }
+    ensures words { out.new.run.now
+        ≡ laid (store_words store.to store.value) out.old.at out.old.run.now }
+    ensures place { out.new.at ≡ out.old.at + 3 }
 {
-    word::memory::write(out, at, 0x8000 + to.high());
-    word::memory::write(out, at + 1, to.low());
-    word::memory::write(out, at + 2, value);
-}
-
-// Writes of 054 and 056.
-fn put_pointer(out: &mut [u16], at: u32, pointer: Pointer)
-    requires { at < 4294967000 }
-    ensures { out.new ≡ laid (pointer_words pointer) at out.old }
-{
-    word::memory::write(out, at, 0x0054);
-    word::memory::write(out, at + 1, pointer.high());
-    word::memory::write(out, at + 2, 0x0056);
-    word::memory::write(out, at + 3, pointer.low());
+    out.put_all(&[0x8000 + store.to.high(), store.to.low(), store.value]);
 }
 
 fn flag_word(allzero: bool) -> u16
     ensures { (result ∷ []) ≡ flag_words allzero }
 {
-    if allzero {
-        return 0xC001;
-    }
-    0xC000
+    if allzero { 0xC001 } else { 0xC000 }
 }
 
-// What follows a settled blit's stores: the final D pointer, then the flag step.
-pub fn put_end(out: &mut [u16], at: u32, pointer: Pointer, allzero: bool)
-    requires { at < 4294966000 }
-    ensures { out.new ≡ laid (pointer_words pointer ++ flag_words allzero) at out.old }
+// What follows a settled blit's stores: writes of 054 and 056 with the final D pointer, then the flag step.
+pub fn put_end(out: &mut Laying<u16>, pointer: Pointer, allzero: bool)
+    requires { out.old.at < 4294966000 }
+    ensures same_run { out.new.run.ghost_name ≡ out.old.run.ghost_name }
+    ensures words { out.new.run.now
+        ≡ laid (pointer_words pointer ++ flag_words allzero) out.old.at out.old.run.now }
 {
-    put_pointer(out, at, pointer);
-    word::memory::write(out, at + 4, flag_word(allzero));
+    let flag = flag_word(allzero);
+    out.put_all(&[0x0054, pointer.high(), 0x0056, pointer.low(), flag]);
 }
 
 // Words of the job, as they stand.
@@ -50,13 +41,5 @@ pub fn put_copied(out: &mut [u16], at: u32, job: &[u16], from: usize, count: u32
     ensures { out.new
         ≡ laid (take count (drop from job.now)) at out.old }
 {
-    let mut remaining = count;
-    let mut to = at;
-    let mut here = from;
-    while 0 < remaining {
-        word::memory::write(out, to, job[here]);
-        to = to + 1;
-        here = here + 1;
-        remaining = remaining - 1;
-    }
+    word::memory::copy(out, at as usize, job, from, count as usize);
 }

@@ -4,41 +4,42 @@ ghost use Rattle.word.specs.Laid.{laid};
 ghost use Rattle.word.specs.Size.{height, width};
 ghost use Rattle.stores.specs.Stores.{stores, all_zero, final_d};
 ghost use Rattle.settled.specs.Words.{stores_words, settled_words};
-ghost use Rattle.output.specs.Inner.Paired.{paired_words};
 
+use stores::types::Store;
+use word::laying::Laying;
 use word::types::Pointer;
 
 // The most words that a settled blit has.
 const MOST: usize = 64;
 
-// The store steps of so many places and values.
-fn put_stores(out: &mut [u16], at: u32, places: &[u32], values: &[u16], many: u32)
-    requires { (at < 1000000) × (many ≤ 64) × (many ≤ length places.now) × (many ≤ length values.now) }
-    ensures { out.new
-        ≡ laid (paired_words places.now values.now 0 many) at out.old }
+// The store steps of stores.
+fn put_stores(out: &mut Laying<u16>, stores: &[Store])
+    requires { (out.old.at < 1000000) × (length stores.now ≤ 64) }
+    ensures same_run { out.new.run.ghost_name ≡ out.old.run.ghost_name }
+    ensures words { out.new.run.now ≡ laid (stores_words stores.now) out.old.at out.old.run.now }
+    ensures place { out.new.at ≡ out.old.at + 3 * length stores.now }
 {
-    let mut from: u32 = 0;
-    let mut to = at;
-    while from < many {
-        let place = Pointer {
-            word: places[from as usize],
-        };
-        crate::put::put_store(out, to, place, values[from as usize]);
-        to = to + 3;
-        from = from + 1;
+    for store in stores {
+        crate::put::put_store(out, *store);
     }
 }
 
 // The stores of a blit of so many words; answers whether every word was zero.
-fn put_blit(out: &mut [u16], at: u32, file: &[u16], size: u16, many: u32) -> bool
-    requires { (at < 1000000) × (many ≤ 64) × (many ≡ height size * width size) }
-    ensures { (out.new ≡ laid (stores_words (stores file.now size)) at out.old)
-        × (result ≡ all_zero (stores file.now size)) }
+fn put_blit(out: &mut Laying<u16>, file: &[u16], size: u16, many: usize) -> bool
+    requires { (out.old.at < 1000000) × (many ≤ 64) × (many ≡ height size * width size) }
+    ensures same_run { out.new.run.ghost_name ≡ out.old.run.ghost_name }
+    ensures words { out.new.run.now
+        ≡ laid (stores_words (stores file.now size)) out.old.at out.old.run.now }
+    ensures place { out.new.at ≡ out.old.at + 3 * many }
+    ensures flag { result ≡ all_zero (stores file.now size) }
 {
-    let mut places = [0u32; MOST];
-    let mut values = [0u16; MOST];
-    let allzero = stores::stores(file, size, &mut places, &mut values);
-    put_stores(out, at, &places, &values, many);
+    let nothing = Store {
+        to: Pointer { word: 0 },
+        value: 0,
+    };
+    let mut run = [nothing; MOST];
+    let allzero = stores::stores(file, size, &mut run);
+    put_stores(out, &run[..many]);
     allzero
 }
 
@@ -49,8 +50,12 @@ pub fn put_settled(out: &mut [u16], at: u32, file: &[u16], size: u16) -> Pointer
         × (result ≡ final_d file.now size) }
 {
     let many = word::size::height(size) * word::size::width(size);
-    let allzero = put_blit(out, at, file, size, many);
+    let mut words = Laying {
+        run: out,
+        at: at as usize,
+    };
+    let allzero = put_blit(&mut words, file, size, many as usize);
     let end = stores::final_d(file, size);
-    crate::put::put_end(out, at + 3 * many, end, allzero);
+    crate::put::put_end(&mut words, end, allzero);
     end
 }

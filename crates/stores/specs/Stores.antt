@@ -10,9 +10,12 @@ use Rattle.area.specs.declared.types.Setup.{Setup}
 use Rattle.area.specs.Setup.{setup}
 use Rattle.area.specs.Flow.{State, state, pointers, start}
 use Rattle.area.specs.Rows.{finished_word, one_word, row_start, one_row}
-pub use Rattle.stores.specs.declared.types.Store.{Store}
+use Rattle.stores.specs.declared.types.Store as declared
 
 -- a word that is stored, and where it goes
+abbrev pub Store : Type 0
+Store = declared.Store
+
 abbrev pub store : (to : Pointer) → (value : ℕ) → Store
 store to value = record { to = to; value = value }
 

@@ -1,19 +1,19 @@
--- `card_text::card` meets its contract: a bad first line, a good card, another bad line.
-use Rattle.card_reading.proofs.ReadingLaws.{good-fits}
-use Rattle.card_text.proofs.CardLaws.{start-le, words-le, printed-when-ram-bad, printed-when-bad, printed-when-good}
+-- `card_text::card` meets its contract: a bad first line, another bad line, a good card.
+use Rattle.card_text.proofs.CardLaws.{start-le, words-le, good-fits-card, printed-when-ram-bad, printed-when-bad, printed-when-good}
 use Rattle.card_text.proofs.card.Goals as goal
 
-pub bad_from-line-requires : goal.bad_from-line-requires
-bad_from-line-requires c = search start-le
+pub returns-in_default : goal.returns-in_default
+returns-in_default c = printed-when-ram-bad _ _ _ _ c.ram_line.ensures c.in_default.is c.print_bad.ensures
+
+pub bad_from-requires : goal.bad_from-requires
+bad_from-requires c = start-le _ _ c.ram_line.ensures _ c.in-Some.is
 
 pub good-requires : goal.good-requires
-good-requires c = (search good-fits, search words-le)
+good-requires c = (good-fits-card _ _ c.ram_line.ensures _ c.in-Some.is _ c.bad_from.ensures c.in-None.is, words-le _ _ c.ram_line.ensures _ c.in-Some.is)
 
-pub returns-then-line-eq0 : goal.returns-then-line-eq0
-returns-then-line-eq0 c = search printed-when-good
+pub returns-in-Some-bad_from : goal.returns-in-Some-bad_from
+returns-in-Some-bad_from c =
+    printed-when-bad _ _ c.ram_line.ensures _ c.in-Some.is _ _ _ _ c.bad_from.ensures c.in-Some-bad_from.is c.print_bad-in-Some-bad_from.ensures
 
-pub returns-in-Bad : goal.returns-in-Bad
-returns-in-Bad c = search printed-when-ram-bad
-
-pub returns-else-line-eq0 : goal.returns-else-line-eq0
-returns-else-line-eq0 c = search printed-when-bad
+pub returns-in-None : goal.returns-in-None
+returns-in-None c = printed-when-good _ _ c.ram_line.ensures _ c.in-Some.is _ _ _ c.bad_from.ensures c.in-None.is c.good.ensures

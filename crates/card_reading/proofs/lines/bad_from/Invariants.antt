@@ -5,8 +5,4 @@ use Rattle.card_reading.proofs.lines.bad_from.Given as goal
 
 abbrev pub invariant-loop-key : goal.invariant-loop-key
 invariant-loop-key l = (bad_from l.text l.at l.key (20 - l.key) ≡ bad_from l.text l.start 0 20)
-    × (l.key ≤ 20)
     × (l.at ≤ length l.text)
-
-abbrev pub decreases-loop-key : goal.decreases-loop-key
-decreases-loop-key l = 20 - l.key

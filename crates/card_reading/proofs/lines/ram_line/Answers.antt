@@ -1,5 +1,5 @@
 use Rattle.word.proofs.Base.{not-false, rules}
-use Rattle.card_reading.proofs.RamLaws.{digits-when-other, spelled-turn, digits-turn, digits-at-end, ram_read-when-keyless, ram_read-when-zero, ram_read-when-large, ram_read-when-ended}
+use Rattle.card_reading.proofs.RamLaws.{digits-when-other, spelled-turn, digits-turn, digits-at-end, ram_read-when-keyless, ram_read-when-zero, ram_read-when-large, ram_read-when-ended, ram_ended-at-end}
 use Rattle.card_reading.proofs.TextLaws.{decimal_digit-holds}
 use Rattle.card_reading.proofs.lines.ram_line.Goals as goal
 
@@ -19,7 +19,7 @@ pub returns-then-words-gt32768 : goal.returns-then-words-gt32768
 returns-then-words-gt32768 c = search (ram_read-when-large, not-false)
 
 pub loop-at-preserved : goal.loop-at-preserved
-loop-at-preserved c = (search spelled-turn, search digits-turn, search rules, search rules)
+loop-at-preserved c = (search spelled-turn, search digits-turn, search rules)
 
 pub returns : goal.returns
-returns c = search (ram_read-when-ended, digits-at-end)
+returns c = search (ram_read-when-ended, digits-at-end, ram_ended-at-end)

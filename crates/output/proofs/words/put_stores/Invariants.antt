@@ -1,14 +1,10 @@
 -- `output::words::put_stores` meets its contract: what remains from here gives what the whole gives.
-use Rattle.word.proofs.Base.{◌≡◌, ◌+◌, ◌-◌, ◌*◌, ◌<◌, ◌≤◌, length}
+use Rattle.word.proofs.Base.{◌≡◌, ◌+◌, ◌*◌, drop}
 use Rattle.word.specs.Laid.{laid}
-use Rattle.output.specs.Inner.Paired.{paired_words}
+use Rattle.settled.specs.Words.{stores_words}
 use Rattle.output.proofs.words.put_stores.Given as goal
 
-abbrev pub invariant-loop-from : goal.invariant-loop-from
-invariant-loop-from l = (laid (paired_words l.places l.values l.from (l.many - l.from)) l.to l.out ≡ laid (paired_words l.places l.values 0 l.many) l.at l.initial.out)
-    × (l.to + 3 * (l.many - l.from) < 1000200)
-    × (l.from ≤ l.many)
-    × (length l.out ≡ length l.initial.out)
-
-abbrev pub decreases-loop-from : goal.decreases-loop-from
-decreases-loop-from l = l.many - l.from
+abbrev pub invariant-loop-store : goal.invariant-loop-store
+invariant-loop-store l = (laid (stores_words (drop l.store-index l.stores)) l.out.at l.out.run.now ≡ laid (stores_words l.stores) l.initial.out.at l.initial.out.run.now)
+    × (l.out.at ≡ l.initial.out.at + 3 * l.store-index)
+    × (l.out.run.ghost_name ≡ l.initial.out.run.ghost_name)

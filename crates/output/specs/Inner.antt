@@ -1,2 +1,0 @@
--- What only contracts speak of: no promise to a caller rests on it.
-pub mod Paired

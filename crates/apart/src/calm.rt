@@ -9,15 +9,6 @@ use block::types::{Course, Size};
 use word::pointer::{INDEX_DOWNWARD, INDEX_END};
 use word::types::{Direction, Pointer};
 
-fn fewer(most: usize, rows: usize) -> usize
-    ensures { (result ≤ most) × (result ≤ rows) }
-{
-    if most < rows {
-        return most;
-    }
-    rows
-}
-
 // One goes along with another, rows a step apart and none over the next: at the other or behind it it never meets it,
 // ahead of it by so many steps it may be done so many rows at a time.
 fn ahead(width: usize, step: usize, behind: usize, front: usize, most: usize) -> usize
@@ -33,7 +24,7 @@ fn ahead(width: usize, step: usize, behind: usize, front: usize, most: usize) ->
     if front <= behind {
         return most;
     }
-    fewer(most, (front - behind) / step)
+    most.min((front - behind) / step)
 }
 
 // Where their words lie apart altogether no row is too many; else D must go along with the source, upward or downward.
@@ -50,8 +41,7 @@ fn calm(setup: Setup, size: Size, d: Span, x: Span, to: Course, of: Course, most
     if to.far != of.far {
         return 0;
     }
-    let direction = setup.direction;
-    match direction {
+    match setup.direction {
         Direction::Ascending => ahead(size.width, of.far, of.from, to.from, most),
         Direction::Descending => ahead(size.width, INDEX_END - of.far, to.from, of.from, most),
     }
@@ -72,18 +62,20 @@ pub fn source_rows(
     requires { Sized n size × (pointer.word < pointer_end) × (far < pointer_end) }
     ensures { (result ≤ most) × (1 ≤ result → used ≡ true → Told n setup size d to (course pointer far) result) }
 {
-    if used {
-        let from = pointer.word as usize;
-        let of = Course { from, far };
-        let direction = setup.direction;
-        let x = crate::span::span(n, direction, size, of);
-        if x.fine {
+    if !used {
+        return most;
+    }
+    let of = Course {
+        from: pointer.word as usize,
+        far,
+    };
+    match crate::span::span(n, setup.direction, size, of) {
+        None => 0,
+        Some(x) => {
             if setup.uses.d {
                 return calm(setup, size, d, x, to, of, most);
             }
-            return most;
+            most
         }
-        return 0;
     }
-    most
 }

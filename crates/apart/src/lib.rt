@@ -5,13 +5,14 @@ mod calm;
 mod span;
 pub mod types;
 
-ghost use Rattle.std.specs.Prelude.{◌*◌, ◌≤◌};
+ghost use Rattle.std.specs.Prelude.{◌≡◌, true, Some, ◌*◌, ◌<◌, ◌≤◌};
+ghost use Rattle.word.specs.Pointer.{pointer_end};
 ghost use Rattle.apart.specs.Inner.Placed.{Placed};
 ghost use Rattle.apart.specs.Inner.Apart.{AllApart};
-ghost use Rattle.apart.specs.Inner.Spans.{Evenly, Known};
+ghost use Rattle.apart.specs.Inner.Spans.{Span, Evenly, Known, Sized, Spans};
 
 use crate::calm::source_rows;
-use crate::types::Strides;
+use crate::types::{Span, Strides};
 use area::types::{Flow, Setup};
 use block::types::{Course, Size};
 
@@ -20,15 +21,26 @@ pub fn strides(setup: Setup, width: u32) -> Strides
     requires { width ≤ 64 }
     ensures { Evenly setup width result }
 {
-    let direction = setup.direction;
-    let a = word::even::stride(direction, width, setup.modulos.a) as usize;
-    let b = word::even::stride(direction, width, setup.modulos.b) as usize;
-    let c = word::even::stride(direction, width, setup.modulos.c) as usize;
-    let d = word::even::stride(direction, width, setup.modulos.d) as usize;
-    Strides { a, b, c, d }
+    Strides {
+        a: word::even::stride(setup.direction, width, setup.modulos.a) as usize,
+        b: word::even::stride(setup.direction, width, setup.modulos.b) as usize,
+        c: word::even::stride(setup.direction, width, setup.modulos.c) as usize,
+        d: word::even::stride(setup.direction, width, setup.modulos.d) as usize,
+    }
 }
 
-// None where the blit must go word by word. D's rows matter where D is used.
+// D's words; any, where D isn't used.
+fn stored(n: usize, setup: Setup, size: Size, to: Course) -> Option<Span>
+    requires { Sized n size × (to.from < pointer_end) × (to.far < pointer_end) }
+    ensures { (span : Span) → result ≡ Some span → setup.uses.d ≡ true → Spans n setup.direction size to span }
+{
+    if setup.uses.d {
+        return crate::span::span(n, setup.direction, size, to);
+    }
+    Some(Span { low: 0, high: 0 })
+}
+
+// None at once, 0, where the blit must go word by word. D's rows matter where D is used.
 pub fn rows_at_once(n: usize, setup: Setup, size: Size, flow: Flow, far: Strides) -> usize
     requires { Known n setup size flow far }
     ensures { (result * size.width ≤ 64)
@@ -37,14 +49,16 @@ pub fn rows_at_once(n: usize, setup: Setup, size: Size, flow: Flow, far: Strides
 {
     let uses = setup.uses;
     let at = flow.pointers;
-    let from = at.d.word as usize;
-    let to = Course { from, far: far.d };
-    let direction = setup.direction;
-    let d = crate::span::span(n, direction, size, to);
-    if uses.d & !d.fine {
-        return 0;
+    let to = Course {
+        from: at.d.word as usize,
+        far: far.d,
+    };
+    match stored(n, setup, size, to) {
+        None => 0,
+        Some(d) => {
+            let a = source_rows(n, setup, size, d, to, uses.a, at.a, far.a, 64 / size.width);
+            let b = source_rows(n, setup, size, d, to, uses.b, at.b, far.b, a);
+            source_rows(n, setup, size, d, to, uses.c, at.c, far.c, b)
+        }
     }
-    let a = source_rows(n, setup, size, d, to, uses.a, at.a, far.a, 64 / size.width);
-    let b = source_rows(n, setup, size, d, to, uses.b, at.b, far.b, a);
-    source_rows(n, setup, size, d, to, uses.c, at.c, far.c, b)
 }

@@ -1,7 +1,7 @@
-// Where a channel's rows lie: whether all are inside memory and none goes round, the lowest word and the highest.
-ghost use Rattle.std.specs.Prelude.{◌≡◌, true, ◌+◌, ◌*◌, ◌<◌, ◌≤◌};
+// Where a channel's rows lie, if all are inside memory and none goes round: the lowest word and the highest.
+ghost use Rattle.std.specs.Prelude.{◌≡◌, Some, ◌+◌, ◌*◌, ◌<◌, ◌≤◌};
 ghost use Rattle.word.specs.Pointer.{pointer_end};
-ghost use Rattle.apart.specs.Inner.Spans.{below, Sized, Spans};
+ghost use Rattle.apart.specs.Inner.Spans.{Span, below, Sized, Spans};
 
 use crate::types::Span;
 use block::types::{Course, Size};
@@ -19,31 +19,28 @@ fn below(direction: Direction, width: usize) -> usize
     }
 }
 
-// The words from so many under a place to so many over it.
-fn around(n: usize, from: usize, under: usize, over: usize) -> Span
+// The words from so many under a place to so many over it; none where they don't lie inside memory.
+fn around(n: usize, from: usize, under: usize, over: usize) -> Option<Span>
     requires { (from < pointer_end) × (over ≤ 1024 * pointer_end + 64) }
-    ensures { result.fine ≡ true
-        → (result.low + under ≡ from) × (result.high ≡ from + over) × (result.high < n) }
+    ensures { (span : Span) → result ≡ Some span
+        → (span.low + under ≡ from) × (span.high ≡ from + over) × (span.high < n) }
 {
-    let fine = false;
-    let low = 0;
-    let high = 0;
     if from < under {
-        return Span { fine, low, high };
+        return None;
     }
     if n <= from + over {
-        return Span { fine, low, high };
+        return None;
     }
-    let fine = true;
-    let low = from - under;
-    let high = from + over;
-    Span { fine, low, high }
+    Some(Span {
+        low: from - under,
+        high: from + over,
+    })
 }
 
 // Rows go up or down from the first: the first and the last tell of all.
-pub fn span(n: usize, direction: Direction, size: Size, course: Course) -> Span
+pub fn span(n: usize, direction: Direction, size: Size, course: Course) -> Option<Span>
     requires { Sized n size × (course.from < pointer_end) × (course.far < pointer_end) }
-    ensures { result.fine ≡ true → Spans n direction size course result }
+    ensures { (span : Span) → result ≡ Some span → Spans n direction size course span }
 {
     let back = below(direction, size.width);
     let on = size.width - 1 - back;

@@ -1,5 +1,5 @@
 // A block's words fetched from memory row by row; no row goes round.
-ghost use Rattle.std.specs.Prelude.{◌≡◌, ◌+◌, ◌-◌, ◌*◌, ◌≤◌, length};
+ghost use Rattle.std.specs.Prelude.{◌≡◌, ◌+◌, ◌-◌, ◌*◌, ◌<◌, ◌≤◌, length};
 ghost use Rattle.word.specs.Inner.Even.{RowInside};
 ghost use Rattle.block.specs.Inner.Each.{Each, Laid};
 ghost use Rattle.block.specs.Inner.Place.{Lies, fetched_in, fetched_at};
@@ -17,6 +17,7 @@ fn row(direction: Direction, ram: &[u16], start: usize, width: usize, s: usize, 
     }
 }
 
+#[inline(always)]
 fn each_row(direction: Direction, ram: &[u16], course: Course, size: Size, x: &mut Words)
     requires { Lies (length ram.now) direction course.far course.from size }
     ensures { Each (size.height * size.width) x.new (fetched_at direction size.width course.far course.from ram.now) }
@@ -29,15 +30,27 @@ fn each_row(direction: Direction, ram: &[u16], course: Course, size: Size, x: &m
 }
 
 // A width that the compiler knows makes a row one move.
-pub fn rows(direction: Direction, ram: &[u16], course: Course, size: Size, x: &mut Words)
-    requires { Lies (length ram.now) direction course.far course.from size }
+#[inline(never)]
+fn narrow_rows(direction: Direction, ram: &[u16], course: Course, size: Size, x: &mut Words)
+    requires { Lies (length ram.now) direction course.far course.from size × (size.width < 4) }
     ensures { Each (size.height * size.width) x.new (fetched_at direction size.width course.far course.from ram.now) }
 {
     match size.width {
         1 => each_row(direction, ram, course, Size { width: 1, ..size }, x),
         2 => each_row(direction, ram, course, Size { width: 2, ..size }, x),
-        3 => each_row(direction, ram, course, Size { width: 3, ..size }, x),
-        _ => each_row(direction, ram, course, size, x),
+        _ => each_row(direction, ram, course, Size { width: 3, ..size }, x),
+    }
+}
+
+#[inline(always)]
+pub fn rows(direction: Direction, ram: &[u16], course: Course, size: Size, x: &mut Words)
+    requires { Lies (length ram.now) direction course.far course.from size }
+    ensures { Each (size.height * size.width) x.new (fetched_at direction size.width course.far course.from ram.now) }
+{
+    if size.width < 4 {
+        narrow_rows(direction, ram, course, size, x);
+    } else {
+        each_row(direction, ram, course, size, x);
     }
 }
 

@@ -1,5 +1,5 @@
 // A block's words stored in memory row by row; no row goes round.
-ghost use Rattle.std.specs.Prelude.{◌≡◌, ◌+◌, ◌*◌, ◌≤◌, length};
+ghost use Rattle.std.specs.Prelude.{◌≡◌, ◌+◌, ◌*◌, ◌<◌, ◌≤◌, length};
 ghost use Rattle.word.specs.Inner.Even.{RowInside};
 ghost use Rattle.quiet.specs.Stream.{laid_at};
 ghost use Rattle.block.specs.Inner.Each.{at, from_at};
@@ -19,6 +19,7 @@ fn row(direction: Direction, ram: &mut [u16], start: usize, width: usize, s: usi
     }
 }
 
+#[inline(always)]
 fn each_row(direction: Direction, ram: &mut [u16], course: Course, size: Size, x: &Words)
     requires { Lies (length ram.old) direction course.far course.from size }
     ensures { ram.new
@@ -32,15 +33,27 @@ fn each_row(direction: Direction, ram: &mut [u16], course: Course, size: Size, x
 }
 
 // A width that the compiler knows makes a row one move.
-pub fn rows(direction: Direction, ram: &mut [u16], course: Course, size: Size, x: &Words)
-    requires { Lies (length ram.old) direction course.far course.from size }
+fn narrow_rows(direction: Direction, ram: &mut [u16], course: Course, size: Size, x: &Words)
+    requires { Lies (length ram.old) direction course.far course.from size × (size.width < 4) }
     ensures { ram.new
         ≡ laid_at (place_at direction size.width course.far course.from) (at x.now) (size.height * size.width) ram.old }
 {
     match size.width {
         1 => each_row(direction, ram, course, Size { width: 1, ..size }, x),
         2 => each_row(direction, ram, course, Size { width: 2, ..size }, x),
-        3 => each_row(direction, ram, course, Size { width: 3, ..size }, x),
-        _ => each_row(direction, ram, course, size, x),
+        _ => each_row(direction, ram, course, Size { width: 3, ..size }, x),
+    }
+}
+
+#[inline(always)]
+pub fn rows(direction: Direction, ram: &mut [u16], course: Course, size: Size, x: &Words)
+    requires { Lies (length ram.old) direction course.far course.from size }
+    ensures { ram.new
+        ≡ laid_at (place_at direction size.width course.far course.from) (at x.now) (size.height * size.width) ram.old }
+{
+    if size.width < 4 {
+        narrow_rows(direction, ram, course, size, x);
+    } else {
+        each_row(direction, ram, course, size, x);
     }
 }

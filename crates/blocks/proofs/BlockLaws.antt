@@ -86,10 +86,10 @@ fits-quiet {size = size} fits =
     )
 
 -- a block made doesn't hang on the pointers after it, nor on how many words are stored
-pub made-as : {setup : Setup} {size : Size} {far : Strides} {flow : Flow} {memory : List ℕ} {x : Inputs (List ℕ)} {o : List ℕ} {end : Flow} (pointers : Pointers) (stored : ℕ)
+pub made-as : {setup : Setup} {size : Size} {far : Strides} {flow : Flow} {memory : List ℕ} {x : Inputs (List ℕ)} {o : List ℕ} {end : Flow} (pointers : Pointers) (stored : ℕ) (pending : Pending)
     → MadeOf setup size far flow memory x o end
-    → MadeOf setup size far flow memory x o (record { pointers = pointers; sources = end.sources; earlier = end.earlier; carry = end.carry; allzero = end.allzero; stored = stored; pending = end.pending })
-made-as pointers stored made = record { supplied = made.supplied; earlier = made.earlier; words = made.words; carry = made.carry; zero = made.zero }
+    → MadeOf setup size far flow memory x o (record { pointers = pointers; sources = end.sources; earlier = end.earlier; carry = end.carry; allzero = end.allzero; stored = stored; pending = pending })
+made-as pointers stored pending made = record { supplied = made.supplied; earlier = made.earlier; words = made.words; carry = made.carry; zero = made.zero }
 
 -- the last of some words
 before_last : (first : ℕ) (word : ℕ → ℕ) (n : ℕ) → 1 ≤ n → word_before first word n ≡ word (n - 1)

@@ -11,7 +11,7 @@ ghost use Rattle.blocks.specs.Inner.Repeats.{Prepared};
 
 use crate::types::{Arrays, Source};
 use apart::types::Strides;
-use area::types::{Earlier, Flow, Masks, Pointers, Setup, Sources};
+use area::types::{Earlier, Flow, Masks, Pending, Pointers, Setup, Sources};
 use block::types::{Course, Needs, Size, Words};
 use word::pointer::INDEX_END;
 use word::types::{Direction, Inputs, Pointer};
@@ -47,6 +47,7 @@ fn source(
 }
 
 // The words of a source, masked if they are A's, where the function needs them. The answer is the last of them, unmasked.
+#[inline(always)]
 fn supplied(
     source: Source,
     masks: Option<Masks>,
@@ -202,7 +203,7 @@ fn made(
 ) -> Flow
     requires { Fits (length ram.now) setup size flow far × AllRest setup size.width flow.sources x.old.given
         × (ready ≡ true → Prepared setup size flow x.old.given x.old.out) }
-    ensures { MadeOf setup size far flow ram.now x.new.given x.new.out result × (result.pending ≡ flow.pending) }
+    ensures { MadeOf setup size far flow ram.now x.new.given x.new.out result }
 {
     if ready {
         return flow;
@@ -261,6 +262,11 @@ pub fn one_block(
     Flow {
         pointers: pointers_on(setup, far, size.height, at),
         stored: counted(setup.uses.d, flow.stored, size.height * size.width),
+        pending: Pending {
+            waits: false,
+            place: 0,
+            word: 0,
+        },
         ..end
     }
 }

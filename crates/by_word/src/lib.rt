@@ -18,14 +18,11 @@ pub fn one_word(ram: &mut [u16], setup: Setup, width: u32, remaining: u32, flow:
     ensures { state ram.new result
         ≡ one_word setup width remaining (state ram.old flow) }
 {
-    let uses = setup.uses;
-    let direction = setup.direction;
-    let fetched = area::fetch::fetch(ram, direction, uses, flow);
+    let fetched = area::fetch::fetch(ram, setup.direction, setup.uses, flow);
     let made = area::finish::finish(setup, remaining + 1 == width, remaining == 0, fetched);
-    let finished = made.flow;
-    let stored = area::store::store_pending(ram, finished);
-    let waiting = area::store::wait(uses.d, made.word, stored);
-    area::moves::move_d(direction, uses.d, waiting)
+    let stored = area::store::store_pending(ram, made.flow);
+    let waiting = area::store::wait(setup.uses.d, made.word, stored);
+    area::moves::move_d(setup.direction, setup.uses.d, waiting)
 }
 
 // The words of a row.
@@ -35,10 +32,8 @@ fn words(ram: &mut [u16], setup: Setup, width: u32, flow: Flow) -> Flow
         ≡ words setup width width (state ram.old flow) }
 {
     let mut here = flow;
-    let mut remaining = width;
-    while 0 < remaining {
-        here = one_word(ram, setup, width, remaining - 1, here);
-        remaining = remaining - 1;
+    for remaining in (0..width).rev() {
+        here = one_word(ram, setup, width, remaining, here);
     }
     here
 }
@@ -49,11 +44,8 @@ fn row(ram: &mut [u16], setup: Setup, width: u32, flow: Flow) -> Flow
     ensures { state ram.new result
         ≡ one_row setup width (state ram.old flow) }
 {
-    let uses = setup.uses;
-    let direction = setup.direction;
-    let modulos = setup.modulos;
     let end = words(ram, setup, width, area::rows::row_start(setup, flow));
-    area::moves::row_end(direction, uses, modulos, end)
+    area::moves::row_end(setup.direction, setup.uses, setup.modulos, end)
 }
 
 // All rows, one after the other.
@@ -64,10 +56,8 @@ fn rows(ram: &mut [u16], setup: Setup, width: u32, height: u32, flow: Flow) -> F
         ≡ rows setup width height (state ram.old flow) }
 {
     let mut here = flow;
-    let mut remaining = height;
-    while 0 < remaining {
+    for _remaining in (0..height).rev() {
         here = row(ram, setup, width, here);
-        remaining = remaining - 1;
     }
     here
 }

@@ -20,8 +20,6 @@ fn alone(setup: Setup) -> bool
 {
     let uses = setup.uses;
     let masks = setup.masks;
-    let direction = setup.direction;
-    let fill = setup.fill;
     let need = block::needs::needs(setup.function);
     if uses.b | uses.c | need.b | need.c {
         return false;
@@ -29,13 +27,9 @@ fn alone(setup: Setup) -> bool
     if !uses.a | !uses.d | (masks.first != 65535) | (masks.last != 65535) {
         return false;
     }
-    match direction {
-        Direction::Ascending => match fill {
-            Fill::Off => true,
-            Fill::Inclusive => false,
-            Fill::Exclusive => false,
-        },
-        Direction::Descending => false,
+    match (setup.direction, setup.fill) {
+        (Direction::Ascending, Fill::Off) => true,
+        _ => false,
     }
 }
 
@@ -70,15 +64,13 @@ fn smeared(
 {
     let mut last = earlier;
     let mut zero = true;
-    let mut i: usize = 0;
-    while i < n {
+    for i in 0..n {
         let word = ram[a + i];
         let made = terms.none
             ^ (word::shift::shifted(Direction::Ascending, by, last, word) & terms.a);
         ram[d + i] = made;
         zero = (made == 0) & zero;
         last = word;
-        i = i + 1;
     }
     Smeared { last, zero }
 }
@@ -101,30 +93,33 @@ pub fn smear(ram: &mut [u16], setup: Setup, size: Size, flow: Flow, far: Strides
 {
     let words = size.height * size.width;
     let at = flow.pointers;
-    let rest = flow.sources;
     let terms = block::mix::terms(setup.function);
-    let from = at.a.word as usize;
-    let to = at.d.word as usize;
-    let end = smeared(ram, from, to, words, setup.shifts.a, terms, flow.earlier.a);
-    let b = at.b;
-    let c = at.c;
-    let a = words_on(words, at.a);
-    let d = words_on(words, at.d);
-    let pointers = Pointers { a, b, c, d };
-    let a = end.last;
-    let b = rest.b;
-    let c = rest.c;
-    let sources = Sources { a, b, c };
-    let earlier = Earlier { a, b };
-    let pending = flow.pending;
-    let count = words as u32;
+    let end = smeared(
+        ram,
+        at.a.word as usize,
+        at.d.word as usize,
+        words,
+        setup.shifts.a,
+        terms,
+        flow.earlier.a,
+    );
     Flow {
-        pointers,
-        sources,
-        earlier,
+        pointers: Pointers {
+            a: words_on(words, at.a),
+            d: words_on(words, at.d),
+            ..at
+        },
+        sources: Sources {
+            a: end.last,
+            ..flow.sources
+        },
+        earlier: Earlier {
+            a: end.last,
+            b: flow.sources.b,
+        },
         carry: setup.carry,
         allzero: flow.allzero & end.zero,
-        stored: flow.stored + count,
-        pending,
+        stored: flow.stored + words as u32,
+        ..flow
     }
 }

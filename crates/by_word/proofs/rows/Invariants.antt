@@ -5,8 +5,5 @@ use Rattle.area.specs.Rows.{rows}
 use Rattle.by_word.proofs.rows.Given as goal
 
 abbrev pub invariant-loop-remaining : goal.invariant-loop-remaining
-invariant-loop-remaining l = (rows l.setup l.width l.remaining (state l.ram l.here) ≡ rows l.setup l.width l.initial.remaining (state l.initial.ram l.initial.here))
-    × (l.here.stored + l.remaining * 64 < 4294967296) × (length l.ram ≡ length l.initial.ram)
-
-abbrev pub decreases-loop-remaining : goal.decreases-loop-remaining
-decreases-loop-remaining l = l.remaining
+invariant-loop-remaining l = (rows l.setup l.width l._remaining (state l.ram l.here) ≡ rows l.setup l.width l.height (state l.initial.ram l.initial.here))
+    × (l.here.stored + l._remaining * 64 < 4294967296) × (length l.ram ≡ length l.initial.ram)

@@ -17,5 +17,5 @@ pub returns-then-front-behind : goal.returns-then-front-behind
 returns-then-front-behind c = (search rules, λ some. record { apart = omega arith; short = omega arith; order = inl c.if-front-behind.true })
 
 pub returns : goal.returns
-returns c = let few = c.fewer.ensures in
-    (few.0, λ some. record { apart = omega arith; short = omega arith; order = inr (steps-in _ _ _ _ (omega arith) (omega arith) few.1) })
+returns c = let few = c.min.ensures in
+    (omega (arith, few), λ some. record { apart = omega arith; short = omega arith; order = inr (steps-in _ _ _ _ (omega arith) (omega arith) (omega (arith, few))) })

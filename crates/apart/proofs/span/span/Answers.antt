@@ -25,7 +25,7 @@ pub around-requires : goal.around-requires
 around-requires c = (search rules, reach-le _ _ _ (omega arith) (omega arith) (omega arith))
 
 pub returns-then-course-lt-INDEX_DOWNWARD : goal.returns-then-course-lt-INDEX_DOWNWARD
-returns-then-course-lt-INDEX_DOWNWARD c fine = let told = c.around.ensures fine in search rules
+returns-then-course-lt-INDEX_DOWNWARD c span is = let told = c.around.ensures span is in search rules
 
 pub overflow_mul-size-2 : goal.overflow_mul-size-2
 overflow_mul-size-2 c = rows_fit _ _ (omega arith) (omega arith)
@@ -34,4 +34,4 @@ pub overflow_add-size-2 : goal.overflow_add-size-2
 overflow_add-size-2 c = reach-fits _ _ _ (omega arith) (omega arith) (omega arith)
 
 pub returns : goal.returns
-returns c fine = let told = c.around-2.ensures fine in search rules
+returns c span is = let told = c.around-2.ensures span is in search rules

@@ -1,10 +1,10 @@
 -- `blocks::one::made` meets its contract: the words stand ready, or they are made. The facts are named, for `search` reads too few.
-use Rattle.word.proofs.Base.{refl, arith, rules}
+use Rattle.word.proofs.Base.{arith, rules}
 use Rattle.blocks.proofs.RepeatsLaws.{made-ready}
 use Rattle.blocks.proofs.one.made.Goals as goal
 
 pub returns-then-ready : goal.returns-then-ready
-returns-then-ready c = (made-ready c.requires.0 c.requires.1 (c.requires.2 c.if-ready.true), refl)
+returns-then-ready c = made-ready c.requires.0 c.requires.1 (c.requires.2 c.if-ready.true)
 
 pub sources-sources-requires : goal.sources-sources-requires
 sources-sources-requires c = (c.needs-need.ensures, c.requires.0, c.requires.1)

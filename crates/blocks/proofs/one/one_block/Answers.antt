@@ -1,5 +1,5 @@
 -- `blocks::one::one_block` meets its contract: its words are those of a quiet blit of its rows. The facts are named, for `search` reads too few.
-use Rattle.word.proofs.Base.{◌∙◌, arith, rules}
+use Rattle.word.proofs.Base.{refl, arith, rules}
 use Rattle.blocks.proofs.BlockLaws.{far_lt, lies-of, sized, made-as, block-is}
 use Rattle.blocks.proofs.one.one_block.Goals as goal
 
@@ -25,5 +25,5 @@ counted-requires c = (c.requires.0.room, c.requires.1)
 
 pub returns : goal.returns
 returns c = let end = c.made-end.ensures in
-    let is = block-is c.requires.0 end.0 c.source-d.ensures.1 (rw c.source-d.ensures.0 at c.store_words.ensures) c.pointers_on.ensures c.counted.ensures (end.1 ∙ c.requires.0.placed.none) in
-    (is, made-as _ _ end.0)
+    let is = block-is c.requires.0 end c.source-d.ensures.1 (rw c.source-d.ensures.0 at c.store_words.ensures) c.pointers_on.ensures c.counted.ensures refl in
+    (is, made-as _ _ _ end)

@@ -10,14 +10,5 @@ returns-then-uses-need c = λ told. never (sym told)
 pub returns-then-uses-masks : goal.returns-then-uses-masks
 returns-then-uses-masks c = λ told. never (sym told)
 
-pub returns-in-Off : goal.returns-in-Off
-returns-in-Off c = λ _. alone_of _ _ c.needs-need.ensures c.if-uses-need.false c.if-uses-masks.false (search rules) (search rules)
-
-pub returns-in-Inclusive : goal.returns-in-Inclusive
-returns-in-Inclusive c = λ told. never (sym told)
-
-pub returns-in-Exclusive : goal.returns-in-Exclusive
-returns-in-Exclusive c = λ told. never (sym told)
-
-pub returns-in-Descending : goal.returns-in-Descending
-returns-in-Descending c = λ told. never (sym told)
+pub returns-in-Ascending-Off : goal.returns-in-Ascending-Off
+returns-in-Ascending-Off c = λ _. alone_of _ _ c.needs-need.ensures c.if-uses-need.false c.if-uses-masks.false (search rules) (search rules)

@@ -11,7 +11,7 @@ ghost use Rattle.blocks.specs.Inner.Repeats.{Prepared};
 
 use crate::types::{Made, Source};
 use apart::types::Strides;
-use area::types::{Earlier, Flow, Pending, Pointers, Setup, Sources};
+use area::types::{Earlier, Flow, Pointers, Setup, Sources};
 use block::types::{Course, Needs, Size, Words};
 use word::pointer::INDEX_END;
 use word::types::{Direction, Pointer};
@@ -290,11 +290,6 @@ pub fn one_block(
     let pointers = pointers_on(setup, far, size.height, at);
     let sources = end.sources;
     let earlier = end.earlier;
-    let pending = Pending {
-        waits: false,
-        place: 0,
-        word: 0,
-    };
     Flow {
         pointers,
         sources,
@@ -302,6 +297,6 @@ pub fn one_block(
         carry: end.carry,
         allzero: end.allzero,
         stored: counted(uses.d, flow.stored, size.height * size.width),
-        pending,
+        pending: None,
     }
 }

@@ -14,10 +14,10 @@ use Rattle.area.specs.Flow.{State, state, start}
 use Rattle.area.specs.declared.types.Finished.{Finished}
 use Rattle.area.specs.With.{with_pointers, with_carry}
 use Rattle.area.specs.Fetch.{fetch}
-use Rattle.area.specs.Finish.{finish}
+use Rattle.area.specs.Finish.{masked_a, result_word, final, finish}
 use Rattle.area.specs.Store.{wait, store_pending}
-use Rattle.area.specs.Move.{stepped, move_on, row_end}
-use Rattle.area.specs.Rows.{finished_word, stored_before, one_word, words, row_start, one_row, rows}
+use Rattle.area.specs.Move.{stepped, row_end}
+use Rattle.area.specs.Rows.{finished_word, one_word, words, row_start, one_row, rows}
 use Rattle.area.proofs.RowsLaws.{fetched_on, one_word-of-parts}
 use Rattle.stores.specs.Stores.{Store, store, row_stores, blit_stores, stores, all_zero}
 use Rattle.stores.proofs.StoresLaws.{row_stores-length, rows-allzero}
@@ -48,17 +48,12 @@ next_word-of-parts setup width remaining after flow fetched stored waiting end m
     ap (λ (m : List ℕ). state m end) (sym (none-is-empty after none))
     ∙ one_word-of-parts setup width remaining [] after flow fetched stored waiting end made fetches finishes stores waits moves
 
--- it waits, with the place that it is for
-module _ (setup : Setup) (width remaining : ℕ) (flow after : Flow) (does : state [] after ≡ one_word setup width remaining (state [] flow)) where
-  pub place-that-waits : (places next : List ℕ) (at : ℕ) → next ≡ set places at after.pending.place
-      → next ≡ set places at flow.pointers.d.word
-  unfolding one_word stored_before store_pending wait move_on finished_word finish fetch
-  place-that-waits places next at puts = puts ∙ ap (λ (end : State). set places at end.flow.pending.place) does
-
-  pub word-that-waits : (values next : List ℕ) (at : ℕ) → next ≡ set values at after.pending.word
-      → next ≡ set values at (finished_word setup width remaining (state [] flow)).word
-  unfolding one_word stored_before store_pending wait move_on
-  word-that-waits values next at puts = puts ∙ ap (λ (end : State). set values at end.flow.pending.word) does
+pub next_word-word : (setup : Setup) (width remaining : ℕ) (flow fetched : Flow) (made : Finished)
+    → fetched ≡ fetched_on setup.direction setup.uses [] flow
+    → made ≡ finish setup (eqb (remaining + 1) width) (eqb remaining 0) fetched
+    → made.word ≡ (finished_word setup width remaining (state [] flow)).word
+unfolding finished_word finish final result_word masked_a fetch
+next_word-word setup width remaining flow fetched made fetches finishes = rw (finishes, fetches) refl
 
 -- so much of each store, its place or its value
 module _ (part : Store → ℕ) (setup : Setup) (width : ℕ) where

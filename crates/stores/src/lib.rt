@@ -52,11 +52,12 @@ fn finish(setup: Setup, first: bool, last: bool, flow: Flow) -> Finished
     }
 }
 
-// The flow after a word, on a memory of no words.
-fn next_word(setup: Setup, width: u32, remaining: u32, flow: Flow) -> Flow
+// A word, and the flow after it, on a memory of no words.
+fn next_word(setup: Setup, width: u32, remaining: u32, flow: Flow) -> Finished
     requires { (setup.shifts.a < 16) × (setup.shifts.b < 16)
         × (flow.stored < 4294967295) × (remaining < 4294967295) }
-    ensures { state [] result ≡ one_word setup width remaining (state [] flow) }
+    ensures { (result.word ≡ (finished_word setup width remaining (state [] flow)).word)
+        × (state [] result.flow ≡ one_word setup width remaining (state [] flow)) }
 {
     let mut none: [u16; 0] = [];
     let uses = setup.uses;
@@ -66,10 +67,13 @@ fn next_word(setup: Setup, width: u32, remaining: u32, flow: Flow) -> Flow
     let after = made.flow;
     let stored = area::store::store_pending(&mut none, after);
     let waiting = area::store::wait(uses.d, made.word, stored);
-    area::moves::move_d(direction, uses.d, waiting)
+    Finished {
+        word: made.word,
+        flow: area::moves::move_d(direction, uses.d, waiting),
+    }
 }
 
-// One word, and its store laid into both runs. The word waits in the flow with the place that it is for.
+// One word, and its store laid into both runs: the word, and the place that it is for.
 fn one_store(
     places: &mut [u32],
     values: &mut [u16],
@@ -86,9 +90,9 @@ fn one_store(
         × (state [] result ≡ one_word setup width remaining (state [] flow)) }
 {
     let after = next_word(setup, width, remaining, flow);
-    put_place(places, at, after.pending.place);
-    word::memory::write(values, at, after.pending.word);
-    after
+    put_place(places, at, flow.pointers.d.word);
+    word::memory::write(values, at, after.word);
+    after.flow
 }
 
 // The stores of a row.

@@ -7,7 +7,7 @@ use Rattle.area.specs.Flow.{State}
 use Rattle.area.specs.Fetch.{fetch}
 use Rattle.area.specs.Finish.{finish}
 use Rattle.area.specs.Move.{move_on, row_end}
-use Rattle.area.specs.Store.{wait, count_with, store_pending}
+use Rattle.area.specs.Store.{waiting, wait, count_with, store_pending}
 use Rattle.area.specs.Rows.{finished_word, stored_before, one_word, words, row_start, one_row, rows}
 
 -- what one word adds to the count
@@ -18,7 +18,7 @@ pub each-of-used : (used : Bool) → used ≡ true → each used ≡ 1
 unfolding each
 each-of-used used uses = rw uses
 
-count_with-is : (used : Bool) (place word stored : ℕ) → count_with (record { waits = used; place = place; word = word }) stored ≡ stored + each used
+count_with-is : (used : Bool) (place word stored : ℕ) → count_with (waiting used place word) stored ≡ stored + each used
 unfolding count_with each
 count_with-is true place word stored = refl
 count_with-is false place word stored = omega arith

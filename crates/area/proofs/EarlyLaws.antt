@@ -1,5 +1,6 @@
 -- W2's order and an earlier store: a word may be stored before the next one's fetches where none of them is at its place.
 use Rattle.word.proofs.Base.{◌≡◌, refl, ap, ℕ, zero, suc, ◌≤◌, arith, Bool, true, false, List, get_or-set_other}
+use Rattle.std.specs.Prelude.{Option, None, Some}
 use mathlib.Core.Logic.{◌≢◌}
 use Rattle.word.specs.declared.types.Pointer.{Pointer}
 use Rattle.word.specs.Types.{Uses}
@@ -16,32 +17,31 @@ use Rattle.area.specs.Move.{move_on}
 use Rattle.area.specs.Rows.{finished_word, stored_before, one_word, words, row_start, one_row}
 
 -- no used source fetches the pending place first
-abbrev pub ClearOf : (used : Bool) → Pending → (from : ℕ) → Type 0
-ClearOf used pending from = used ≡ true → pending.waits ≡ true → from ≢ pending.place
+abbrev pub ClearOf : (used : Bool) → Option Pending → (from : ℕ) → Type 0
+ClearOf used pending from = used ≡ true → (waits : Pending) → pending ≡ Some waits → from ≢ waits.place
 
-pub record Clear (uses : Uses) (pending : Pending) (pointers : Pointers) : Type 0 where
+pub record Clear (uses : Uses) (pending : Option Pending) (pointers : Pointers) : Type 0 where
   pub a : ClearOf uses.a pending pointers.a.word
   pub b : ClearOf uses.b pending pointers.b.word
   pub c : ClearOf uses.c pending pointers.c.word
 
-fetched-early : (used waits : Bool) (place word : ℕ) (memory : List ℕ) (pointer : Pointer) (source : ℕ)
-    → ClearOf used (record { waits = waits; place = place; word = word }) pointer.word
-    → fetched used (memory_with (record { waits = waits; place = place; word = word }) memory) pointer source ≡ fetched used memory pointer source
+fetched-early : (used : Bool) (pending : Option Pending) (memory : List ℕ) (pointer : Pointer) (source : ℕ)
+    → ClearOf used pending pointer.word
+    → fetched used (memory_with pending memory) pointer source ≡ fetched used memory pointer source
 unfolding fetched memory_with
-fetched-early true true place word memory pointer source clear = get_or-set_other memory place pointer.word word 0 (clear refl refl)
-fetched-early true false place word memory pointer source clear = refl
-fetched-early false waits place word memory pointer source clear = refl
+fetched-early true (Some waits) memory pointer source clear = get_or-set_other memory waits.place pointer.word waits.word 0 (clear refl waits refl)
+fetched-early true None memory pointer source clear = refl
+fetched-early false pending memory pointer source clear = refl
 
 -- the word that waits, stored before the next is fetched
 one_word-early : (setup : Setup) (width remaining : ℕ) (now : State) → Clear setup.uses now.flow.pending now.flow.pointers
     → one_word setup width remaining (store_pending now) ≡ one_word setup width remaining now
 unfolding one_word stored_before store_pending finished_word wait move_on finish final result_word masked_a fetch memory_with count_with
 one_word-early setup width remaining now clear =
-    let pending : Pending = now.flow.pending in
     rw (
-      fetched-early setup.uses.a pending.waits pending.place pending.word now.memory now.flow.pointers.a now.flow.sources.a clear.a,
-      fetched-early setup.uses.b pending.waits pending.place pending.word now.memory now.flow.pointers.b now.flow.sources.b clear.b,
-      fetched-early setup.uses.c pending.waits pending.place pending.word now.memory now.flow.pointers.c now.flow.sources.c clear.c,
+      fetched-early setup.uses.a now.flow.pending now.memory now.flow.pointers.a now.flow.sources.a clear.a,
+      fetched-early setup.uses.b now.flow.pending now.memory now.flow.pointers.b now.flow.sources.b clear.b,
+      fetched-early setup.uses.c now.flow.pending now.memory now.flow.pointers.c now.flow.sources.c clear.c,
     )
 
 -- and so before a whole row
@@ -69,7 +69,7 @@ unfolding store_pending memory_with count_with
 store_pending-of-nothing memory flow none =
     by flow.pointers flow.sources flow.earlier flow.carry flow.stored flow.allzero flow.pending none
   where
-    by : (pointers : Pointers) (sources : Sources) (earlier : Earlier) (carry stored : ℕ) (allzero : Bool) (pending : Pending) → pending ≡ nothing
+    by : (pointers : Pointers) (sources : Sources) (earlier : Earlier) (carry stored : ℕ) (allzero : Bool) (pending : Option Pending) → pending ≡ nothing
         → store_pending (state memory (record { pointers = pointers; sources = sources; earlier = earlier; carry = carry; allzero = allzero; stored = stored; pending = pending }))
         ≡ state memory (record { pointers = pointers; sources = sources; earlier = earlier; carry = carry; allzero = allzero; stored = stored; pending = pending })
     by pointers sources earlier carry stored allzero pending none = rw none

@@ -59,7 +59,7 @@ one_word-of-parts setup width remaining memory after flow fetched stored waiting
 pub one_word-counts : (setup : Setup) (width remaining : ℕ) (now : State) → (one_word setup width remaining now).flow.stored ≤ now.flow.stored + 1
 unfolding one_word stored_before store_pending wait move_on finished_word finish fetch
 one_word-counts setup width remaining now =
-    count_with-le now.flow.pending.waits now.flow.pending.place now.flow.pending.word now.flow.stored
+    count_with-le now.flow.pending now.flow.stored
 
 pub words_count : (setup : Setup) (width remaining : ℕ) (now : State) → (words setup width remaining now).flow.stored ≤ now.flow.stored + remaining
 unfolding repeated
@@ -127,7 +127,7 @@ pub one_word-keeps-length : (setup : Setup) (width remaining : ℕ) (now : State
     → length (one_word setup width remaining now).memory ≡ length now.memory
 unfolding one_word stored_before store_pending finished_word finish fetch
 one_word-keeps-length setup width remaining now =
-    memory_with-keeps-length now.flow.pending.waits now.flow.pending.place now.flow.pending.word now.memory
+    memory_with-keeps-length now.flow.pending now.memory
 
 pub one_row-keeps-length : (setup : Setup) (width : ℕ) (now : State)
     → length (one_row setup width now).memory ≡ length now.memory

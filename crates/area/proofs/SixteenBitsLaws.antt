@@ -1,4 +1,6 @@
 -- Words of 16 bits stay so through a blit: those of memory, of the data registers, and the one that waits to be stored.
+use Rattle.std.specs.Prelude.{Option, None, Some}
+use Rattle.area.specs.declared.types.Pending.{Pending}
 use Rattle.word.proofs.Base.{ℕ, ◌+◌, ◌<◌, arith, Bool, true, false, eqb, List}
 use Rattle.word.specs.declared.types.Pointer.{Pointer}
 use Rattle.word.specs.Word.{SixteenBits}
@@ -11,9 +13,14 @@ use Rattle.area.specs.declared.types.Setup.{Setup}
 use Rattle.area.specs.Flow.{State}
 use Rattle.area.specs.Fetch.{fetched, fetch}
 use Rattle.area.specs.Finish.{result_word, final, finish}
-use Rattle.area.specs.Store.{wait, memory_with, store_pending}
+use Rattle.area.specs.Store.{waiting, wait, memory_with, store_pending}
 use Rattle.area.specs.Move.{move_on, row_end}
 use Rattle.area.specs.Rows.{finished_word, stored_before, one_word, words, row_start, one_row, rows, area_blit}
+
+-- the word that waits, 0 where none does
+abbrev pub word_of : Option Pending → ℕ
+word_of None = 0
+word_of (Some pending) = pending.word
 
 -- memory, the data registers and the word that waits
 pub record Bounded (now : State) : Type 0 where
@@ -21,7 +28,7 @@ pub record Bounded (now : State) : Type 0 where
   pub a : now.flow.sources.a < 65536
   pub b : now.flow.sources.b < 65536
   pub c : now.flow.sources.c < 65536
-  pub pending : now.flow.pending.word < 65536
+  pub pending : word_of now.flow.pending < 65536
 
 fetched-lt : (used : Bool) (memory : List ℕ) (pointer : Pointer) (source : ℕ) → SixteenBits memory → source < 65536
     → fetched used memory pointer source < 65536
@@ -33,16 +40,20 @@ final-lt : (setup : Setup) (first last : Bool) (flow : Flow) → (final setup fi
 unfolding final result_word
 final-lt setup first last flow = filled-lt setup.fill flow.carry _ (logic-lt setup.function _ _ _)
 
-memory_with-bounded : (waits : Bool) (place word : ℕ) (memory : List ℕ) → SixteenBits memory → word < 65536
-    → SixteenBits (memory_with (record { waits = waits; place = place; word = word }) memory)
+memory_with-bounded : (pending : Option Pending) (memory : List ℕ) → SixteenBits memory → word_of pending < 65536
+    → SixteenBits (memory_with pending memory)
 unfolding memory_with
-memory_with-bounded true place word memory all small = SixteenBits-of-set memory place word all small
-memory_with-bounded false place word memory all small = all
+memory_with-bounded (Some pending) memory all small = SixteenBits-of-set memory pending.place pending.word all small
+memory_with-bounded None memory all small = all
+
+waiting-bounded : (used : Bool) (place word : ℕ) → word < 65536 → word_of (waiting used place word) < 65536
+waiting-bounded true place word small = small
+waiting-bounded false place word small = omega arith
 
 store_pending-memory-bounded : (now : State) → Bounded now → SixteenBits (store_pending now).memory
 unfolding store_pending
 store_pending-memory-bounded now bounded =
-    memory_with-bounded now.flow.pending.waits now.flow.pending.place now.flow.pending.word now.memory bounded.memory bounded.pending
+    memory_with-bounded now.flow.pending now.memory bounded.memory bounded.pending
 
 module _ (setup : Setup) (width : ℕ) where
   one_word-bounded : (remaining : ℕ) (now : State) → Bounded now → Bounded (one_word setup width remaining now)
@@ -53,7 +64,7 @@ module _ (setup : Setup) (width : ℕ) where
         a = fetched-lt setup.uses.a now.memory now.flow.pointers.a now.flow.sources.a bounded.memory bounded.a;
         b = fetched-lt setup.uses.b now.memory now.flow.pointers.b now.flow.sources.b bounded.memory bounded.b;
         c = fetched-lt setup.uses.c now.memory now.flow.pointers.c now.flow.sources.c bounded.memory bounded.c;
-        pending = final-lt setup (eqb (remaining + 1) width) (eqb remaining 0) (fetch setup.uses now.memory now.flow);
+        pending = waiting-bounded setup.uses.d _ _ (final-lt setup (eqb (remaining + 1) width) (eqb remaining 0) (fetch setup.uses now.memory now.flow));
       }
 
   row_start-bounded : (now : State) → Bounded now → Bounded (row_start setup now)

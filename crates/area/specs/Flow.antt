@@ -1,5 +1,5 @@
 -- Paper 01, "The area blit": what changes as a blit goes on, how it starts, and memory beside it.
-use Rattle.std.specs.Prelude.{ℕ, true, false, List, get_or}
+use Rattle.std.specs.Prelude.{ℕ, true, List, Option, None, get_or}
 use Rattle.file.specs.Places.{pointer_a, pointer_b, pointer_c, pointer_d, source_a, source_b, source_c}
 use Rattle.file.specs.Pointers.{pointer_at}
 use Rattle.area.specs.Types.{Pointers, Sources}
@@ -20,8 +20,8 @@ unfoldable pub sources : (file : List ℕ) → Sources
 sources file = record { a = get_or file source_a 0; b = get_or file source_b 0; c = get_or file source_c 0 }
 
 -- no word waits to be stored
-abbrev pub nothing : Pending
-nothing = record { waits = false; place = 0; word = 0 }
+abbrev pub nothing : Option Pending
+nothing = None
 
 -- "The earlier word is zero at the blit's start"
 abbrev pub start_from : Pointers → Sources → Flow

@@ -1,5 +1,5 @@
 -- A flow with one part changed, all others as they are.
-use Rattle.std.specs.Prelude.{ℕ, Bool}
+use Rattle.std.specs.Prelude.{ℕ, Bool, Option}
 use Rattle.area.specs.Types.{Pointers, Sources, Earlier}
 use Rattle.area.specs.declared.types.Pending.{Pending}
 use Rattle.area.specs.declared.types.Flow.{Flow}
@@ -64,7 +64,7 @@ with_allzero new flow =
       pending = flow.pending;
     }
 
-abbrev pub with_stores : ℕ → Pending → Flow → Flow
+abbrev pub with_stores : ℕ → Option Pending → Flow → Flow
 with_stores stored pending flow =
     record {
       pointers = flow.pointers;

@@ -1,8 +1,8 @@
 // What changes as a blit goes on, as it starts from the register file.
 ghost use Rattle.std.specs.Prelude.{◌≡◌};
-ghost use Rattle.area.specs.Flow.{pointers, sources, nothing, start_from, start};
+ghost use Rattle.area.specs.Flow.{pointers, sources, start_from, start};
 
-use crate::types::{Earlier, Flow, Pending, Pointers, Sources};
+use crate::types::{Earlier, Flow, Pointers, Sources};
 
 pub fn pointers(file: &[u16]) -> Pointers
     ensures { result ≡ pointers file.now }
@@ -23,24 +23,12 @@ fn sources(file: &[u16]) -> Sources
     Sources { a, b, c }
 }
 
-// No word waits to be stored.
-pub fn nothing() -> Pending
-    ensures { result ≡ nothing }
-{
-    Pending {
-        waits: false,
-        place: 0,
-        word: 0,
-    }
-}
-
 // The flow from pointers that have been decoded.
 pub fn start_from(pointers: Pointers, file: &[u16]) -> Flow
     ensures { result ≡ start_from pointers (sources file.now) }
 {
     let sources = sources(file);
     let earlier = Earlier { a: 0, b: 0 };
-    let pending = nothing();
     Flow {
         pointers,
         sources,
@@ -48,7 +36,7 @@ pub fn start_from(pointers: Pointers, file: &[u16]) -> Flow
         carry: 0,
         allzero: true,
         stored: 0,
-        pending,
+        pending: None,
     }
 }
 

@@ -7,7 +7,7 @@ ghost use Rattle.area.specs.Store.{wait, memory_with, count_with, store_pending}
 use crate::types::{Earlier, Flow, Pending};
 
 // The flow with another count and another pending word.
-fn with_stores(stored: u32, pending: Pending, flow: Flow) -> Flow
+fn with_stores(stored: u32, pending: Option<Pending>, flow: Flow) -> Flow
     ensures { result ≡ with_stores stored pending flow }
 {
     Flow {
@@ -22,32 +22,29 @@ fn with_stores(stored: u32, pending: Pending, flow: Flow) -> Flow
 pub fn wait(used: bool, word: u16, flow: Flow) -> Flow
     ensures { result ≡ wait used word flow }
 {
-    let pending = Pending {
-        waits: used,
-        place: flow.pointers.d.word,
-        word,
-    };
+    let place = flow.pointers.d.word;
+    let pending = used.then_some(Pending { place, word });
     with_stores(flow.stored, pending, flow)
 }
 
 // Memory with the pending word.
-fn put(ram: &mut [u16], pending: Pending)
+fn put(ram: &mut [u16], pending: Option<Pending>)
     ensures { ram.new ≡ memory_with pending ram.old }
 {
-    if pending.waits {
+    if let Some(pending) = pending {
         word::memory::write(ram, pending.place, pending.word);
     }
 }
 
 // The count with the pending word.
-fn counted(pending: Pending, stored: u32) -> u32
+fn counted(pending: Option<Pending>, stored: u32) -> u32
     requires { stored < 4294967295 }
     ensures { result ≡ count_with pending stored }
 {
-    if pending.waits {
-        return stored + 1;
+    match pending {
+        Some(_) => stored + 1,
+        None => stored,
     }
-    stored
 }
 
 // Stores the pending word, and counts it.
@@ -57,5 +54,5 @@ pub fn store_pending(ram: &mut [u16], flow: Flow) -> Flow
 {
     let pending = flow.pending;
     put(ram, pending);
-    with_stores(counted(pending, flow.stored), crate::flow::nothing(), flow)
+    with_stores(counted(pending, flow.stored), None, flow)
 }

@@ -37,10 +37,9 @@ pub type Sources = Inputs<u16>;
 // that each has a register of its own.
 pub type Earlier = Pair<u16>;
 
-// The final word that waits to be stored, and the place it is for. Nothing is pending where none waits.
+// The final word that waits to be stored, and the place it is for.
 #[derive(Clone, Copy)]
 pub struct Pending {
-    pub waits: bool,
     pub place: u32,
     pub word: u16,
 }
@@ -54,7 +53,7 @@ pub struct Flow {
     pub carry: u16,
     pub allzero: bool,
     pub stored: u32,
-    pub pending: Pending,
+    pub pending: Option<Pending>,
 }
 
 // A finished word, and the flow after it.

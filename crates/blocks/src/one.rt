@@ -11,7 +11,7 @@ ghost use Rattle.blocks.specs.Inner.Repeats.{Prepared};
 
 use crate::types::{Arrays, Source};
 use apart::types::Strides;
-use area::types::{Earlier, Flow, Masks, Pending, Pointers, Setup, Sources};
+use area::types::{Earlier, Flow, Masks, Pointers, Setup, Sources};
 use block::types::{Course, Needs, Size, Words};
 use word::pointer::INDEX_END;
 use word::types::{Direction, Inputs, Pointer};
@@ -262,11 +262,7 @@ pub fn one_block(
     Flow {
         pointers: pointers_on(setup, far, size.height, at),
         stored: counted(setup.uses.d, flow.stored, size.height * size.width),
-        pending: Pending {
-            waits: false,
-            place: 0,
-            word: 0,
-        },
+        pending: None,
         ..end
     }
 }

@@ -9,6 +9,7 @@ use Rattle.area.specs.declared.types.Flow.{Flow}
 use Rattle.area.specs.Flow.{State, state, nothing}
 use Rattle.area.specs.Store.{store_pending}
 use Rattle.area.specs.Rows.{one_row, rows, area_blit}
+use Rattle.area.proofs.StoreLaws.{waits-if-used}
 use Rattle.area.proofs.EarlyLaws.{Clear, one_row-early, store_pending-again}
 use Rattle.quiet.specs.Stream.{at_d}
 use Rattle.quiet.specs.Quiet.{Quiet, pointers_in}
@@ -49,7 +50,7 @@ quiet-cut setup width first more memory flow some words none quiet seam =
     (λ left.
     rw (rows-pointers setup width first memory flow some none quiet, rows-pending setup width first memory flow some none quiet words)
     (record {
-      a = λ uses waits same. (seam left waits).0 uses (sym same);
-      b = λ uses waits same. (seam left waits).1 uses (sym same);
-      c = λ uses waits same. (seam left waits).2 uses (sym same);
+      a = λ uses waits is same. let there = waits-if-used _ _ _ waits is in (seam left there.0).0 uses (there.1 ∙ sym same);
+      b = λ uses waits is same. let there = waits-if-used _ _ _ waits is in (seam left there.0).1 uses (there.1 ∙ sym same);
+      c = λ uses waits is same. let there = waits-if-used _ _ _ waits is in (seam left there.0).2 uses (there.1 ∙ sym same);
     }))

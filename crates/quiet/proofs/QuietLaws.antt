@@ -8,6 +8,7 @@ use Rattle.word.specs.declared.types.Filled.{Filled}
 use Rattle.word.specs.Choice.{every}
 use Rattle.word.specs.Repeat.{repeated}
 use Rattle.word.proofs.ChoiceLaws.{if-either}
+use Rattle.std.specs.Prelude.{Option}
 use Rattle.area.specs.declared.types.Pending.{Pending}
 use Rattle.area.specs.Types.{Pointers}
 use Rattle.area.specs.declared.types.Setup.{Setup}
@@ -15,7 +16,7 @@ use Rattle.area.specs.declared.types.Flow.{Flow}
 use Rattle.area.specs.Flow.{State, state, nothing}
 use Rattle.area.specs.Fetch.{fetched, fetch}
 use Rattle.area.specs.Finish.{masked_a, result_word, final as finished_final, finish}
-use Rattle.area.specs.Store.{wait, memory_with, count_with, store_pending}
+use Rattle.area.specs.Store.{waiting, wait, memory_with, count_with, store_pending}
 use Rattle.area.specs.Move.{move_on, row_end}
 use Rattle.area.specs.Rows.{finished_word, stored_before, one_word, words, row_start, one_row, rows, area_blit}
 use Rattle.quiet.specs.Words.{word_before, masked_at, shifted_at, mixed_at, result_at, carry_to, filled_at, final_at}
@@ -25,14 +26,14 @@ use Rattle.quiet.proofs.StreamLaws.{row_of, word_of, carry_to-first, carry_to-ne
 
 -- with one word more stored
 memory-more : (used : Bool) (place word : ℕ → ℕ) (k : ℕ) (memory : List ℕ)
-    → memory_with (record { waits = used; place = place k; word = word k }) (if used then laid_at place word k memory else memory)
+    → memory_with (waiting used (place k) (word k)) (if used then laid_at place word k memory else memory)
     ≡ (if used then laid_at place word (suc k) memory else memory)
 unfolding memory_with laid_at
 memory-more true place word k memory = refl
 memory-more false place word k memory = refl
 
 count-more : (used : Bool) (place word k stored : ℕ)
-    → count_with (record { waits = used; place = place; word = word }) (stored + (if used then k else 0)) ≡ stored + (if used then suc k else 0)
+    → count_with (waiting used place word) (stored + (if used then k else 0)) ≡ stored + (if used then suc k else 0)
 unfolding count_with
 count-more true place word k stored = omega arith
 count-more false place word k stored = refl
@@ -63,15 +64,15 @@ module _ (setup : Setup) (width : ℕ) (memory : List ℕ) (flow : Flow) (a b c 
   abbrev final : (k : ℕ) → Filled
   final = final_at setup width flow.earlier a b c
 
-  abbrev waiting : (k : ℕ) → Pending
-  waiting k = record { waits = setup.uses.d; place = (at_d setup width flow k).word; word = (final k).word }
+  abbrev waiting_at : (k : ℕ) → Option Pending
+  waiting_at k = waiting setup.uses.d (at_d setup width flow k).word (final k).word
 
   abbrev last_carry : (k : ℕ) → ℕ
   last_carry = word_before flow.carry (λ k. (final k).carry)
 
-  unfoldable pending_to : (k : ℕ) → Pending
+  unfoldable pending_to : (k : ℕ) → Option Pending
   pending_to zero = nothing
-  pending_to (suc k) = waiting k
+  pending_to (suc k) = waiting_at k
 
   unfoldable zero_to : (k : ℕ) → Bool
   zero_to zero = flow.allzero
@@ -109,10 +110,10 @@ module _ (setup : Setup) (width : ℕ) (memory : List ℕ) (flow : Flow) (a b c 
   count_to-stored zero = refl
   count_to-stored (suc k) = count-more setup.uses.d (at_d setup width flow k).word (final k).word k flow.stored
 
-  pending_to-last : (k : ℕ) → 1 ≤ k → pending_to k ≡ waiting (k - 1)
+  pending_to-last : (k : ℕ) → 1 ≤ k → pending_to k ≡ waiting_at (k - 1)
   unfolding pending_to
   pending_to-last zero none = absurd (omega arith)
-  pending_to-last (suc k) more = ap waiting (sym (sub-one (suc k)))
+  pending_to-last (suc k) more = ap waiting_at (sym (sub-one (suc k)))
 
   zero_to-every : (k : ℕ) → zero_to k ≡ (flow.allzero && every (λ k. eqb (final k).word 0) k)
   unfolding zero_to
@@ -232,7 +233,7 @@ module _ (setup : Setup) (width height : ℕ) (memory : List ℕ) (flow : Flow) 
   rows-pointers = ap (λ (end : State). end.flow.pointers) (rows_are setup width height memory flow _ _ _ some none found)
 
   pub rows-pending : 1 ≤ height * width → (rows setup width height (state memory flow)).flow.pending
-      ≡ record { waits = setup.uses.d; place = (at_d setup width flow (height * width - 1)).word; word = final_word setup width memory flow (height * width - 1) }
+      ≡ waiting setup.uses.d (at_d setup width flow (height * width - 1)).word (final_word setup width memory flow (height * width - 1))
   unfolding flow_to
   rows-pending more = ap (λ (end : State). end.flow.pending) (rows_are setup width height memory flow _ _ _ some none found) ∙ pending_to-last setup width memory flow _ _ _ (height * width) more
 

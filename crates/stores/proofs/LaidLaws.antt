@@ -13,10 +13,11 @@ use Rattle.area.specs.Setup.{shifts, setup}
 use Rattle.area.specs.Flow.{State, state, start}
 use Rattle.area.specs.declared.types.Finished.{Finished}
 use Rattle.area.specs.With.{with_pointers, with_carry}
-use Rattle.area.specs.Finish.{finish}
+use Rattle.area.specs.Fetch.{fetch}
+use Rattle.area.specs.Finish.{masked_a, result_word, final, finish}
 use Rattle.area.specs.Store.{wait, store_pending}
-use Rattle.area.specs.Move.{stepped, move_on, row_end}
-use Rattle.area.specs.Rows.{finished_word, stored_before, one_word, words, row_start, one_row, rows}
+use Rattle.area.specs.Move.{stepped, row_end}
+use Rattle.area.specs.Rows.{finished_word, one_word, words, row_start, one_row, rows}
 use Rattle.area.proofs.RowsLaws.{fetched_on, one_word-of-parts, words-room, rows-room}
 use Rattle.stores.specs.Stores.{Store, store, row_stores, blit_stores, stores, all_zero}
 use Rattle.stores.proofs.StoresLaws.{row_stores-length, rows-allzero}
@@ -47,14 +48,12 @@ next_word-of-parts setup width remaining after flow fetched stored waiting end m
     ap (λ (m : List ℕ). state m end) (sym (none-is-empty after none))
     ∙ one_word-of-parts setup width remaining [] after flow fetched stored waiting end made fetches finishes stores waits moves
 
--- it waits
-pub word-that-waits : (setup : Setup) (width remaining : ℕ) (flow after : Flow) (run next : List Store) (at : ℕ)
-    → state [] after ≡ one_word setup width remaining (state [] flow)
-    → next ≡ set run at (store flow.pointers.d after.pending.word)
-    → next ≡ set run at (store flow.pointers.d (finished_word setup width remaining (state [] flow)).word)
-unfolding one_word stored_before store_pending wait move_on
-word-that-waits setup width remaining flow after run next at does puts =
-    puts ∙ ap (λ (end : State). set run at (store flow.pointers.d end.flow.pending.word)) does
+pub next_word-word : (setup : Setup) (width remaining : ℕ) (flow fetched : Flow) (made : Finished)
+    → fetched ≡ fetched_on setup.direction setup.uses [] flow
+    → made ≡ finish setup (eqb (remaining + 1) width) (eqb remaining 0) fetched
+    → made.word ≡ (finished_word setup width remaining (state [] flow)).word
+unfolding finished_word finish final result_word masked_a fetch
+next_word-word setup width remaining flow fetched made fetches finishes = rw (finishes, fetches) refl
 
 -- a turn of a loop that counts up to n: so many steps are left before it, and one fewer after it
 pub left-before : (n i : ℕ) → i < n → n - i ≡ suc (n - (i + 1))

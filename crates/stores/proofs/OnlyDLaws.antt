@@ -59,7 +59,7 @@ module _ (setup : Setup) (only : OnlyD setup.uses) where
       → one_word setup width remaining (state [] flow) ≡ state [] (one_word setup width remaining (state memory flow)).flow
   unfolding one_word stored_before store_pending finished_word finish fetch
   one_word-of-empty width remaining memory flow =
-      ap₂ state (memory_with-of-empty flow.pending.waits flow.pending.place flow.pending.word) (one_word-flow width remaining [] memory flow)
+      ap₂ state (memory_with-of-empty flow.pending) (one_word-flow width remaining [] memory flow)
 
   -- a row's words and a row, without memory
   pub words-of-empty : (width remaining : ℕ) (memory : List ℕ) (flow : Flow)

@@ -41,10 +41,11 @@ impl Rows {
         }
     }
 
-    // The flow after the word of a row after which so many are left.
-    fn next_word(self, remaining: u32, flow: Flow) -> Flow
+    // The word of a row after which so many are left, and the flow after it.
+    fn next_word(self, remaining: u32, flow: Flow) -> Finished
         requires { (flow.stored < 4294967295) × (remaining < 4294967295) }
-        ensures { state [] result ≡ one_word self.setup self.width remaining (state [] flow) }
+        ensures word { result.word ≡ (finished_word self.setup self.width remaining (state [] flow)).word }
+        ensures after { state [] result.flow ≡ one_word self.setup self.width remaining (state [] flow) }
     {
         let mut none: [u16; 0] = [];
         let setup = self.setup;
@@ -52,10 +53,13 @@ impl Rows {
         let made = self.finish(remaining + 1 == self.width, remaining == 0, fetched);
         let stored = area::store::store_pending(&mut none, made.flow);
         let waiting = area::store::wait(setup.uses.d, made.word, stored);
-        area::moves::move_d(setup.direction, setup.uses.d, waiting)
+        Finished {
+            word: made.word,
+            flow: area::moves::move_d(setup.direction, setup.uses.d, waiting),
+        }
     }
 
-    // One word, and its store laid. The word waits in the flow.
+    // One word, and its store laid.
     fn one_store(self, out: &mut Laying<Store>, remaining: u32, flow: Flow) -> Flow
         requires { (out.old.at < 4294967296) × (flow.stored < 4294967295)
             × (remaining < 4294967295) }
@@ -68,9 +72,9 @@ impl Rows {
         let after = self.next_word(remaining, flow);
         out.put(Store {
             to: flow.pointers.d,
-            value: after.pending.word,
+            value: after.word,
         });
-        after
+        after.flow
     }
 
     // The words of a row.

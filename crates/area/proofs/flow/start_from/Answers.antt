@@ -3,4 +3,4 @@ use Rattle.word.proofs.Base.{refl}
 use Rattle.area.proofs.flow.start_from.Goals as goal
 
 pub returns : goal.returns
-returns c = rw (c.nothing-pending.ensures, c.sources-sources.ensures) refl
+returns c = rw c.sources-sources.ensures refl

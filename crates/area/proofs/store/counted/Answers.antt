@@ -1,13 +1,12 @@
 -- `area::store::counted` meets its contract, whether a word waits or not.
-use Rattle.word.proofs.ChoiceLaws.{if-when-true, if-when-false}
+use Rattle.word.proofs.Base.{refl}
 use Rattle.area.specs.Store.{count_with}
-use Rattle.word.proofs.Base.{rules}
 use Rattle.area.proofs.store.counted.Goals as goal
 
-pub returns-then-pending : goal.returns-then-pending
+pub returns-in-Some : goal.returns-in-Some
 unfolding count_with
-returns-then-pending c = search (rules, if-when-true)
+returns-in-Some c = rw c.in-Some.is refl
 
-pub returns : goal.returns
+pub returns-in-None : goal.returns-in-None
 unfolding count_with
-returns c = search (rules, if-when-false)
+returns-in-None c = rw c.in-None.is refl

@@ -1,13 +1,12 @@
 -- `area::store::put` meets its contract, whether a word waits or not.
-use Rattle.word.proofs.ChoiceLaws.{if-when-true, if-when-false}
+use Rattle.word.proofs.Base.{refl}
 use Rattle.area.specs.Store.{memory_with}
-use Rattle.word.proofs.Base.{rules}
 use Rattle.area.proofs.store.put.Goals as goal
 
-pub returns-then-pending : goal.returns-then-pending
+pub returns-in-Some : goal.returns-in-Some
 unfolding memory_with
-returns-then-pending c = search (rules, if-when-true)
+returns-in-Some c = rw c.in-Some.is c.write.ensures
 
-pub returns-else-pending : goal.returns-else-pending
+pub returns-in_default : goal.returns-in_default
 unfolding memory_with
-returns-else-pending c = search (rules, if-when-false)
+returns-in_default c = rw c.in_default.is refl

@@ -15,7 +15,8 @@ pub struct Steps {
     pub set: Step,
 }
 
-// A dot, its spot as one number: 16 pixels a word, all words counted through.
+// A dot, its spot as one number: 16 pixels a word, all words counted through. That number and a spot are no one thing, so
+// that one type over both would have to call them by one name.
 #[derive(Clone, Copy)]
 pub struct Mark {
     pub pixel: u32,

@@ -2,9 +2,10 @@
 use Rattle.std.specs.Prelude.{Option, Some, None}
 use Rattle.word.proofs.Base.{◌≡◌, refl, sym, ap, ◌∙◌, ℕ, ◌+◌, ◌≤◌, arith, Bool, false, ne_eqb, List, length, take, length-take-le}
 use Rattle.file.specs.Places.{file_length}
-use Rattle.runner.specs.declared.types.Answer.{Answer}
+use Rattle.runner.specs.declared.types.Told.{Told}
+use Rattle.runner.specs.Types.{Answer}
 use Rattle.runner.specs.Run.{ended, machine, run}
-use Rattle.runner.specs.Answer.{answer_number, answer_place, answer_stored, answer_round, left}
+use Rattle.runner.specs.Answer.{answer_place, answer_round, told, left}
 use Rattle.card_reading.specs.declared.types.Ram.{Ram}
 use Rattle.card_reading.specs.Reading.{bad_from, bad_line}
 use Rattle.card_reading.specs.Inner.Ram.{ram_read, bad_read, told}
@@ -23,17 +24,16 @@ printed_run-anywhere : (number place stored : ℕ) (round : Bool) (memory file :
 unfolding printed_run
 printed_run-anywhere number place stored round memory file = refl
 
-pub printed_run-of-answer : (many number stored : ℕ) (answer : Answer) (start memory file job ram end : List ℕ) (before after : Written)
-    → ram ≡ counted 0 many → start ≡ zeros file_length → left answer memory file ≡ run ram start job
-    → number ≡ answer_number answer → stored ≡ answer_stored answer
-    → after ≡ writing (printed_run (ended number 0 (machine memory file stored false))) before
+pub printed_run-of-answer : (many : ℕ) (answer : Answer) (tells : Told) (start memory file job ram end : List ℕ) (before after : Written)
+    → ram ≡ counted 0 many → start ≡ zeros file_length → left answer memory file ≡ run ram start job → tells ≡ told answer
+    → after ≡ writing (printed_run (ended tells.number 0 (machine memory file tells.stored false))) before
     → after ≡ writing (printed_run (run (counted 0 many) (zeros file_length) job)) before
-printed_run-of-answer many number stored answer start memory file job ram end before after counts none gives is_number is-stored prints =
-    let same : ended number (answer_place answer) (machine memory file stored (answer_round answer)) ≡ run ram start job = rw (is_number, is-stored) gives in
+printed_run-of-answer many answer tells start memory file job ram end before after counts none gives is prints =
+    let same : ended tells.number (answer_place answer) (machine memory file tells.stored (answer_round answer)) ≡ run ram start job = rw is gives in
     let asked : run ram start job ≡ run (counted 0 many) (zeros file_length) job = rw (counts, none) in
     prints
     ∙ ap (λ (text : List ℕ). writing text before)
-    (printed_run-anywhere number (answer_place answer) stored (answer_round answer) memory file ∙ ap printed_run (same ∙ asked))
+    (printed_run-anywhere tells.number (answer_place answer) tells.stored (answer_round answer) memory file ∙ ap printed_run (same ∙ asked))
 
 -- what a good first line leaves to the others
 module _ (text : List ℕ) (read : Option Ram) (reads : read ≡ ram_read text) (ram : Ram) (is : read ≡ Some ram) where

@@ -22,10 +22,8 @@ fn run_on(ram: &mut [u16], job: &[u16], out: &mut [u8]) -> usize
 {
     crate::start::count(ram);
     let mut file = [0u16; file::WORDS];
-    let answer = runner::run(ram, &mut file, job);
-    let number = runner::answer::number(answer);
-    let stored = runner::answer::stored(answer);
-    crate::printing::print_run(out, number, stored, ram, &file)
+    let told = runner::answer::told(runner::run(ram, &mut file, job));
+    crate::printing::print_run(out, told.number, told.stored, ram, &file)
 }
 
 // A good card: its job, run on so many words of memory. The room is for the longest that a card may ask for.

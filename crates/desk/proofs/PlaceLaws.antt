@@ -26,9 +26,11 @@ use Rattle.blit.specs.declared.types.Done as blit_done
 use Rattle.blit.specs.declared.types.Told as blit_told_type
 use Rattle.blit.specs.Blit as blits
 use Rattle.blit.specs.Blit.{blit}
-use Rattle.runner.specs.declared.types.Answer as run_answer
+use Rattle.runner.specs.declared.types.Told as run_told_type
+use Rattle.runner.specs.Types.{Answer}
 use Rattle.runner.specs.Answer as runs
-use Rattle.folder.specs.declared.types.Answer as fold_answer
+use Rattle.folder.specs.declared.types.Told as fold_told_type
+use Rattle.folder.specs.Types as folds-types
 use Rattle.folder.specs.Answer as folds
 use Rattle.folder.specs.Fold.{fold}
 use Rattle.folder.specs.Kept.{kept}
@@ -141,33 +143,29 @@ module _ (n : ℕ) (job out : List ℕ) where
           (omega (arith, few-of-start begins, by_step-place-le (fold n job) (kept n job) out 0 0 job), by_step-long-le (fold n job) (kept n job) out (steps job))
 
 -- what the entries tell, by the answers of the calls
-module _ (memory file job next end : List ℕ) (answer : run_answer.Answer) (gives : runs.left answer next end ≡ run memory file job) where
-  pub run-place-lt : (place : ℕ) → place ≡ runs.answer_place answer → place < 4294967296
-  run-place-lt place same =
-      omega (arith, same, ap (λ (end : End). end.place) gives, run-place-le memory file job)
+module _ (memory file job next end : List ℕ) (answer : Answer) (gives : runs.left answer next end ≡ run memory file job)
+    (ran : run_told_type.Told) (tells : ran ≡ runs.told answer) where
+  pub run-place-lt : ran.place < 4294967296
+  run-place-lt =
+      omega (arith, ap (λ (t : run_told_type.Told). t.place) tells, ap (λ (end : End). end.place) gives, run-place-le memory file job)
 
-  pub run-of-answer : (number place stored told : ℕ) (round : Bool)
-      → number ≡ runs.answer_number answer → place ≡ runs.answer_place answer → stored ≡ runs.answer_stored answer
-      → round ≡ runs.answer_round answer → told ≡ yes_no round
-      → record { number = number; place = place; stored = stored; round = told; memory = next; file = end } ≡ run_told (run memory file job)
-  run-of-answer number place stored told round is_number is-place is-stored is-round is-told =
-      rw (is_number, is-place, is-stored, is-told, is-round) (ap run_told gives)
+  pub run-of-answer : (yes : ℕ) → yes ≡ yes_no ran.round
+      → record { number = ran.number; place = ran.place; stored = ran.stored; round = yes; memory = next; file = end } ≡ run_told (run memory file job)
+  run-of-answer yes is-yes = rw (is-yes, tells) (ap run_told gives)
 
-module _ (n : ℕ) (job out next : List ℕ) (answer : fold_answer.Answer) (gives : folds.left answer next ≡ folding n job out) where
-  pub folding-place-lt : (place : ℕ) → place ≡ folds.answer_place answer → place < 4294967296
-  folding-place-lt place same =
-      omega (arith, same, ap (λ (end : Folding). end.place) gives, (folding-le n job out).0)
+module _ (n : ℕ) (job out next : List ℕ) (answer : folds-types.Answer) (gives : folds.left answer next ≡ folding n job out)
+    (folded : fold_told_type.Told) (tells : folded ≡ folds.told answer) where
+  pub folding-place-lt : folded.place < 4294967296
+  folding-place-lt =
+      omega (arith, ap (λ (t : fold_told_type.Told). t.place) tells, ap (λ (end : Folding). end.place) gives, (folding-le n job out).0)
 
-  pub folding-long-lt : (long : ℕ) → long ≡ folds.answer_long answer → long < 4294967296
-  folding-long-lt long same =
-      omega (arith, same, ap (λ (end : Folding). end.long) gives, (folding-le n job out).1)
+  pub folding-long-lt : folded.length < 4294967296
+  folding-long-lt =
+      omega (arith, ap (λ (t : fold_told_type.Told). t.length) tells, ap (λ (end : Folding). end.long) gives, (folding-le n job out).1)
 
-  pub folding-of-answer : (number place long told : ℕ) (round : Bool)
-      → number ≡ folds.answer_number answer → place ≡ folds.answer_place answer → long ≡ folds.answer_long answer
-      → round ≡ folds.answer_round answer → told ≡ yes_no round
-      → record { number = number; place = place; long = long; round = told; out = next } ≡ fold_told (folding n job out)
-  folding-of-answer number place long told round is_number is-place is-long is-round is-told =
-      rw (is_number, is-place, is-long, is-told, is-round) (ap fold_told gives)
+  pub folding-of-answer : (yes : ℕ) → yes ≡ yes_no folded.round
+      → record { number = folded.number; place = folded.place; long = folded.length; round = yes; out = next } ≡ fold_told (folding n job out)
+  folding-of-answer yes is-yes = rw (is-yes, tells) (ap fold_told gives)
 
 pub widening-of-answer : (old target next : List ℕ) (number : ℕ) (answer : widenings.Answer)
     → number ≡ widenings.answer_number answer → widenings.left answer next ≡ widening old target

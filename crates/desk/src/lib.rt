@@ -69,11 +69,11 @@ pub extern "C" fn desk_run(
     }
         ≡ run_told (run ram.old file.old job.now) }
 {
-    let answer = runner::run(ram, file, job);
-    *number = runner::answer::number(answer);
-    *place = runner::answer::place(answer) as u32;
-    *stored = runner::answer::stored(answer);
-    *round = yes_no(runner::answer::round(answer));
+    let ran = runner::answer::told(runner::run(ram, file, job));
+    *number = ran.number;
+    *place = ran.place as u32;
+    *stored = ran.stored;
+    *round = yes_no(ran.round);
 }
 
 // Folds a job for memory of `words` words.
@@ -96,11 +96,11 @@ pub extern "C" fn desk_fold(
     }
         ≡ fold_told (folding words job.now out.old) }
 {
-    let answer = folder::fold(words, job, out);
-    *number = folder::answer::number(answer);
-    *place = folder::answer::place(answer) as u32;
-    *long = folder::answer::length(answer) as u32;
-    *round = yes_no(folder::answer::round(answer));
+    let folded = folder::answer::told(folder::fold(words, job, out));
+    *number = folded.number;
+    *place = folded.place as u32;
+    *long = folded.length as u32;
+    *round = yes_no(folded.round);
 }
 
 // Turns an old register file into a new one.

@@ -2,6 +2,7 @@
 use Rattle.std.specs.Prelude.{ℕ, Bool, false, List, Ok, Err}
 use Rattle.job.specs.Step as jobs
 use Rattle.folder.specs.declared.types.Refusal.{Refusal}
+use Rattle.folder.specs.declared.types.Told.{Told}
 use Rattle.folder.specs.Types.{Answer}
 use Rattle.folder.specs.Folding.{Folding}
 
@@ -26,6 +27,15 @@ answer_long (Err stopped) = 0
 abbrev pub answer_round : Answer → Bool
 answer_round (Ok done) = done.round
 answer_round (Err stopped) = false
+
+abbrev pub told : Answer → Told
+told answer =
+    record {
+      number = answer_number answer;
+      place = answer_place answer;
+      length = answer_long answer;
+      round = answer_round answer;
+    }
 
 -- an answer, and what the output run holds as it is given
 abbrev pub left : Answer → (out : List ℕ) → Folding

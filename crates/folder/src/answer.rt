@@ -1,10 +1,11 @@
-// The paper's number, place and length of an answer, and its yes.
+// The paper's numbers of an answer.
 ghost use Rattle.std.specs.Prelude.{◌≡◌};
-ghost use Rattle.folder.specs.Answer.{refusal_number, answer_number, answer_place, answer_long, answer_round};
+ghost use Rattle.folder.specs.Answer.{refusal_number, told};
 
-use crate::types::{Answer, Refusal};
+use crate::types::{Answer, Refusal, Told};
 
 impl Refusal {
+    // The paper's number of it.
     pub fn number(self) -> u32
         ensures { result ≡ refusal_number self }
     {
@@ -17,39 +18,21 @@ impl Refusal {
     }
 }
 
-pub fn number(answer: Answer) -> u32
-    ensures { result ≡ answer_number answer }
+pub fn told(answer: Answer) -> Told
+    ensures { result ≡ told answer }
 {
     match answer {
-        Ok(_) => 0,
-        Err(stopped) => stopped.why.number(),
-    }
-}
-
-pub fn place(answer: Answer) -> usize
-    ensures { result ≡ answer_place answer }
-{
-    match answer {
-        Ok(_) => 0,
-        Err(stopped) => stopped.place,
-    }
-}
-
-pub fn length(answer: Answer) -> usize
-    ensures { result ≡ answer_long answer }
-{
-    match answer {
-        Ok(done) => done.length,
-        Err(_) => 0,
-    }
-}
-
-// Whether a blit was kept for going round alone.
-pub fn round(answer: Answer) -> bool
-    ensures { result ≡ answer_round answer }
-{
-    match answer {
-        Ok(done) => done.round,
-        Err(_) => false,
+        Ok(done) => Told {
+            number: 0,
+            place: 0,
+            length: done.length,
+            round: done.round,
+        },
+        Err(stopped) => Told {
+            number: stopped.why.number(),
+            place: stopped.place,
+            length: 0,
+            round: false,
+        },
     }
 }

@@ -27,6 +27,16 @@ pub struct Stopped {
 // What a folding answers.
 pub type Answer = Result<Done, Stopped>;
 
+// The paper's numbers of an answer: the refusal's, 0 where it is done; the place of the refused step, 0 where it is done;
+// the folded job's length, 0 where it is refused; the yes.
+#[derive(Clone, Copy)]
+pub struct Told {
+    pub number: u32,
+    pub place: usize,
+    pub length: usize,
+    pub round: bool,
+}
+
 // What is left of a step: how many words it became, and whether it is a blit that was kept for going round alone.
 #[derive(Clone, Copy)]
 pub struct Piece {

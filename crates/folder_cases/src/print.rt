@@ -4,13 +4,14 @@ use std::io;
 
 // A case's name, and the answer's number, place and length.
 pub fn answer(rt: &impl Print, name: &[u8], answer: Answer) -> io::Result<()> {
+    let told = folder::answer::told(answer);
     rt.write_all(name)?;
     rt.write_all(b": number ")?;
-    rt.print(folder::answer::number(answer) as u64)?;
+    rt.print(told.number as u64)?;
     rt.write_all(b" place ")?;
-    rt.print(folder::answer::place(answer) as u64)?;
+    rt.print(told.place as u64)?;
     rt.write_all(b" length ")?;
-    rt.print(folder::answer::length(answer) as u64)?;
+    rt.print(told.length as u64)?;
     rt.write_all(b"\n")
 }
 
@@ -27,7 +28,7 @@ pub fn words(rt: &impl Print, name: &[u8], words: &[u16]) -> io::Result<()> {
 
 // Whether a blit was kept for going round alone, on a line of its own.
 pub fn round(rt: &impl Print, answer: Answer) -> io::Result<()> {
-    if folder::answer::round(answer) {
+    if folder::answer::told(answer).round {
         rt.write_all(b"  round yes\n")?;
     } else {
         rt.write_all(b"  round no\n")?;

@@ -4,6 +4,7 @@ use Rattle.refusal.specs.Refusal as blits
 use Rattle.blit.specs.Blit.{Outcome}
 use Rattle.job.specs.Step as jobs
 use Rattle.runner.specs.declared.types.Refusal.{Refusal}
+use Rattle.runner.specs.declared.types.Told.{Told}
 use Rattle.runner.specs.Types.{Taken, Answer}
 use Rattle.runner.specs.Run.{machine, End, ended}
 
@@ -54,6 +55,15 @@ answer_stored (Err stopped) = stopped.done.stored
 abbrev pub answer_round : Answer → Bool
 answer_round (Ok done) = done.round
 answer_round (Err stopped) = stopped.done.round
+
+abbrev pub told : Answer → Told
+told answer =
+    record {
+      number = answer_number answer;
+      place = answer_place answer;
+      stored = answer_stored answer;
+      round = answer_round answer;
+    }
 
 -- an answer, and what memory and file hold as it is given
 abbrev pub left : Answer → (memory file : List ℕ) → End

@@ -1,10 +1,11 @@
-// The paper's number, place and count of an answer, and its yes.
+// The paper's numbers of an answer.
 ghost use Rattle.std.specs.Prelude.{◌≡◌};
-ghost use Rattle.runner.specs.Answer.{refusal_number, answer_number, answer_place, answer_stored, answer_round};
+ghost use Rattle.runner.specs.Answer.{refusal_number, told};
 
-use crate::types::{Answer, Refusal};
+use crate::types::{Answer, Refusal, Told};
 
 impl Refusal {
+    // The paper's number of it.
     pub fn number(self) -> u32
         ensures { result ≡ refusal_number self }
     {
@@ -17,39 +18,21 @@ impl Refusal {
     }
 }
 
-pub fn number(answer: Answer) -> u32
-    ensures { result ≡ answer_number answer }
+pub fn told(answer: Answer) -> Told
+    ensures { result ≡ told answer }
 {
     match answer {
-        Ok(_) => 0,
-        Err(stopped) => stopped.why.number(),
-    }
-}
-
-pub fn place(answer: Answer) -> usize
-    ensures { result ≡ answer_place answer }
-{
-    match answer {
-        Ok(_) => 0,
-        Err(stopped) => stopped.place,
-    }
-}
-
-pub fn stored(answer: Answer) -> u32
-    ensures { result ≡ answer_stored answer }
-{
-    match answer {
-        Ok(done) => done.stored,
-        Err(stopped) => stopped.done.stored,
-    }
-}
-
-// Whether a pointer went round.
-pub fn round(answer: Answer) -> bool
-    ensures { result ≡ answer_round answer }
-{
-    match answer {
-        Ok(done) => done.round,
-        Err(stopped) => stopped.done.round,
+        Ok(done) => Told {
+            number: 0,
+            place: 0,
+            stored: done.stored,
+            round: done.round,
+        },
+        Err(stopped) => Told {
+            number: stopped.why.number(),
+            place: stopped.place,
+            stored: stopped.done.stored,
+            round: stopped.done.round,
+        },
     }
 }

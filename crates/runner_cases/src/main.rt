@@ -8,13 +8,14 @@ use std::io;
 
 // A case's name, and the answer's number, place and count.
 fn show(rt: &impl Print, name: &[u8], answer: Answer) -> io::Result<()> {
+    let told = runner::answer::told(answer);
     rt.write_all(name)?;
     rt.write_all(b": number ")?;
-    rt.print(runner::answer::number(answer) as u64)?;
+    rt.print(told.number as u64)?;
     rt.write_all(b" place ")?;
-    rt.print(runner::answer::place(answer) as u64)?;
+    rt.print(told.place as u64)?;
     rt.write_all(b" stored ")?;
-    rt.print(runner::answer::stored(answer) as u64)?;
+    rt.print(told.stored as u64)?;
     rt.write_all(b"\n")
 }
 
@@ -291,7 +292,7 @@ fn several_blits(rt: &impl Print) -> io::Result<()> {
 // A case's name, and of the answer also whether a pointer went round.
 fn show_round(rt: &impl Print, name: &[u8], answer: Answer) -> io::Result<()> {
     show(rt, name, answer)?;
-    if runner::answer::round(answer) {
+    if runner::answer::told(answer).round {
         rt.write_all(b"  round yes\n")?;
     } else {
         rt.write_all(b"  round no\n")?;

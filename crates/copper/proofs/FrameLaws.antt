@@ -125,4 +125,3 @@ module _ (memory file : List ℕ) (beam start lent : ℕ) (bad : Bool) (of-bad :
         → left answer next end ≡ frame_from memory file beam start lent
     unfolding frame_from start_refusal given
     frame_from-onward answer next end accepts gives = rw (← of-bad, taken, ← of-fine, accepts) gives
-

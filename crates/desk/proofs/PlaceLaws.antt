@@ -177,17 +177,10 @@ pub picture-of-answer : (memory file : List ℕ) (field : Playfield) (out next :
     → record { number = number; out = next } ≡ picture memory file field out
 picture-of-answer memory file field out next number answer is_number gives = rw is_number gives
 
-pub blit-of-answer : (memory file next end : List ℕ) (size yes : ℕ) (told : blit_told_type.Told) (answer : Result blit_done.Done blit_refusal.Refusal)
-    → told ≡ blits.told answer → yes ≡ yes_no told.round → blits.left answer next end ≡ blit memory file size
-    → record { number = told.number; stored = told.stored; round = yes; memory = next; file = end } ≡ blit_told (blit memory file size)
-blit-of-answer memory file next end size yes told answer tells is-yes gives = rw (is-yes, tells) (ap blit_told gives)
-
--- a yes is told as 1, a no as 0
-pub yes_no-when-yes : (round : Bool) → round ≡ true → 1 ≡ yes_no round
-yes_no-when-yes round holds = rw holds
-
-pub yes_no-when-no : (round : Bool) → round ≡ false → 0 ≡ yes_no round
-yes_no-when-no round fails = rw fails
+pub blit-of-answer : (memory file next end : List ℕ) (size round : ℕ) (numbers : blit_told_type.Told) (answer : Result blit_done.Done blit_refusal.Refusal)
+    → numbers ≡ blits.told answer → round ≡ yes_no numbers.round → blits.left answer next end ≡ blit memory file size
+    → record { number = numbers.number; stored = numbers.stored; round = round; memory = next; file = end } ≡ blit_told (blit memory file size)
+blit-of-answer memory file next end size round numbers answer tells is-round gives = rw (is-round, tells) (ap blit_told gives)
 
 -- a frame's answer, told with the beam's place and without it
 module _ (memory file next end : List ℕ) (start lent why number : ℕ) (answer : copper_answer.Answer)

@@ -17,10 +17,7 @@ ghost use Rattle.desk.specs.Told.{yes_no, blit_told, run_told, fold_told};
 fn yes_no(yes: bool) -> u32
     ensures { result ≡ yes_no yes }
 {
-    if yes {
-        return 1;
-    }
-    0
+    yes as u32
 }
 
 // Does one blit.

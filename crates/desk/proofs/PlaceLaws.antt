@@ -151,9 +151,9 @@ module _ (memory file job next end : List ℕ) (answer : Answer) (gives : runs.l
   run-place-lt =
       omega (arith, ap (λ (t : run_told_type.Told). t.place) tells, ap (λ (end : End). end.place) gives, run-place-le memory file job)
 
-  pub run-of-answer : (yes : ℕ) → yes ≡ yes_no ran.round
-      → record { number = ran.number; place = ran.place; stored = ran.stored; round = yes; memory = next; file = end } ≡ run_told (run memory file job)
-  run-of-answer yes is-yes = rw (is-yes, tells) (ap run_told gives)
+  pub run-of-answer : (says : ℕ) → says ≡ yes_no ran.round
+      → record { number = ran.number; place = ran.place; stored = ran.stored; round = says; memory = next; file = end } ≡ run_told (run memory file job)
+  run-of-answer says is-says = rw (is-says, tells) (ap run_told gives)
 
 module _ (n : ℕ) (job out next : List ℕ) (answer : folds-types.Answer) (gives : folds.left answer next ≡ folding n job out)
     (folded : fold_told_type.Told) (tells : folded ≡ folds.told answer) where
@@ -165,9 +165,9 @@ module _ (n : ℕ) (job out next : List ℕ) (answer : folds-types.Answer) (give
   folding-long-lt =
       omega (arith, ap (λ (t : fold_told_type.Told). t.length) tells, ap (λ (end : Folding). end.long) gives, (folding-le n job out).1)
 
-  pub folding-of-answer : (yes : ℕ) → yes ≡ yes_no folded.round
-      → record { number = folded.number; place = folded.place; long = folded.length; round = yes; out = next } ≡ fold_told (folding n job out)
-  folding-of-answer yes is-yes = rw (is-yes, tells) (ap fold_told gives)
+  pub folding-of-answer : (says : ℕ) → says ≡ yes_no folded.round
+      → record { number = folded.number; place = folded.place; long = folded.length; round = says; out = next } ≡ fold_told (folding n job out)
+  folding-of-answer says is-says = rw (is-says, tells) (ap fold_told gives)
 
 pub widening-of-answer : (old target next : List ℕ) (number : ℕ) (answer : widen_answer.Answer)
     → number ≡ widenings.answer_number answer → widenings.left answer next ≡ widening old target
@@ -179,10 +179,10 @@ pub picture-of-answer : (memory file : List ℕ) (field : Playfield) (out next :
     → record { number = number; out = next } ≡ picture memory file field out
 picture-of-answer memory file field out next number answer is_number gives = rw is_number gives
 
-pub blit-of-answer : (memory file next end : List ℕ) (size yes : ℕ) (told : blit_told_type.Told) (answer : Result blit_done.Done blit_refusal.Refusal)
-    → told ≡ blits.told answer → yes ≡ yes_no told.round → blits.left answer next end ≡ blit memory file size
-    → record { number = told.number; stored = told.stored; round = yes; memory = next; file = end } ≡ blit_told (blit memory file size)
-blit-of-answer memory file next end size yes told answer tells is-yes gives = rw (is-yes, tells) (ap blit_told gives)
+pub blit-of-answer : (memory file next end : List ℕ) (size round : ℕ) (numbers : blit_told_type.Told) (answer : Result blit_done.Done blit_refusal.Refusal)
+    → numbers ≡ blits.told answer → round ≡ yes_no numbers.round → blits.left answer next end ≡ blit memory file size
+    → record { number = numbers.number; stored = numbers.stored; round = round; memory = next; file = end } ≡ blit_told (blit memory file size)
+blit-of-answer memory file next end size round numbers answer tells is-round gives = rw (is-round, tells) (ap blit_told gives)
 
 -- a yes is told as 1, a no as 0
 pub yes_no-when-yes : (round : Bool) → round ≡ true → 1 ≡ yes_no round

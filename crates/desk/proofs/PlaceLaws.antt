@@ -149,9 +149,9 @@ module _ (memory file job next end : List ℕ) (answer : Answer) (gives : runs.l
   run-place-lt =
       omega (arith, ap (λ (t : run_told_type.Told). t.place) tells, ap (λ (end : End). end.place) gives, run-place-le memory file job)
 
-  pub run-of-answer : (yes : ℕ) → yes ≡ yes_no ran.round
-      → record { number = ran.number; place = ran.place; stored = ran.stored; round = yes; memory = next; file = end } ≡ run_told (run memory file job)
-  run-of-answer yes is-yes = rw (is-yes, tells) (ap run_told gives)
+  pub run-of-answer : (says : ℕ) → says ≡ yes_no ran.round
+      → record { number = ran.number; place = ran.place; stored = ran.stored; round = says; memory = next; file = end } ≡ run_told (run memory file job)
+  run-of-answer says is-says = rw (is-says, tells) (ap run_told gives)
 
 module _ (n : ℕ) (job out next : List ℕ) (answer : folds-types.Answer) (gives : folds.left answer next ≡ folding n job out)
     (folded : fold_told_type.Told) (tells : folded ≡ folds.told answer) where
@@ -163,9 +163,9 @@ module _ (n : ℕ) (job out next : List ℕ) (answer : folds-types.Answer) (give
   folding-long-lt =
       omega (arith, ap (λ (t : fold_told_type.Told). t.length) tells, ap (λ (end : Folding). end.long) gives, (folding-le n job out).1)
 
-  pub folding-of-answer : (yes : ℕ) → yes ≡ yes_no folded.round
-      → record { number = folded.number; place = folded.place; long = folded.length; round = yes; out = next } ≡ fold_told (folding n job out)
-  folding-of-answer yes is-yes = rw (is-yes, tells) (ap fold_told gives)
+  pub folding-of-answer : (says : ℕ) → says ≡ yes_no folded.round
+      → record { number = folded.number; place = folded.place; long = folded.length; round = says; out = next } ≡ fold_told (folding n job out)
+  folding-of-answer says is-says = rw (is-says, tells) (ap fold_told gives)
 
 pub widening-of-answer : (old target next : List ℕ) (number : ℕ) (answer : widenings.Answer)
     → number ≡ widenings.answer_number answer → widenings.left answer next ≡ widening old target

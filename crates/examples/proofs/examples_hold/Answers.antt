@@ -1,5 +1,4 @@
 -- The examples are computed.
-use Rattle.std.specs.Prelude.{is_some}
 use Rattle.word.proofs.Base.{refl}
 use Rattle.word.specs.Word.{of_bits}
 use Rattle.word.specs.Size.{height, width}
@@ -31,7 +30,6 @@ use Rattle.job.specs.Kind.{kind}
 use Rattle.job.specs.Step.{operands, found, begun, front}
 use Rattle.job.specs.Steps.{behind, steps_from}
 use Rattle.depends.specs.Depends.{changes, counts}
-use Rattle.knowledge.specs.Knowledge.{number}
 use Rattle.knowledge.specs.Knowledge.{numbers}
 use Rattle.stores.specs.Stores.{row_stores, blit_stores, stores, all_zero, final_d}
 use Rattle.settled.specs.Words.{stores_words, settled_words}
@@ -43,7 +41,7 @@ use Rattle.examples.proofs.examples_hold.Goals as goal
 
 pub returns : goal.returns
 unfolding fold fold_from fold_steps piece learned_after becomes learned settled otherwise_settled controls_known only_d_used sources_known written forgotten forget_used forget_pointer forget_source may_use moved_d
-    settled_words stores_words stores blit_stores row_stores all_zero final_d numbers number is_some counts changes steps_from behind front begun found operands kind place place_in is_register registers kept kept_bits kept_at
+    settled_words stores_words stores blit_stores row_stores all_zero final_d numbers counts changes steps_from behind front begun found operands kind place place_in is_register registers kept kept_bits kept_at
     step_refusal given both_fills fill_upward channel_leaves leaves touches row_touches next_row repeated setup uses shifts direction fill masks modulos start pointers pointer_at sources pointer half moved passed
     goes_round area_round channel_round channel_moves row_moves between any_round moved_round passed_round plus_round minus_round
     blit answered done area_done finished area_blit refusal memory_size accepted store_pending memory_with count_with wait

@@ -4,28 +4,25 @@
 
 use std::io;
 
-// Three rows of two words from a place on.
-fn picture(rt: &impl Print, ram: &[u16], from: u32) -> io::Result<()> {
-    let mut more: u32 = 3;
-    let mut at = from % 64;
-    while 0 < more {
-        show_words::bits(rt, word::memory::read(ram, at))?;
-        show_words::bits(rt, word::memory::read(ram, at + 1))?;
+// Rows of two words.
+fn picture(rt: &impl Print, words: &[u16]) -> io::Result<()> {
+    for row in words.chunks(2) {
+        for word in row {
+            show_words::bits(rt, *word)?;
+        }
         show_words::line(rt)?;
-        at = (at + 2) % 64;
-        more = more - 1;
     }
     Ok(())
 }
 
 // B, C and D, each three rows of two words.
-fn pictures(rt: &impl Print, ram: &[u16]) -> io::Result<()> {
+fn pictures(rt: &impl Print, ram: &[u16; 18]) -> io::Result<()> {
     show_words::text(rt, b"B\n")?;
-    picture(rt, ram, 0)?;
+    picture(rt, &ram[..6])?;
     show_words::text(rt, b"C\n")?;
-    picture(rt, ram, 6)?;
+    picture(rt, &ram[6..12])?;
     show_words::text(rt, b"D\n")?;
-    picture(rt, ram, 12)
+    picture(rt, &ram[12..])
 }
 
 fn main(rt: HostRuntime) -> io::Result<()> {

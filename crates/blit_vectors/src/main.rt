@@ -19,7 +19,12 @@ fn registers(con0: u16, con1: u16, a: u16, b: u16, c: u16, d: u16) -> [u16; file
 }
 
 // Does a blit; prints a refusal, which no vector expects, or the count of words stored and the zero flag.
-fn run(rt: &impl Print, ram: &mut [u16], file: &mut [u16], size: u16) -> io::Result<()> {
+fn run(
+    rt: &impl Print,
+    ram: &mut [u16],
+    file: &mut [u16; file::WORDS],
+    size: u16,
+) -> io::Result<()> {
     match blit::blit(ram, file, size) {
         Ok(done) => {
             show_words::text(rt, b" stored")?;
@@ -30,7 +35,7 @@ fn run(rt: &impl Print, ram: &mut [u16], file: &mut [u16], size: u16) -> io::Res
         }
     }
     show_words::text(rt, b" zero")?;
-    show_words::words(rt, file, file::FLAG, 1)?;
+    show_words::hex(rt, file[file::FLAG as usize])?;
     show_words::text(rt, b":")
 }
 
@@ -41,10 +46,10 @@ fn logic(rt: &impl Print, code: u16) -> io::Result<()> {
     show_words::text(rt, b"logic")?;
     show_words::hex(rt, code)?;
     run(rt, &mut ram, &mut file, 0x0041)?;
-    show_words::words(rt, &ram, 3, 1)?;
+    show_words::words(rt, &ram[3..4])?;
     file = registers(0x0F00 + code % 256, 2, 0, 2, 4, 6);
     run(rt, &mut ram, &mut file, 0x0041)?;
-    show_words::words(rt, &ram, 3, 1)?;
+    show_words::words(rt, &ram[3..4])?;
     show_words::line(rt)
 }
 
@@ -54,12 +59,8 @@ fn table(rt: &impl Print) -> io::Result<()> {
         0xBB, 0xC0, 0x30, 0x0C, 0x03, 0x88, 0x44, 0x22, 0x11, 0xF3, 0x3F, 0xF5, 0x5F, 0xDD, 0x77,
         0xCA, 0x80, 0xDC, 0xC8,
     ];
-    let mut more: u32 = 34;
-    let mut at: u32 = 0;
-    while 0 < more {
-        logic(rt, word::memory::read(&codes, at))?;
-        at = (at + 1) % 64;
-        more = more - 1;
+    for code in codes {
+        logic(rt, code)?;
     }
     Ok(())
 }
@@ -79,7 +80,7 @@ fn figure_up(rt: &impl Print) -> io::Result<()> {
     file[file::SOURCE_A as usize] = 0xFFFF;
     show_words::text(rt, b"figure 6-4 up  ")?;
     run(rt, &mut ram, &mut file, 0x00C2)?;
-    show_words::words(rt, &ram, 12, 6)?;
+    show_words::words(rt, &ram[12..18])?;
     show_words::line(rt)
 }
 
@@ -91,7 +92,7 @@ fn figure_down(rt: &impl Print) -> io::Result<()> {
     file[file::SOURCE_A as usize] = 0xFFFF;
     show_words::text(rt, b"figure 6-4 down")?;
     run(rt, &mut ram, &mut file, 0x00C2)?;
-    show_words::words(rt, &ram, 12, 6)?;
+    show_words::words(rt, &ram[12..18])?;
     show_words::line(rt)
 }
 
@@ -106,7 +107,7 @@ fn figure_shifted(rt: &impl Print, con0: u16, first: u16, last: u16) -> io::Resu
     file[file::SOURCE_A as usize] = 0xFFFF;
     show_words::text(rt, b"figure 6-4 by 5")?;
     run(rt, &mut ram, &mut file, 0x0082)?;
-    show_words::words(rt, &ram, 8, 4)?;
+    show_words::words(rt, &ram[8..12])?;
     show_words::line(rt)
 }
 
@@ -119,7 +120,7 @@ fn shift(rt: &impl Print, con0: u16, con1: u16, a: u16, d: u16) -> io::Result<()
     show_words::text(rt, b"shift")?;
     show_words::hex(rt, con0 / 4096)?;
     run(rt, &mut ram, &mut file, 0x0083)?;
-    show_words::words(rt, &ram, 6, 6)?;
+    show_words::words(rt, &ram[6..12])?;
     show_words::line(rt)
 }
 
@@ -130,29 +131,18 @@ fn fill(rt: &impl Print, con1: u16) -> io::Result<()> {
     show_words::text(rt, b"fill")?;
     show_words::hex(rt, con1)?;
     run(rt, &mut ram, &mut file, 0x0041)?;
-    show_words::words(rt, &ram, 1, 1)?;
+    show_words::words(rt, &ram[1..2])?;
     file = registers(0x09F0, con1, 6, 0, 0, 10);
     run(rt, &mut ram, &mut file, 0x0042)?;
-    show_words::words(rt, &ram, 4, 2)?;
+    show_words::words(rt, &ram[4..6])?;
     show_words::line(rt)
 }
 
 // Rows of 40 bytes; a part 10 bytes wide from row 13, byte 12, so 532 bytes on, with a modulo of 30.
 fn section_memory() -> [u16; 310] {
     let mut ram = [0u16; 310];
-    ram[265] = 0x0D05;
-    ram[266] = 0x0D06;
-    ram[267] = 0x0D07;
-    ram[268] = 0x0D08;
-    ram[269] = 0x0D09;
-    ram[270] = 0x0D0A;
-    ram[271] = 0x0D0B;
-    ram[286] = 0x0E06;
-    ram[287] = 0x0E07;
-    ram[288] = 0x0E08;
-    ram[289] = 0x0E09;
-    ram[290] = 0x0E0A;
-    ram[291] = 0x0E0B;
+    ram[265..272].copy_from_slice(&[0x0D05, 0x0D06, 0x0D07, 0x0D08, 0x0D09, 0x0D0A, 0x0D0B]);
+    ram[286..292].copy_from_slice(&[0x0E06, 0x0E07, 0x0E08, 0x0E09, 0x0E0A, 0x0E0B]);
     ram
 }
 
@@ -162,9 +152,9 @@ fn section_up(rt: &impl Print) -> io::Result<()> {
     file[file::MODULO_A as usize] = 30;
     show_words::text(rt, b"section up  ")?;
     run(rt, &mut ram, &mut file, 0x0085)?;
-    show_words::words(rt, &ram, 0, 11)?;
-    show_words::words(rt, &file, file::POINTER_A + 1, 1)?;
-    show_words::words(rt, &file, file::POINTER_D + 1, 1)?;
+    show_words::words(rt, &ram[..11])?;
+    show_words::hex(rt, file[file::POINTER_A as usize + 1])?;
+    show_words::hex(rt, file[file::POINTER_D as usize + 1])?;
     show_words::line(rt)
 }
 
@@ -174,8 +164,11 @@ fn section_down(rt: &impl Print) -> io::Result<()> {
     file[file::MODULO_A as usize] = 30;
     show_words::text(rt, b"section down")?;
     run(rt, &mut ram, &mut file, 0x0085)?;
-    show_words::words(rt, &ram, 0, 11)?;
-    show_words::words(rt, &file, file::POINTER_A, 4)?;
+    show_words::words(rt, &ram[..11])?;
+    show_words::words(
+        rt,
+        &file[file::POINTER_A as usize..file::POINTER_A as usize + 4],
+    )?;
     show_words::line(rt)
 }
 
@@ -185,7 +178,7 @@ fn hundred(rt: &impl Print) -> io::Result<()> {
     let mut file = registers(0x49F0, 0, 0, 0, 0, 12);
     show_words::text(rt, b"100 bits on ")?;
     run(rt, &mut ram, &mut file, 0x0042)?;
-    show_words::words(rt, &ram, 0, 9)?;
+    show_words::words(rt, &ram[..9])?;
     show_words::line(rt)
 }
 
@@ -205,9 +198,12 @@ fn overlap(
     show_words::text(rt, b"overlap")?;
     show_words::hex(rt, con0)?;
     run(rt, &mut ram, &mut file, size)?;
-    show_words::words(rt, &ram, 0, 8)?;
+    show_words::words(rt, &ram[..8])?;
     show_words::text(rt, b" data")?;
-    show_words::words(rt, &file, file::SOURCE_C, 3)?;
+    show_words::words(
+        rt,
+        &file[file::SOURCE_C as usize..file::SOURCE_C as usize + 3],
+    )?;
     show_words::line(rt)
 }
 

@@ -13,43 +13,24 @@ fn pixel_pointer(x: u16, y: u16) -> u16 {
     y % 32 * ROW_BYTES + x % 32 / 16 * 2
 }
 
-fn distance(from: u16, to: u16) -> u16 {
-    if to < from {
-        return from - to;
-    }
-    to - from
-}
-
 // SUD, SUL and AUL of the octant, in bits 4-2. SimpleLine numbers the octants 1 to 8 from right and down on, the way of a
 // clock's hand.
 fn octant(leftward: bool, upward: bool, steep: bool) -> u16 {
-    if leftward {
-        if upward {
-            if steep {
-                return 0x0C;
-            }
-            return 0x1C;
-        }
-        if steep {
-            return 0x08;
-        }
-        return 0x14;
+    match (leftward, upward, steep) {
+        (true, true, true) => 0x0C,
+        (true, true, false) => 0x1C,
+        (true, false, true) => 0x08,
+        (true, false, false) => 0x14,
+        (false, true, true) => 0x04,
+        (false, true, false) => 0x18,
+        (false, false, true) => 0x00,
+        (false, false, false) => 0x10,
     }
-    if upward {
-        if steep {
-            return 0x04;
-        }
-        return 0x18;
-    }
-    if steep {
-        return 0x00;
-    }
-    0x10
 }
 
 // A register's word of a number that may be less than nought: so much, less so much.
 fn less(number: u16, by: u16) -> u16 {
-    ((65536 + number as u32 - by as u32) % 65536) as u16
+    number.wrapping_sub(by)
 }
 
 // The registers as SimpleLine sets them up for a line of which the way along the longer side and the way along the shorter
@@ -82,19 +63,33 @@ fn set_up(x1: u16, y1: u16, along: u16, across: u16, octant: u16) -> [u16; file:
 }
 
 // Prints what the line's set-up is: the two controls, A's pointer, A's and B's modulos, C's pointer, the size.
-fn print_set_up(rt: &impl Print, file: &[u16], size: u16) -> io::Result<()> {
+fn print_set_up(rt: &impl Print, file: &[u16; file::WORDS], size: u16) -> io::Result<()> {
     show_words::text(rt, b"line")?;
-    show_words::words(rt, file, file::CONTROL_0, 2)?;
-    show_words::words(rt, file, file::POINTER_A, 2)?;
-    show_words::words(rt, file, file::MODULO_A, 1)?;
-    show_words::words(rt, file, file::MODULO_B, 1)?;
-    show_words::words(rt, file, file::POINTER_C, 2)?;
+    show_words::words(
+        rt,
+        &file[file::CONTROL_0 as usize..file::CONTROL_0 as usize + 2],
+    )?;
+    show_words::words(
+        rt,
+        &file[file::POINTER_A as usize..file::POINTER_A as usize + 2],
+    )?;
+    show_words::hex(rt, file[file::MODULO_A as usize])?;
+    show_words::hex(rt, file[file::MODULO_B as usize])?;
+    show_words::words(
+        rt,
+        &file[file::POINTER_C as usize..file::POINTER_C as usize + 2],
+    )?;
     show_words::hex(rt, size)
 }
 
 // Does the blit; prints a refusal, which nothing here expects, or the count of words stored, where A's and C's pointers
 // stand, and the zero flag.
-fn run(rt: &impl Print, ram: &mut [u16], file: &mut [u16], size: u16) -> io::Result<()> {
+fn run(
+    rt: &impl Print,
+    ram: &mut [u16],
+    file: &mut [u16; file::WORDS],
+    size: u16,
+) -> io::Result<()> {
     match blit::blit(ram, file, size) {
         Ok(done) => {
             show_words::text(rt, b" stored")?;
@@ -105,11 +100,20 @@ fn run(rt: &impl Print, ram: &mut [u16], file: &mut [u16], size: u16) -> io::Res
         }
     }
     show_words::text(rt, b" left")?;
-    show_words::words(rt, file, file::POINTER_A, 2)?;
-    show_words::words(rt, file, file::POINTER_C, 2)?;
-    show_words::words(rt, file, file::POINTER_D, 2)?;
+    show_words::words(
+        rt,
+        &file[file::POINTER_A as usize..file::POINTER_A as usize + 2],
+    )?;
+    show_words::words(
+        rt,
+        &file[file::POINTER_C as usize..file::POINTER_C as usize + 2],
+    )?;
+    show_words::words(
+        rt,
+        &file[file::POINTER_D as usize..file::POINTER_D as usize + 2],
+    )?;
     show_words::text(rt, b" zero")?;
-    show_words::words(rt, file, file::FLAG, 1)
+    show_words::hex(rt, file[file::FLAG as usize])
 }
 
 // SimpleLine.
@@ -121,16 +125,12 @@ fn simple_line(
     x2: u16,
     y2: u16,
 ) -> io::Result<()> {
-    let dx = distance(x1, x2) % 1024;
-    let dy = distance(y1, y2) % 1024;
+    let dx = x1.abs_diff(x2) % 1024;
+    let dy = y1.abs_diff(y2) % 1024;
     let steep = dx < dy;
     let code = octant(x2 < x1, y2 < y1, steep);
-    let mut along = dx;
-    let mut across = dy;
-    if steep {
-        along = dy;
-        across = dx;
-    }
+    let along = dx.max(dy);
+    let across = dx.min(dy);
     let mut file = set_up(x1, y1, along, across, code);
     let size = (along % 1023) * 64 + 0x42;
     print_set_up(rt, &file, size)?;
@@ -138,16 +138,13 @@ fn simple_line(
     show_words::line(rt)
 }
 
-// Thirty-two rows of two words.
-fn picture(rt: &impl Print, ram: &[u16]) -> io::Result<()> {
-    let mut more: u32 = 32;
-    let mut at: u32 = 0;
-    while 0 < more {
-        show_words::bits(rt, word::memory::read(ram, at))?;
-        show_words::bits(rt, word::memory::read(ram, at + 1))?;
+// Rows of two words.
+fn picture(rt: &impl Print, words: &[u16]) -> io::Result<()> {
+    for row in words.chunks(2) {
+        for word in row {
+            show_words::bits(rt, *word)?;
+        }
         show_words::line(rt)?;
-        at = (at + 2) % 64;
-        more = more - 1;
     }
     Ok(())
 }
@@ -180,7 +177,7 @@ fn frame(rt: &impl Print) -> io::Result<()> {
 
 // RotateBits: bit k from the left of sixteen words is set as the bits of one raster word say, the texture of a line that
 // goes down one word a dot.
-fn rotate_bits(rt: &impl Print, raster: u16, k: u16, ram: &mut [u16]) -> io::Result<()> {
+fn rotate_bits(rt: &impl Print, raster: u16, k: u16, ram: &mut [u16; 16]) -> io::Result<()> {
     let mut file = [0u16; file::WORDS];
     file[file::CONTROL_0 as usize] = k % 16 * 4096 + 0x0BCA;
     file[file::CONTROL_1 as usize] = 0xF049;
@@ -197,7 +194,7 @@ fn rotate_bits(rt: &impl Print, raster: u16, k: u16, ram: &mut [u16]) -> io::Res
     show_words::hex(rt, raster)?;
     run(rt, ram, &mut file, 0x0402)?;
     show_words::text(rt, b":")?;
-    show_words::words(rt, ram, 0, 16)?;
+    show_words::words(rt, ram)?;
     show_words::line(rt)
 }
 

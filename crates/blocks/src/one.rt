@@ -9,7 +9,7 @@ ghost use Rattle.blocks.specs.Inner.Block.{needed, Asked, Given, AllRest, Suppli
 ghost use Rattle.blocks.specs.Inner.MadeOf.{last_words, MadeOf, rows_on, pointers_on};
 ghost use Rattle.blocks.specs.Inner.Repeats.{Prepared};
 
-use crate::types::{Arrays, Source};
+use crate::types::Source;
 use apart::types::Strides;
 use area::types::{Earlier, Flow, Masks, Pointers, Setup, Sources};
 use block::types::{Course, Needs, Size, Words};
@@ -199,28 +199,22 @@ fn made(
     size: Size,
     ready: bool,
     flow: Flow,
-    x: &mut Arrays,
+    x: &mut Inputs<Words>,
+    ya: &mut Words,
+    o: &mut Words,
 ) -> Flow
-    requires { Fits (length ram.now) setup size flow far × AllRest setup size.width flow.sources x.old.given
-        × (ready ≡ true → Prepared setup size flow x.old.given x.old.out) }
-    ensures { MadeOf setup size far flow ram.now x.new.given x.new.out result }
+    requires { Fits (length ram.now) setup size flow far × AllRest setup size.width flow.sources x.old
+        × (ready ≡ true → Prepared setup size flow x.old o.old) }
+    ensures { MadeOf setup size far flow ram.now x.new o.new result }
 {
     if ready {
         return flow;
     }
     let need = block::needs::needs(setup.function);
-    let sources = sources(ram, setup, need, far, size, flow, &mut x.given);
-    let carry = crate::finals::finals(
-        setup,
-        need,
-        size,
-        flow.earlier,
-        &x.given,
-        &mut x.shifted,
-        &mut x.out,
-    );
+    let sources = sources(ram, setup, need, far, size, flow, x);
+    let carry = crate::finals::finals(setup, need, size, flow.earlier, x, ya, o);
     let earlier = last_words(setup, size.width, sources);
-    let allzero = still_nought(flow.allzero, size.height * size.width, &x.out);
+    let allzero = still_nought(flow.allzero, size.height * size.width, o);
     Flow {
         sources,
         earlier,
@@ -238,16 +232,18 @@ pub fn one_block(
     size: Size,
     ready: bool,
     flow: Flow,
-    x: &mut Arrays,
+    x: &mut Inputs<Words>,
+    ya: &mut Words,
+    o: &mut Words,
 ) -> Flow
     requires { Fits (length ram.old) setup size flow far × (flow.stored + 64 < 4294967296)
-        × AllRest setup size.width flow.sources x.old.given
-        × (ready ≡ true → Prepared setup size flow x.old.given x.old.out) }
+        × AllRest setup size.width flow.sources x.old
+        × (ready ≡ true → Prepared setup size flow x.old o.old) }
     ensures { (state ram.new result ≡ area_blit setup size.width size.height (state ram.old flow))
-        × MadeOf setup size far flow ram.old x.new.given x.new.out result }
+        × MadeOf setup size far flow ram.old x.new o.new result }
 {
     let at = flow.pointers;
-    let end = made(ram, setup, far, size, ready, flow, x);
+    let end = made(ram, setup, far, size, ready, flow, x, ya, o);
     let d = source(
         ram.len(),
         setup.direction,
@@ -258,7 +254,7 @@ pub fn one_block(
         far.d,
         0,
     );
-    store_words(ram, setup, d.course, d.rows, &x.out);
+    store_words(ram, setup, d.course, d.rows, o);
     Flow {
         pointers: pointers_on(setup, far, size.height, at),
         stored: counted(setup.uses.d, flow.stored, size.height * size.width),

@@ -101,6 +101,10 @@ module _ (make : ℕ → ℕ → ℕ) (a d : ℕ) (memory : List ℕ) (earlier :
       at k below (yes early) = so_far.words k early
       at k below (no late) = let here : k ≡ i = omega arith in rw (here, ← so_far.memory_is) small
 
+  pub smeared-done : (i n last : ℕ) (nought : Bool) (now : List ℕ) → i ≤ n → n ≤ i → SmearedBy make a d i earlier memory now last nought
+      → SmearedBy make a d n earlier memory now last nought
+  smeared-done i n last nought now most least so_far = let all : i ≡ n = omega arith in rw (← all) so_far
+
 -- rows that follow on one another
 module _ (direction : Direction) (n width height far from : ℕ) (up : direction ≡ Ascending) (follow : far ≡ width) (inside : from + height * width ≤ n) (most : n ≤ pointer_end) (some : 1 ≤ width) where
   gapless : Gapless n Ascending width far from (height * width)

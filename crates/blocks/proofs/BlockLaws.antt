@@ -1,5 +1,5 @@
 -- One block is a blit of its rows: its words are those of the quiet blit.
-use Rattle.std.specs.Prelude.{if◌then◌else◌}
+use Rattle.std.specs.Prelude.{Option, if◌then◌else◌}
 use Rattle.word.proofs.Base.{◌≡◌, refl, sym, ap, ◌∙◌, ℕ, zero, suc, ◌+◌, ◌-◌, ◌*◌, ◌<◌, ◌≤◌, mul-le-mul_right, sub-one, arith, Bool, true}
 use Rattle.word.proofs.Base.{◌%◌, dec_lt, ◌&&◌, not, false, eqb, eq-eqb, ne_eqb, List, get_or}
 use Rattle.word.specs.Choice.{every}
@@ -86,7 +86,7 @@ fits-quiet {size = size} fits =
     )
 
 -- a block made doesn't hang on the pointers after it, nor on how many words are stored
-pub made-as : {setup : Setup} {size : Size} {far : Strides} {flow : Flow} {memory : List ℕ} {x : Inputs (List ℕ)} {o : List ℕ} {end : Flow} (pointers : Pointers) (stored : ℕ) (pending : Pending)
+pub made-as : {setup : Setup} {size : Size} {far : Strides} {flow : Flow} {memory : List ℕ} {x : Inputs (List ℕ)} {o : List ℕ} {end : Flow} (pointers : Pointers) (stored : ℕ) (pending : Option Pending)
     → MadeOf setup size far flow memory x o end
     → MadeOf setup size far flow memory x o (record { pointers = pointers; sources = end.sources; earlier = end.earlier; carry = end.carry; allzero = end.allzero; stored = stored; pending = pending })
 made-as pointers stored pending made = record { supplied = made.supplied; earlier = made.earlier; words = made.words; carry = made.carry; zero = made.zero }
@@ -168,7 +168,7 @@ module _ {n : ℕ} {setup : Setup} {size : Size} {far : Strides} {flow : Flow} {
       ∙ sym (before_last _ _ count fits.some))
       (before_last _ _ count fits.some ∙ sym (before_last _ _ count fits.some))
 
-  pub block-is : {after : List ℕ} {pointers : Pointers} {stored : ℕ} {pending : Pending} {rows : Size}
+  pub block-is : {after : List ℕ} {pointers : Pointers} {stored : ℕ} {pending : Option Pending} {rows : Size}
       → (Lies n setup.direction far.d flow.pointers.d.word size → AsLying n setup.direction far.d flow.pointers.d.word size rows)
       → after ≡ (if setup.uses.d then laid_at (place_at setup.direction rows.width far.d flow.pointers.d.word) (at o) (rows.height * rows.width) memory else memory)
       → pointers ≡ pointers_on setup far size.height flow.pointers → stored ≡ flow.stored + (if setup.uses.d then count else 0) → pending ≡ nothing

@@ -12,7 +12,7 @@ pub const POINTER_END: u32 = 262144;
 // A stride of so many words or more leads down.
 pub const DOWNWARD: u32 = POINTER_END / 2;
 
-// The same two as indices.
+// The same two as indices: a constant has one type, and a cast at each use would say less.
 pub const INDEX_END: usize = POINTER_END as usize;
 
 pub const INDEX_DOWNWARD: usize = DOWNWARD as usize;

@@ -13,7 +13,8 @@ pub struct Pointer {
     pub word: u32,
 }
 
-// A pointer moved, and whether it went round.
+// A pointer moved, and whether it went round. Both are told: a pointer that goes round leads somewhere too, so that an
+// Option would lose its place.
 #[derive(Clone, Copy)]
 pub struct Move {
     pub to: Pointer,

@@ -1,4 +1,5 @@
-// A blit that is done, an area's or a line's, and what it writes back to the register file.
+// A blit that is done, an area's or a line's, and what it writes back to the register file. Each of the two has its own
+// code: in one function they would share the processor's registers, which costs a line of 320 dots one instruction a dot.
 ghost use Rattle.std.specs.Prelude.{◌≡◌, Ok};
 ghost use Rattle.area.specs.Flow.{state};
 ghost use Rattle.blit.specs.Blit.{finished, drawn, area_done, line_done, done, left};
@@ -21,6 +22,7 @@ fn finished(ram: &mut [u16], file: &[u16], size: u16, by: AreaPlan) -> Flow
 
 // Does it, writes back what it leaves, and answers the count of words stored and whether a channel went round. That is
 // told first: afterwards the plan would have to be kept through the word loops.
+#[inline(never)]
 fn area_done(ram: &mut [u16], file: &mut [u16], size: u16, by: AreaPlan) -> Done
     requires { by ≡ area_plan file.old size }
     ensures { left (Ok result) ram.new file.new
@@ -37,6 +39,7 @@ fn area_done(ram: &mut [u16], file: &mut [u16], size: u16, by: AreaPlan) -> Done
 }
 
 // The same of a line; there whether it went round is told last, for its one loop has no register to spare.
+#[inline(never)]
 fn line_done(ram: &mut [u16], file: &mut [u16], size: u16, by: LinePlan) -> Done
     requires { by ≡ line_plan file.old size }
     ensures { left (Ok result) ram.new file.new

@@ -7,7 +7,8 @@ ghost use Rattle.std.specs.Prelude.{◌≡◌, ◌≤◌, length, IfOk};
 use std::io;
 use std::io::Read;
 
-// So many bytes.
+// So many bytes. The length is a parameter: of 524,416 zeros written with that number the check wasn't done in three
+// minutes.
 fn zeros<const MANY: usize>() -> [u8; MANY]
     ensures { MANY ≡ length result }
 {
@@ -39,7 +40,7 @@ fn read_full(input: &mut impl Read, text: &mut [u8]) -> io::Result<usize>
         if more == 0 {
             return Ok(read);
         }
-        read = read + more;
+        read += more;
     }
     Ok(read)
 }

@@ -7,11 +7,11 @@ use lib.Seq.{take-take}
 use Rattle.word.specs.declared.types.Pointer.{Pointer}
 use Rattle.word.specs.Laid.{laid}
 use Rattle.word.proofs.LaidLaws.{laid-of-append}
-use Rattle.stores.specs.Stores.{Store, store, places, values}
+use Rattle.stores.specs.Stores.{Store, store}
 use Rattle.groups.specs.Gather.{gathered}
 use Rattle.groups.specs.Words.{step_words, groups_words, stores_words}
 use Rattle.groups.specs.Inner.Leading.{leading}
-use Rattle.groups.specs.Inner.Paired.{paired}
+use Rattle.groups.specs.Inner.Paired.{paired, places, values}
 use Rattle.groups.proofs.LeadingLaws.{run-from}
 use Rattle.groups.proofs.WordsLaws.{step_words-length-le, stores_words-of-leading}
 

@@ -1,9 +1,10 @@
 -- Laws of the words of groups: how many there are.
 use Rattle.word.proofs.Base.{◌≡◌, ap, ℕ, ◌*◌, ◌≤◌, arith, List, [], ◌∷◌, ◌++◌, length, length-append, take, drop}
 use Rattle.word.specs.declared.types.Pointer.{Pointer}
-use Rattle.stores.specs.Stores.{Store, places, values}
+use Rattle.stores.specs.Stores.{Store}
 use Rattle.groups.specs.Gather.{Group, gathered}
 use Rattle.groups.specs.Words.{step_words, groups_words, stores_words}
+use Rattle.groups.specs.Inner.Paired.{places, values}
 use Rattle.groups.specs.Inner.Leading.{leading}
 use Rattle.groups.proofs.GatherLaws.{groups_count, gathered-count, gathered-of-leading}
 

@@ -24,24 +24,25 @@ fn show_word(rt: &impl Print, word: u16) -> io::Result<()> {
     print!(rt; "{word:04x}")
 }
 
-// Words in hex from a place on and before another, on a line of their own.
-fn show_words(rt: &impl Print, name: &[u8], words: &[u16], from: u32, to: u32) -> io::Result<()> {
+// Words in hex, on a line of their own.
+fn show_words(rt: &impl Print, name: &[u8], words: &[u16]) -> io::Result<()> {
     rt.write_all(name)?;
-    let mut at: u32 = from;
-    while at < to {
-        show_word(rt, word::memory::read(words, at))?;
-        at = at + 1;
+    for word in words {
+        show_word(rt, *word)?;
     }
     rt.write_all(b"\n")
 }
 
 // A register file: the Blitter's registers, COPCON, the colours in two lines, and the zero flag.
-fn show_file(rt: &impl Print, file: &[u16]) -> io::Result<()> {
-    show_words(rt, b"  blitter", file, file::CONTROL_0, file::COPCON)?;
-    show_words(rt, b"  copcon", file, file::COPCON, file::COLOUR_0)?;
-    show_words(rt, b"  colours", file, file::COLOUR_0, file::COLOUR_0 + 16)?;
-    show_words(rt, b"         ", file, file::COLOUR_0 + 16, file::FLAG)?;
-    show_words(rt, b"  zero", file, file::FLAG, file::FLAG + 1)
+fn show_file(rt: &impl Print, file: &[u16; file::WORDS]) -> io::Result<()> {
+    const COPCON: usize = file::COPCON as usize;
+    const COLOURS: usize = file::COLOUR_0 as usize;
+    const FLAG: usize = file::FLAG as usize;
+    show_words(rt, b"  blitter", &file[..COPCON])?;
+    show_words(rt, b"  copcon", &file[COPCON..COLOURS])?;
+    show_words(rt, b"  colours", &file[COLOURS..COLOURS + 16])?;
+    show_words(rt, b"         ", &file[COLOURS + 16..FLAG])?;
+    show_words(rt, b"  zero", &file[FLAG..])
 }
 
 // A job on 16 words of memory and a register file that are all zero.
@@ -56,7 +57,7 @@ fn on_zeros_whole(rt: &impl Print, name: &[u8], job: &[u16]) -> io::Result<()> {
     let mut ram = [0u16; 16];
     let mut file = [0u16; file::WORDS];
     show(rt, name, runner::run(&mut ram, &mut file, job))?;
-    show_words(rt, b"  memory", &ram, 0, 16)?;
+    show_words(rt, b"  memory", &ram)?;
     show_file(rt, &file)
 }
 
@@ -285,7 +286,7 @@ fn several_blits(rt: &impl Print) -> io::Result<()> {
         0x8000, 0x0006, 0xBEEF, 0xC001,
     ];
     show(rt, b"several blits", runner::run(&mut ram, &mut file, &job))?;
-    show_words(rt, b"  memory", &ram, 0, 16)?;
+    show_words(rt, b"  memory", &ram)?;
     show_file(rt, &file)
 }
 

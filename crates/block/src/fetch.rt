@@ -17,6 +17,7 @@ fn row(direction: Direction, ram: &[u16], start: usize, width: usize, s: usize, 
     }
 }
 
+// Inlined, so that what is known of the width and the direction tells here.
 #[inline(always)]
 fn each_row(direction: Direction, ram: &[u16], course: Course, size: Size, x: &mut Words)
     requires { Lies (length ram.now) direction course.far course.from size }

@@ -19,6 +19,7 @@ fn row(direction: Direction, ram: &mut [u16], start: usize, width: usize, s: usi
     }
 }
 
+// Inlined, so that what is known of the width and the direction tells here.
 #[inline(always)]
 fn each_row(direction: Direction, ram: &mut [u16], course: Course, size: Size, x: &Words)
     requires { Lies (length ram.old) direction course.far course.from size }

@@ -81,7 +81,7 @@ repeating-on {setup} {width} {most} {height} {row} {rows} {next = next} {x = x} 
     two still past left (yes fewer) = let end : rows ≡ height - row = full fewer in absurd (omega arith)
     two still past left (no all) = let same : most ≡ rows = omega arith in rw same (prepared-next next made still room (told.one still (omega arith)))
 
-pub repeating-first : {setup : Setup} {width most height : ℕ} {flow : Flow} {x : Inputs (List ℕ)} {o : List ℕ} → Repeating setup width most height 0 flow x o
+pub repeating-first : {setup : Setup} {width most height : ℕ} {flow : Flow} {x : Inputs (List ℕ)} {o : List ℕ} → Repeating setup width most height (0 * most) flow x o
 repeating-first = record { one = λ still past. absurd (omega arith); two = λ still past. absurd (omega arith) }
 
 -- as many rows as the next block has

@@ -7,6 +7,7 @@ ghost use Rattle.apart.specs.Inner.Apart.{AllApart};
 ghost use Rattle.blocks.specs.Inner.Block.{plain, masking, AllRest, Rested};
 ghost use Rattle.blocks.specs.Inner.Repeats.{Still};
 
+use crate::types::Arrays;
 use apart::types::Strides;
 use area::types::{Flow, Masks, Setup};
 use block::types::{Size, Words};
@@ -34,34 +35,20 @@ fn block_by_block(
     size: Size,
     most: usize,
     flow: Flow,
-    x: &mut Inputs<Words>,
-    ya: &mut Words,
-    o: &mut Words,
+    x: &mut Arrays,
 ) -> Flow
     requires { Placed (length ram.old) setup size.width size.height flow far × AllApart setup size.width (most * size.width) (size.height * size.width) flow
         × (1 ≤ most) × (most * size.width ≤ 64) × (2 ≤ most * size.width) × (size.height ≤ 1024) × (flow.stored + size.height * 64 < 4294967232)
-        × AllRest setup size.width flow.sources x.old }
+        × AllRest setup size.width flow.sources x.old.given }
     ensures { state ram.new result
         ≡ area_blit setup size.width size.height (state ram.old flow) }
 {
     let mut here = flow;
-    let mut row: usize = 0;
-    // Counted by hand: by a for over the blocks' numbers a clear of rows of 60 words costs 2.0 instructions a word, so 1.9.
-    while row < size.height {
+    for number in 0..(size.height + most - 1) / most {
+        let row = number * most;
         let height = most.min(size.height - row);
         let ready = repeats(setup, most, row);
-        here = crate::one::one_block(
-            ram,
-            setup,
-            far,
-            Size { height, ..size },
-            ready,
-            here,
-            x,
-            ya,
-            o,
-        );
-        row += most;
+        here = crate::one::one_block(ram, setup, far, Size { height, ..size }, ready, here, x);
     }
     here
 }
@@ -113,23 +100,23 @@ pub fn blocks(
     ensures { state ram.new result
         ≡ area_blit setup size.width size.height (state ram.old flow) }
 {
-    // The sources' words stand in one struct, the others apart: where all stand in one, loops over two of them must look
-    // whether they overlap, and a word of a copy shifted in rows of 60 costs 8.3 instructions, so 7.8.
-    let mut x = Inputs {
-        a: [0; 80],
-        b: [0; 80],
-        c: [0; 80],
+    let mut x = Arrays {
+        given: Inputs {
+            a: [0; 80],
+            b: [0; 80],
+            c: [0; 80],
+        },
+        shifted: [0; 80],
+        out: [0; 80],
     };
-    let mut ya: Words = [0; 80];
-    let mut o: Words = [0; 80];
     rest_a(
         setup.uses.a,
         setup.masks,
         size.width,
         flow.sources.a,
-        &mut x.a,
+        &mut x.given.a,
     );
-    rest(setup.uses.b, size.width, flow.sources.b, &mut x.b);
-    rest(setup.uses.c, size.width, flow.sources.c, &mut x.c);
-    block_by_block(ram, setup, far, size, most, flow, &mut x, &mut ya, &mut o)
+    rest(setup.uses.b, size.width, flow.sources.b, &mut x.given.b);
+    rest(setup.uses.c, size.width, flow.sources.c, &mut x.given.c);
+    block_by_block(ram, setup, far, size, most, flow, &mut x)
 }

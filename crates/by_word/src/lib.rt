@@ -18,11 +18,14 @@ pub fn one_word(ram: &mut [u16], setup: Setup, width: u32, remaining: u32, flow:
     ensures { state ram.new result
         ≡ one_word setup width remaining (state ram.old flow) }
 {
-    let fetched = area::fetch::fetch(ram, setup.direction, setup.uses, flow);
+    let uses = setup.uses;
+    let direction = setup.direction;
+    let fetched = area::fetch::fetch(ram, direction, uses, flow);
     let made = area::finish::finish(setup, remaining + 1 == width, remaining == 0, fetched);
-    let stored = area::store::store_pending(ram, made.flow);
-    let waiting = area::store::wait(setup.uses.d, made.word, stored);
-    area::moves::move_d(setup.direction, setup.uses.d, waiting)
+    let finished = made.flow;
+    let stored = area::store::store_pending(ram, finished);
+    let waiting = area::store::wait(uses.d, made.word, stored);
+    area::moves::move_d(direction, uses.d, waiting)
 }
 
 // The words of a row.
@@ -32,11 +35,8 @@ fn words(ram: &mut [u16], setup: Setup, width: u32, flow: Flow) -> Flow
         ≡ words setup width width (state ram.old flow) }
 {
     let mut here = flow;
-    let mut remaining = width;
-    // Counted by hand: by a for over a range a copy to a word ahead costs 101.5 instructions a word, so 98.0.
-    while 0 < remaining {
-        here = one_word(ram, setup, width, remaining - 1, here);
-        remaining -= 1;
+    for remaining in (0..width).rev() {
+        here = one_word(ram, setup, width, remaining, here);
     }
     here
 }
@@ -47,8 +47,11 @@ fn row(ram: &mut [u16], setup: Setup, width: u32, flow: Flow) -> Flow
     ensures { state ram.new result
         ≡ one_row setup width (state ram.old flow) }
 {
+    let uses = setup.uses;
+    let direction = setup.direction;
+    let modulos = setup.modulos;
     let end = words(ram, setup, width, area::rows::row_start(setup, flow));
-    area::moves::row_end(setup.direction, setup.uses, setup.modulos, end)
+    area::moves::row_end(direction, uses, modulos, end)
 }
 
 // All rows, one after the other.

@@ -65,7 +65,7 @@ fn smeared(
     let mut last = earlier;
     let mut zero = true;
     let mut i: usize = 0;
-    // Counted by hand: by a for over a range a copy to two words ahead costs 19.5 instructions a word, so 17.5.
+    // Counted by hand: by a for over a range a copy to two words ahead costs 19.5 instructions a word, so 18.5.
     while i < n {
         let word = ram[a + i];
         let made = terms.none

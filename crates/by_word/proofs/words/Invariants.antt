@@ -7,6 +7,3 @@ use Rattle.by_word.proofs.words.Given as goal
 abbrev pub invariant-loop-remaining : goal.invariant-loop-remaining
 invariant-loop-remaining l = (words l.setup l.width l.remaining (state l.ram l.here) ≡ words l.setup l.width l.initial.remaining (state l.initial.ram l.initial.here))
     × (l.here.stored + l.remaining < 4294967296) × (l.remaining ≤ l.width) × (length l.ram ≡ length l.initial.ram)
-
-abbrev pub decreases-loop-remaining : goal.decreases-loop-remaining
-decreases-loop-remaining l = l.remaining

@@ -51,7 +51,7 @@ fn put_all(file: &mut [u16], uses: Uses, end: Flow)
 }
 
 // The same calls where the file is whole: there the compiler sees that every register has its place, and tests none. By
-// one way for both lengths a blit of one word costs 23 instructions more.
+// one way for both lengths a blit of one word costs 32 instructions more with D alone, 39 with all four channels.
 pub fn write_back(file: &mut [u16], uses: Uses, end: Flow)
     ensures { file.new ≡ write_back uses end file.old }
 {

@@ -40,7 +40,7 @@ fn read_full(input: &mut impl Read, text: &mut [u8]) -> io::Result<usize>
         if more == 0 {
             return Ok(read);
         }
-        read += more;
+        read = read + more;
     }
     Ok(read)
 }

@@ -2,7 +2,7 @@
 ghost use Rattle.std.specs.Prelude.{◌≡◌, set};
 ghost use Rattle.knowledge.specs.Knowledge.{known_at, nothing, numbers};
 
-use crate::types::Knowledge;
+use crate::types::{Knowledge, Known};
 
 // At the start no register is known.
 pub fn nothing() -> Knowledge
@@ -15,7 +15,7 @@ pub fn nothing() -> Knowledge
 
 impl Knowledge {
     // What is known of the register at a place: nothing, where the place is no register's.
-    pub fn at(&self, place: u32) -> Option<u16>
+    pub fn at(&self, place: u32) -> Known
         ensures { result ≡ known_at self.now.registers place }
     {
         if place < 19 {
@@ -26,7 +26,7 @@ impl Knowledge {
 
     // One register replaced: by its number where a write makes it known, by None where it is forgotten.
     // A place that is no register's changes nothing.
-    pub fn put(&mut self, place: u32, known: Option<u16>)
+    pub fn put(&mut self, place: u32, known: Known)
         ensures { self.new.registers ≡ set self.old.registers place known }
     {
         if place < 19 {

@@ -76,9 +76,6 @@ def point_1():
     for path, name, body in fields(sources(), r'pub struct'):
         for flag in re.findall(r'pub (fine|waits|used|round): bool', body):
             yield f'{path}: struct {name} has the flag {flag} beside a value'
-    for path, name, _, _, body in functions():
-        if len(re.findall(r'=> \d+,', body)) > 1:
-            yield f'{path}: fn {name} gives a number for each kind'
 
 
 def shape(parameters, body):
@@ -113,7 +110,6 @@ def point_2():
     for places in same.values():
         if len(places) > 1:
             yield ' = '.join(places)
-    constants = collections.defaultdict(list)
     for path, text in sources():
         for name, value in re.findall(r'const (\w+): \w+ = (\w+) as \w+;', text):
             yield f'{path}: const {name} is {value} in another type'

@@ -12,6 +12,7 @@ pub struct Masks {
 }
 
 // The shift of A and of B.
+// That both are below 16 stands in the contracts and in no ghost field: `QuietBlit` speaks of any.
 pub type Shifts = Pair<u32>;
 
 // What a blit doesn't change. The carry is the fill carry in.
@@ -45,6 +46,7 @@ pub struct Pending {
 }
 
 // What a blit changes as it goes, memory aside. The carry is the fill's.
+// How far its count may go yet hangs on what is still to be done, so that each function says its own bound.
 #[derive(Clone, Copy)]
 pub struct Flow {
     pub pointers: Pointers,

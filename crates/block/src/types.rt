@@ -5,6 +5,7 @@ use word::types::Inputs;
 pub type Words = [u16; 80];
 
 // How many words a row has, and how many rows there are.
+// A whole blit and a block have each such a size, and a block's alone is at most 64 words: who wants that says so.
 #[derive(Clone, Copy)]
 pub struct Size {
     pub width: usize,

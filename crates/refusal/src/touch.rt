@@ -10,6 +10,7 @@ use line::types::{Dot, Line};
 use word::pointer::POINTER_END;
 use word::types::{Direction, Pointer};
 
+// A memory of fewer words than a pointer reaches is a number like any other: who asks has compared it.
 impl Channel {
     // A row leaves memory of fewer words than a pointer reaches where its far end does, or where it goes round.
     fn row_leaves(self, n: u32, here: Pointer) -> bool

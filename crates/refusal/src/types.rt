@@ -45,6 +45,8 @@ pub struct Channel {
     pub ghost in_range: { ChannelRange width rows pointer },
 }
 
+// Its channels' ranges (`AreaRange`) are no ghost field: `area_plan` makes one of any file and size, and would have to
+// carry a proof of them.
 // What an area blit goes by, decoded once from register file and size. Types as narrow as width and height are tell the
 // compiler how small they stay.
 #[derive(Clone, Copy)]
@@ -56,6 +58,7 @@ pub struct AreaPlan {
 }
 
 // What a line goes by, decoded once.
+// Below this crate a line, its dots and its first dot go as three, as the definitions take them.
 #[derive(Clone, Copy)]
 pub struct LinePlan {
     pub line: Line,

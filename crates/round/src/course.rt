@@ -12,6 +12,7 @@ use line::walk::PIXEL_END;
 use word::pointer::{DOWNWARD, POINTER_END};
 use word::types::Pointer;
 
+// A pixel is a plain number, as in the definitions: that it is below the end holds of each by a modulo.
 fn vertical_round(row: u32, upward: bool, pixel: u32) -> bool
     requires { pixel < pixel_end }
     ensures { result ≡ any_round (vertical_moves row upward (spot_of pixel)) }

@@ -6,6 +6,8 @@ ghost use Rattle.word.specs.Inner.Even.{RowsInside, SpanInside};
 use crate::pointer::{DOWNWARD, POINTER_END};
 use crate::types::{Direction, Pointer};
 
+// A row's width and its rows are plain numbers, as the definitions take them: direction, width, modulo, rows, pointer.
+
 // The words of memory that a pointer reaches.
 fn reached(n: usize) -> u32
     ensures { (result ≤ n) × (result ≤ pointer_end) }

@@ -2,6 +2,7 @@
 ghost use Rattle.std.specs.Prelude.{◌≡◌};
 ghost use Rattle.word.specs.Logic.{logic};
 
+// The sources' words are three numbers, as in the function's formula: a struct of them would only be taken apart here.
 // Bit i of the function, spread over a word, is what the sources' setting i gives; bit by bit c, then b, then a picks
 // one of two.
 pub fn logic(function: u16, a: u16, b: u16, c: u16) -> u16

@@ -8,6 +8,8 @@ pub enum Direction {
 }
 
 // A word number below 262,144.
+// That it is below stands in the contracts and in no ghost field: `QuietBlit` and `FoundBlit` speak of pointers at any
+// word.
 #[derive(Clone, Copy)]
 pub struct Pointer {
     pub word: u32,

@@ -13,7 +13,7 @@ use word::types::Pointer;
 // A file is a lent slice: its length is tested once, by `accepted`, and who reads on from there says so.
 pub const WORDS: usize = 53;
 
-// Places are plain numbers, as a job and a list give them by the offset: past the file's end nothing is read or written.
+// Places are plain numbers, as a job and a list give them: past the file's end nothing is read or written.
 // Its places by name; of a pointer, the place of its high half, which its low half follows.
 pub const CONTROL_0: u32 = 0;
 

@@ -103,13 +103,13 @@ pub fn blocks(
         ≡ area_blit setup size.width size.height (state ram.old flow) }
 {
     let mut x = Arrays {
+        shifted: [0; 80],
+        out: [0; 80],
         given: Inputs {
             a: [0; 80],
             b: [0; 80],
             c: [0; 80],
         },
-        shifted: [0; 80],
-        out: [0; 80],
     };
     rest_a(
         setup.uses.a,

@@ -73,15 +73,15 @@ module _ (next : Flow) {setup : Setup} {size : Size} {far : Strides} {here : Flo
 pub repeating-on : {setup : Setup} {width most height row rows : ℕ} {far : Strides} {here next : Flow} {memory : List ℕ} {x x' : Inputs (List ℕ)} {o o' : List ℕ}
     → MadeOf setup (record { width = width; height = rows }) far here memory x o next → rows * width ≤ 64
     → rows ≤ most → (rows < most → rows ≡ height - row) → row < height
-    → Repeating setup width most height row here x' o' → Repeating setup width most height (row + most) next x o
+    → Repeating setup width most height row here x' o' → Repeating setup width most height (row + rows) next x o
 repeating-on {setup} {width} {most} {height} {row} {rows} {next = next} {x = x} {o = o} made room few full within told =
     record { one = λ still past. made.earlier; two = λ still past left. two still past left (dec_lt rows most) }
   where
-    two : Still setup → most < row + most → row + most < height → Dec (rows < most) → Prepared setup (record { width = width; height = most }) next x o
+    two : Still setup → most < row + rows → row + rows < height → Dec (rows < most) → Prepared setup (record { width = width; height = most }) next x o
     two still past left (yes fewer) = let end : rows ≡ height - row = full fewer in absurd (omega arith)
     two still past left (no all) = let same : most ≡ rows = omega arith in rw same (prepared-next next made still room (told.one still (omega arith)))
 
-pub repeating-first : {setup : Setup} {width most height : ℕ} {flow : Flow} {x : Inputs (List ℕ)} {o : List ℕ} → Repeating setup width most height (0 * most) flow x o
+pub repeating-first : {setup : Setup} {width most height : ℕ} {flow : Flow} {x : Inputs (List ℕ)} {o : List ℕ} → Repeating setup width most height 0 flow x o
 repeating-first = record { one = λ still past. absurd (omega arith); two = λ still past. absurd (omega arith) }
 
 -- as many rows as the next block has

@@ -1,7 +1,7 @@
 -- Block by block: after a block what is left is placed and apart as it was, and leads to the same end.
-use Rattle.word.proofs.Base.{◌≡◌, refl, sym, ap, ◌∙◌, ℕ, zero, suc, ◌+◌, ◌-◌, ◌*◌, ◌/◌, ◌%◌, ◌<◌, ◌≤◌, add-mul, suc-mul, mod-lt}
+use Rattle.word.proofs.Base.{◌≡◌, refl, sym, ap, ◌∙◌, ℕ, zero, suc, ◌+◌, ◌-◌, ◌*◌, ◌/◌, ◌%◌, ◌<◌, ◌≤◌, add-mul}
 use Rattle.word.proofs.Base.{mul-le-mul, mul-le-mul_right, arith, Bool, true, false, List, length, rules}
-use native.Mathlib.Nat.{mul-add-div_right, mul-add-mod_self_right, div-mul-le_self, div-add-mod'}
+use native.Mathlib.Nat.{mul-add-div_right, mul-add-mod_self_right}
 use Rattle.word.proofs.ChoiceLaws.{if-either}
 use Rattle.word.specs.Repeat.{repeated}
 use Rattle.word.specs.Pointer.{moved, next_row}
@@ -38,19 +38,10 @@ pub record Running (n : ℕ) (setup : Setup) (width : ℕ) (far : Strides) (most
 
 pub running-starts : {setup : Setup} {width height most : ℕ} {far : Strides} {memory : List ℕ} {flow : Flow} → Placed (length memory) setup width height flow far
     → AllApart setup width (most * width) (height * width) flow → flow.stored + height * 64 < 4294967232
-    → Running (length memory) setup width far most (height - 0 * most) (state memory flow) (area_blit setup width height (state memory flow))
-running-starts {height = height} {most = most} placed apart room =
-    let all : height - 0 * most ≡ height = omega arith in
+    → Running (length memory) setup width far most (height - 0) (state memory flow) (area_blit setup width height (state memory flow))
+running-starts {height = height} placed apart room =
+    let all : height - 0 ≡ height = omega arith in
     rw all (record { long = refl; placed = placed; apart = apart; room = room; goes = refl })
-
--- there are so many blocks that each begins at a row, and that no row is after the last
-pub block-begins : {height most number : ℕ} → 1 ≤ most → number < (height + most - 1) / most → number * most < height
-block-begins {height} {most} {number} some below =
-    let rows : suc number * most ≤ (height + most - 1) / most * most = mul-le-mul_right most below in
-    omega (arith, suc-mul number most, div-mul-le_self (height + most - 1) most)
-
-pub blocks-end : {height most number : ℕ} → 1 ≤ most → (height + most - 1) / most ≤ number → height ≤ number * most
-blocks-end {height} {most} {number} some least = omega (arith, mul-le-mul_right most least, div-add-mod' (height + most - 1) most, mod-lt (height + most - 1) {m = most} some)
 
 module _ {n : ℕ} {setup : Setup} {width : ℕ} {far : Strides} {most left : ℕ} {ram : List ℕ} {here : Flow} {end : State} (running : Running n setup width far most left (state ram here) end)
     {rows : ℕ} (some : 1 ≤ rows) (fits : rows ≤ left) (few : rows ≤ most) where

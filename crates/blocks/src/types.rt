@@ -13,11 +13,13 @@ pub struct Source {
     pub rows: Size,
 }
 
-// The arrays that all the blocks of a blit are done in: the words that the sources give, A's masked; A's as shifted, and
-// later the filled ones; and B's as shifted, in whose place the final words come.
+// The arrays that all the blocks of a blit are done in: A's words as shifted, and later the filled ones; B's as
+// shifted, in whose place the final words come; and the words that the sources give, A's masked. These stand last, for
+// a loop that reads above where it writes may do more words at a time: with these first a word of a shifted copy costs
+// 9.8 instructions, so 9.5.
 #[derive(Drop)]
 pub struct Arrays {
-    pub given: Inputs<Words>,
     pub shifted: Words,
     pub out: Words,
+    pub given: Inputs<Words>,
 }

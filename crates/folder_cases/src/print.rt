@@ -18,11 +18,7 @@ pub fn answer(rt: &impl Print, name: &[u8], answer: Answer) -> io::Result<()> {
 // Words in hex, on a line of their own.
 pub fn words(rt: &impl Print, name: &[u8], words: &[u16]) -> io::Result<()> {
     rt.write_all(name)?;
-    let mut at: usize = 0;
-    while at < words.len() {
-        show_words::hex(rt, words[at])?;
-        at = at + 1;
-    }
+    show_words::words(rt, words)?;
     rt.write_all(b"\n")
 }
 

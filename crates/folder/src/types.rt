@@ -36,10 +36,3 @@ pub struct Told {
     pub length: usize,
     pub round: bool,
 }
-
-// What is left of a step: how many words it became, and whether it is a blit that was kept for going round alone.
-#[derive(Clone, Copy)]
-pub struct Piece {
-    pub long: u32,
-    pub round: bool,
-}

@@ -73,27 +73,29 @@ fn figure_memory() -> [u16; 18] {
     ]
 }
 
-fn figure_up(rt: &impl Print) -> io::Result<()> {
+// By the masks of the first and the last word, and the low halves of the pointers of B, C and D.
+fn figure(
+    rt: &impl Print,
+    name: &[u8],
+    con1: u16,
+    [first, last]: [u16; 2],
+    [b, c, d]: [u16; 3],
+) -> io::Result<()> {
     let mut ram = figure_memory();
-    let mut file = registers(0x07CA, 0, 0, 0, 12, 24);
-    file[file::LAST_MASK as usize] = 0xFE00;
+    let mut file = registers(0x07CA, con1, 0, b, c, d);
+    file[file::FIRST_MASK as usize] = first;
+    file[file::LAST_MASK as usize] = last;
     file[file::SOURCE_A as usize] = 0xFFFF;
-    show_words::text(rt, b"figure 6-4 up  ")?;
+    show_words::text(rt, name)?;
     run(rt, &mut ram, &mut file, 0x00C2)?;
     show_words::words(rt, &ram[12..18])?;
     show_words::line(rt)
 }
 
 // Downward the last word of a row is fetched first, so its mask is the first word's.
-fn figure_down(rt: &impl Print) -> io::Result<()> {
-    let mut ram = figure_memory();
-    let mut file = registers(0x07CA, 2, 0, 10, 22, 34);
-    file[file::FIRST_MASK as usize] = 0xFE00;
-    file[file::SOURCE_A as usize] = 0xFFFF;
-    show_words::text(rt, b"figure 6-4 down")?;
-    run(rt, &mut ram, &mut file, 0x00C2)?;
-    show_words::words(rt, &ram[12..18])?;
-    show_words::line(rt)
+fn figures(rt: &impl Print) -> io::Result<()> {
+    figure(rt, b"figure 6-4 up  ", 0, [0xFFFF, 0xFE00], [0, 12, 24])?;
+    figure(rt, b"figure 6-4 down", 2, [0xFE00, 0xFFFF], [10, 22, 34])
 }
 
 // The text to Figure 6-4: B shifted by 5, the mask made unshifted or shifted with it.
@@ -209,8 +211,7 @@ fn overlap(
 
 fn main(rt: HostRuntime) -> io::Result<()> {
     table(&rt)?;
-    figure_up(&rt)?;
-    figure_down(&rt)?;
+    figures(&rt)?;
     figure_shifted(&rt, 0x07CA, 0x07FF, 0xFFF0)?;
     figure_shifted(&rt, 0x57CA, 0xFFFF, 0xFE00)?;
     shift(&rt, 0x49F0, 0, 0, 12)?;

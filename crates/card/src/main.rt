@@ -22,7 +22,8 @@ fn room() -> [u8; 524416]
     zeros()
 }
 
-// Prints the first bytes of a text, as many as were written. They are all there (`TextFits`).
+// Prints the first bytes of a text, as many as were written. They are all there (`TextFits`). The count is no slice: it
+// goes on past the end of a text that is too short.
 fn print(rt: &impl Print, text: &[u8], written: usize) -> io::Result<()> {
     if written <= text.len() {
         rt.write_all(&text[..written])?;
@@ -30,7 +31,8 @@ fn print(rt: &impl Print, text: &[u8], written: usize) -> io::Result<()> {
     Ok(())
 }
 
-// Reads until the text is full or the input ends; answers how many bytes were read.
+// Reads until the text is full or the input ends; answers how many bytes were read. The turns have no number: each read
+// gives as many bytes as it likes.
 fn read_full(input: &mut impl Read, text: &mut [u8]) -> io::Result<usize>
     ensures { IfOk result (λ read. read ≤ length text.new) }
 {

@@ -16,7 +16,8 @@ fn ram_key(text: &[u8]) -> bool
     text.starts_with(b"ram=")
 }
 
-// What the digits before a place give, when none follows.
+// What the digits before a place give, when none follows. Here and below a place stands beside the text, and no slice
+// begins there: the definitions count places from the text's front.
 fn ram_ended(text: &[u8], at: usize, words: u32) -> Option<Ram>
     ensures { result ≡ ram_ended text.now at words }
 {

@@ -95,6 +95,7 @@ fn put_hex5(page: &mut Page, n: u32)
     put_hex4(page, n);
 }
 
+// A line of a key, which holds its equals sign, and a number, which counts nothing of the key.
 fn number_line(page: &mut Page, is: &[u8], n: u32)
     requires { (page.old.at < 3000000000) × (length is.now < 100) }
     ensures same_run { page.new.run.ghost_name ≡ page.old.run.ghost_name }

@@ -4,8 +4,6 @@ use Rattle.word.proofs.Base.{◌≡◌, refl, sym, ap, ap₂, ◌∙◌, ℕ, �
 use Rattle.word.proofs.Base.{not, eqb, leb, ne_eqb, List, [], ◌∷◌, ◌++◌, length, take, drop, length-append, length-take-le}
 use mathlib.Core.Bool.{or-false, or_assoc}
 use lib.ListN.{length-drop}
-use mir.Val.{Fits}
-use mir.Syntax.{w32}
 use Rattle.word.specs.Choice.{given}
 use Rattle.word.specs.Laid.{laid}
 use Rattle.word.proofs.ChoiceLaws.{or_left, or_right, within-when-passed}
@@ -71,9 +69,10 @@ stands-start n job out run known same =
 module _ (n : ℕ) (job out start : List ℕ) (known : List (Option ℕ)) (at from : ℕ) (round : Bool) (run : List ℕ)
     (stands : Stands n job out start known at from round run) where
   -- the end of the list
-  at_last : (answer : Answer) → steps_at job from ≡ [] → answer ≡ fitting at round (length out) → Folded n job out start answer run
+  at_last : (answer : Answer) (last : List ℕ) → steps_at job from ≡ [] → answer ≡ fitting at round (length out) → last ≡ run
+      → Folded n job out start answer last
   unfolding by_step too_long fold_steps keeps_some laid Answers
-  at_last answer none fits =
+  at_last answer last none fits ends-so =
       let all : at ≡ length (fold n job) = omega (arith, ap (λ (list : List Placed). length (fold_steps n known job list)) none, stands.counts) in
       let says : round ≡ kept n job =
       sym (or-false round) ∙ sym (ap (λ (list : List Placed). round || keeps_some n known list) none) ∙ stands.keeps in
@@ -81,7 +80,7 @@ module _ (n : ℕ) (job out start : List ℕ) (known : List (Option ℕ)) (at fr
       sym (ap (λ (list : List Placed). by_step (fold n job) (kept n job) out list) none) ∙ stands.gives in
       record {
         answers = rw (← ends, fits, all, says) (by-test (far || long) refl);
-        lays = sym (ap (λ (list : List Placed). laid (fold_steps n known job list) at run) none) ∙ stands.lays;
+        lays = ends-so ∙ sym (ap (λ (list : List Placed). laid (fold_steps n known job list) at run) none) ∙ stands.lays;
       }
     where
       far : Bool
@@ -107,21 +106,23 @@ module _ (n : ℕ) (job out start : List ℕ) (known : List (Option ℕ)) (at fr
   room-to-put short = let few = stands.few in let inside = stands.inside in omega arith
 
   module _ (read : Read) (reads : read ≡ step_at job from) where
-    pub folded-of-end : (found : Option (Step × ℕ)) (answer : Answer) → read ≡ Ok found → found ≡ None → answer ≡ fitting at round (length out)
-        → Folded n job out start answer run
-    folded-of-end found answer is same fits = at_last answer (steps-of-end job from (read-end job from read reads found is same)) fits
+    pub folded-of-end : (found : Option (Step × ℕ)) (answer : Answer) (last : List ℕ) → read ≡ Ok found → found ≡ None
+        → answer ≡ fitting at round (length out) → last ≡ run
+        → Folded n job out start answer last
+    folded-of-end found answer last is same fits = at_last answer last (steps-of-end job from (read-end job from read reads found is same)) fits
 
     -- what is no step is refused with its own number, at its place, and becomes nothing
-    pub folded-of-fault : (why : jobs.Refusal) → read ≡ Err why → Folded n job out start (Err (record { why = Refusal.Step why; place = from })) run
+    pub folded-of-fault : (why : jobs.Refusal) (last : List ℕ) → read ≡ Err why → last ≡ run
+        → Folded n job out start (Err (record { why = Refusal.Step why; place = from })) last
     unfolding by_step read_number given fold_steps piece laid Answers
-    folded-of-fault why same =
+    folded-of-fault why last same ends =
         let alone = steps-of-refused job from why (sym reads ∙ same) in
         let number : 0 < jobs-numbers.refusal_number why = read_number-of-refused why in
         let some : eqb (jobs-numbers.refusal_number why) 0 ≡ false = ne_eqb (jobs-numbers.refusal_number why) 0 (λ none. omega (arith, number, none)) in
         let here : by_step (fold n job) (kept n job) out (placed from (Err why) ∷ []) ≡ refused (jobs-numbers.refusal_number why) from out = rw some in
         record {
           answers = sym stands.gives ∙ ap (λ (list : List Placed). by_step (fold n job) (kept n job) out list) alone ∙ here;
-          lays = sym (ap (λ (list : List Placed). laid (fold_steps n known job list) at run) alone) ∙ stands.lays;
+          lays = ends ∙ sym (ap (λ (list : List Placed). laid (fold_steps n known job list) at run) alone) ∙ stands.lays;
         }
 
     module _ (found : Option (Step × ℕ)) (is : read ≡ Ok found) (step : Step) (next : ℕ) (same : found ≡ Some (step, next)) where
@@ -140,12 +141,12 @@ module _ (n : ℕ) (job out start : List ℕ) (known : List (Option ℕ)) (at fr
           ap (λ (count : ℕ). take count (drop from job)) many
 
       -- a step passed
-      module _ (more : ℕ) (after : List (Option ℕ)) (here : Bool) (later : List ℕ)
-          (laying : Put n known step (take (next - from) (drop from job)) at run later more after here) where
-        put : Put n known step (raw_words job from step) at run later more after here
+      module _ (end : ℕ) (after : List (Option ℕ)) (here : Bool) (later : List ℕ)
+          (laying : Put n known step (take (next - from) (drop from job)) at run later end after here) where
+        put : Put n known step (raw_words job from step) at run later end after here
         put = rw raw-of-step at laying
 
-        pub stands-turn : Stands n job out start after (at + more) next (round || here) later
+        pub stands-turn : Stands n job out start after end next (round || here) later
         unfolding by_step read_number given fold_steps piece learned_after keeps_some keeps_there
         stands-turn =
             let reads-step = read-step job from read reads found is step next same in
@@ -163,9 +164,9 @@ module _ (n : ℕ) (job out start : List ℕ) (known : List (Option ℕ)) (at fr
             let little = put.few in
             record {
               lays =
-                  ap (λ (list : List ℕ). laid list (at + more) later) learns
-                  ∙ ap (λ (before : List ℕ). laid rest (at + more) before) put.lays
-                  ∙ ap (λ (count : ℕ). laid rest (at + count) (laid words at run)) put.counts
+                  ap (λ (list : List ℕ). laid list end later) learns
+                  ∙ ap (λ (before : List ℕ). laid rest end before) put.lays
+                  ∙ ap (λ (to : ℕ). laid rest to (laid words at run)) put.counts
                   ∙ sym (laid-of-append words rest at run)
                   ∙ sym (ap (λ (list : List ℕ). laid list at run) split)
                   ∙ stands.lays;
@@ -180,6 +181,3 @@ module _ (n : ℕ) (job out start : List ℕ) (known : List (Option ℕ)) (at fr
               inside = on.1;
               long = laid-as-long words at (length start) run later put.lays stands.long;
             }
-
-        pub turn-fits : length job ≤ job_most → Fits w32 (at + more)
-        turn-fits short = let near = room-to-put short in let few = put.few in record { fits = omega arith }

@@ -11,6 +11,7 @@ pub enum Refusal {
 }
 
 // What a folding that is done answers: the length of the folded job, and whether a blit was kept for going round alone.
+// Each folding tells both: neither stands for the other's absence.
 #[derive(Clone, Copy)]
 pub struct Done {
     pub length: usize,
@@ -28,18 +29,11 @@ pub struct Stopped {
 pub type Answer = Result<Done, Stopped>;
 
 // The paper's numbers of an answer: the refusal's, 0 where it is done; the place of the refused step, 0 where it is done;
-// the folded job's length, 0 where it is refused; the yes.
+// the folded job's length, 0 where it is refused; the yes. Each is told of every answer, as C takes them.
 #[derive(Clone, Copy)]
 pub struct Told {
     pub number: u32,
     pub place: usize,
     pub length: usize,
-    pub round: bool,
-}
-
-// What is left of a step: how many words it became, and whether it is a blit that was kept for going round alone.
-#[derive(Clone, Copy)]
-pub struct Piece {
-    pub long: u32,
     pub round: bool,
 }

@@ -1,5 +1,5 @@
 // The folded job laid into a run of our own, from its front on, and handed out.
-ghost use Rattle.std.specs.Prelude.{◌≡◌, Ok, Err, false, not, ◌||◌, ◌+◌, ◌*◌, ◌<◌, ◌≤◌, leb, length, take, drop, ◌++◌, if◌then◌else◌};
+ghost use Rattle.std.specs.Prelude.{◌≡◌, Ok, Err, not, ◌||◌, ◌+◌, ◌*◌, ◌<◌, ◌≤◌, leb, length, take, drop, ◌++◌, if◌then◌else◌};
 ghost use Rattle.word.specs.Laid.{laid};
 ghost use Rattle.word.specs.Size.{height, width};
 ghost use Rattle.job.specs.declared.types.Step as steps;
@@ -8,117 +8,116 @@ ghost use Rattle.job.specs.Length.{job_most};
 ghost use Rattle.stores.specs.Stores.{final_d};
 ghost use Rattle.settled.specs.Words.{settled_words};
 ghost use Rattle.knowledge.specs.Knowledge.{numbers};
-ghost use Rattle.learning.specs.Learn.{moved_d};
-ghost use Rattle.folder.specs.Inner.Put.{Put, Kept};
+ghost use Rattle.learning.specs.Learn.{forgotten, moved_d};
+ghost use Rattle.folder.specs.Inner.Put.{Put};
 ghost use Rattle.folder.specs.Inner.Folded.{Folded};
 ghost use Rattle.folder.specs.declared.types.Refusal.TheVariants.{TooLong};
 
-use crate::types::{Answer, Done, Piece, Refusal, Stopped};
+use crate::types::{Answer, Done, Refusal, Stopped};
 use job::types::Step;
 use knowledge::types::Knowledge;
 use settled::types::Fate;
-
-// How many words a settled blit becomes: three for each store, four for the pointer and one for the flag.
-fn settled_length(size: u16) -> u32
-    ensures { result ≡ 3 * (height size * width size) + 5 }
-{
-    3 * (word::size::height(size) * word::size::width(size)) + 5
-}
+use word::laying::Laying;
 
 // Lays a settled blit.
-fn put_blit(run: &mut [u16], at: u32, known: &mut Knowledge, size: u16)
-    requires { (at < 1000000) × (height size * width size ≤ 64) }
-    ensures { (run.new ≡ laid (settled_words (numbers known.old.registers) size) at run.old)
-        × (known.new.registers ≡ moved_d (final_d (numbers known.old.registers) size) known.old.registers) }
+fn put_blit(words: &mut Laying<u16>, known: &mut Knowledge, size: u16)
+    requires { (words.old.at < 1000000) × (height size * width size ≤ 64) }
+    ensures same_run { words.new.run.ghost_name ≡ words.old.run.ghost_name }
+    ensures words { words.new.run.now
+        ≡ laid (settled_words (numbers known.old.registers) size) words.old.at words.old.run.now }
+    ensures place { words.new.at ≡ words.old.at + length (settled_words (numbers known.old.registers) size) }
+    ensures learns { known.new.registers ≡ moved_d (final_d (numbers known.old.registers) size) known.old.registers }
 {
     let file = known.numbers();
-    let end = output::words::put_settled(run, at, &file, size);
+    let end = output::words::put_settled(words, &file, size);
     learning::moved_d(known, end);
 }
 
-// Copies a step's own words.
-fn put_raw(run: &mut [u16], at: u32, raw: &[u16]) -> Piece
-    requires { (at < 1000000) × (length raw.now ≤ 3) }
-    ensures { (run.new ≡ laid raw.now at run.old) × (result.long ≡ length raw.now) × (result.round ≡ false) }
+// Copies a blit that is kept.
+fn put_kept(words: &mut Laying<u16>, known: &mut Knowledge, raw: &[u16])
+    requires { (words.old.at < 1000000) × (length raw.now ≤ 3) }
+    ensures same_run { words.new.run.ghost_name ≡ words.old.run.ghost_name }
+    ensures words { words.new.run.now ≡ laid raw.now words.old.at words.old.run.now }
+    ensures place { words.new.at ≡ words.old.at + length raw.now }
+    ensures learns { known.new.registers ≡ forgotten known.old.registers }
 {
-    let long = raw.len() as u32;
-    output::put::put_copied(run, at, raw, 0, long);
-    Piece { long, round: false }
-}
-
-// Copies a blit that is kept, for going round alone or not.
-fn put_kept(run: &mut [u16], at: u32, known: &mut Knowledge, raw: &[u16], round: bool) -> Piece
-    requires { (at < 1000000) × (length raw.now ≤ 3) }
-    ensures { Kept known.old.registers raw.now at round
-        run.old run.new result.long known.new.registers result.round }
-{
-    let piece = put_raw(run, at, raw);
+    words.put_all(raw);
     learning::forgotten(known);
-    Piece { round, ..piece }
 }
 
+// Lays a blit, and answers whether it is kept for going round alone.
 fn put_size(
-    run: &mut [u16],
-    at: u32,
+    words: &mut Laying<u16>,
     n: usize,
     known: &mut Knowledge,
     size: u16,
     raw: &[u16],
-) -> Piece
-    requires { (at < 1000000) × (length raw.now ≤ 3) }
-    ensures { Put n known.old.registers (steps.Step.Size size) raw.now at
-        run.old run.new result.long known.new.registers result.round }
+) -> bool
+    requires { (words.old.at < 1000000) × (length raw.now ≤ 3) }
+    ensures same_run { words.new.run.ghost_name ≡ words.old.run.ghost_name }
+    ensures put { Put n known.old.registers (steps.Step.Size size) raw.now words.old.at
+        words.old.run.now words.new.run.now words.new.at known.new.registers result }
 {
     match settled::settle::fate(n, known, size) {
         Fate::Settled => {
-            put_blit(run, at, known, size);
-            Piece {
-                long: settled_length(size),
-                round: false,
-            }
+            put_blit(words, known, size);
+            false
         }
-        Fate::KeptForRound => put_kept(run, at, known, raw, true),
-        Fate::Kept => put_kept(run, at, known, raw, false),
+        Fate::KeptForRound => {
+            put_kept(words, known, raw);
+            true
+        }
+        Fate::Kept => {
+            put_kept(words, known, raw);
+            false
+        }
     }
 }
 
-// Lays what a step becomes, of which these are the words, and learns what is known after it.
+// Lays what a step becomes, of which these are the words, and learns what is known after it; answers whether it is a blit
+// that is kept for going round alone.
 fn put_step(
-    run: &mut [u16],
-    at: u32,
+    words: &mut Laying<u16>,
     n: usize,
     known: &mut Knowledge,
     step: Step,
     raw: &[u16],
-) -> Piece
-    requires { (at < 1000000) × (length raw.now ≤ 3) }
-    ensures { Put n known.old.registers step raw.now at
-        run.old run.new result.long known.new.registers result.round }
+) -> bool
+    requires { (words.old.at < 1000000) × (length raw.now ≤ 3) }
+    ensures same_run { words.new.run.ghost_name ≡ words.old.run.ghost_name }
+    ensures put { Put n known.old.registers step raw.now words.old.at
+        words.old.run.now words.new.run.now words.new.at known.new.registers result }
 {
     match step {
         Step::Register { place, value } => {
             learning::written(known, place, value);
-            put_raw(run, at, raw)
+            words.put_all(raw);
+            false
         }
-        Step::Size(size) => put_size(run, at, n, known, size, raw),
-        Step::Store { .. } => put_raw(run, at, raw),
-        Step::Flag(_) => put_raw(run, at, raw),
+        Step::Size(size) => put_size(words, n, known, size, raw),
+        Step::Store { .. } => {
+            words.put_all(raw);
+            false
+        }
+        Step::Flag(_) => {
+            words.put_all(raw);
+            false
+        }
     }
 }
 
 // Last of all, whether a folding of this length fits.
-fn ended(words: u32, round: bool, out: &[u16]) -> Answer
+fn ended(at: usize, round: bool, out: &[u16]) -> Answer
     ensures { result
-        ≡ (if not (leb words (length out.now)) || not (leb words job_most) then Err (record { why = TooLong; place = 0 }) else Ok (record { length = words; round = round })) }
+        ≡ (if not (leb at (length out.now)) || not (leb at job_most) then Err (record { why = TooLong; place = 0 }) else Ok (record { length = at; round = round })) }
 {
-    let length = words as usize;
-    if out.len() < length || job::length::JOB_MOST < length {
+    if out.len() < at || job::length::JOB_MOST < at {
         return Err(Stopped {
             why: Refusal::TooLong,
             place: 0,
         });
     }
-    Ok(Done { length, round })
+    Ok(Done { length: at, round })
 }
 
 // Lays the folded job into a run, as far as that goes, and answers what its folding into the output gives.
@@ -126,19 +125,17 @@ pub fn folded(n: usize, job: &[u16], out: &[u16], run: &mut [u16]) -> Answer
     requires { length job.now ≤ job_most }
     ensures { Folded n job.now out.now run.old result run.new }
 {
-    let mut at: u32 = 0;
+    let mut words = Laying { run, at: 0 };
     let mut from: usize = 0;
     let mut known = knowledge::knowledge::nothing();
     let mut round = false;
     loop {
         match job::reader::read_at(job, from) {
             Ok(Some((step, next))) => {
-                let piece = put_step(run, at, n, &mut known, step, &job[from..next]);
-                at += piece.long;
-                round |= piece.round;
+                round |= put_step(&mut words, n, &mut known, step, &job[from..next]);
                 from = next;
             }
-            Ok(None) => return ended(at, round, out),
+            Ok(None) => return ended(words.at, round, out),
             Err(why) => {
                 return Err(Stopped {
                     why: Refusal::Step(why),

@@ -9,10 +9,11 @@ fn most_words(rt: &impl Print) -> io::Result<()> {
     ];
     let mut out = [0xEEEEu16; 208];
     crate::print::answer(rt, b"N 128, size 0040", folder::fold(128, &job, &mut out))?;
-    let end = [
-        out[201], out[202], out[203], out[204], out[205], out[206], out[207],
-    ];
-    crate::print::words(rt, b"  last store's value, pointer, flag, rest", &end)
+    crate::print::words(
+        rt,
+        b"  last store's value, pointer, flag, rest",
+        &out[201..],
+    )
 }
 
 // "job 4,096 taken, 4,097 refused"
@@ -72,11 +73,8 @@ fn word(at: usize, flags: usize) -> u16 {
 }
 
 fn lay(job: &mut [u16], flags: usize) {
-    let words = job.len();
-    let mut at: usize = 0;
-    while at < words {
+    for at in 0..job.len() {
         job[at] = word(at, flags);
-        at = at + 1;
     }
 }
 

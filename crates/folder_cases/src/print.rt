@@ -2,7 +2,8 @@
 use folder::types::Answer;
 use std::io;
 
-// A case's name, and the answer's number, place and length.
+// A case's name, and the answer's number, place and length. The runner's answer that `runner_cases` prints is another
+// type: it has a count of words stored for the length.
 pub fn answer(rt: &impl Print, name: &[u8], answer: Answer) -> io::Result<()> {
     let told = folder::answer::told(answer);
     rt.write_all(name)?;
@@ -18,11 +19,7 @@ pub fn answer(rt: &impl Print, name: &[u8], answer: Answer) -> io::Result<()> {
 // Words in hex, on a line of their own.
 pub fn words(rt: &impl Print, name: &[u8], words: &[u16]) -> io::Result<()> {
     rt.write_all(name)?;
-    let mut at: usize = 0;
-    while at < words.len() {
-        show_words::hex(rt, words[at])?;
-        at = at + 1;
-    }
+    show_words::words(rt, words)?;
     rt.write_all(b"\n")
 }
 
@@ -36,7 +33,7 @@ pub fn round(rt: &impl Print, answer: Answer) -> io::Result<()> {
     Ok(())
 }
 
-// A job folded into an output of 28 words that hold EEEE, and whether a blit was kept for going round alone.
+// A job folded for n words of memory into an output of 28 words that hold EEEE, and whether a blit was kept for going round alone.
 pub fn folded_round(rt: &impl Print, name: &[u8], n: usize, job: &[u16]) -> io::Result<()> {
     let mut out = [0xEEEEu16; 28];
     let folding = folder::fold(n, job, &mut out);
@@ -45,7 +42,7 @@ pub fn folded_round(rt: &impl Print, name: &[u8], n: usize, job: &[u16]) -> io::
     words(rt, b"  out", &out)
 }
 
-// A job folded into an output of 28 words that hold EEEE.
+// A job folded for n words of memory into an output of 28 words that hold EEEE.
 pub fn folded(rt: &impl Print, name: &[u8], n: usize, job: &[u16]) -> io::Result<()> {
     let mut out = [0xEEEEu16; 28];
     answer(rt, name, folder::fold(n, job, &mut out))?;

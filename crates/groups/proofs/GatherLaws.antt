@@ -8,7 +8,7 @@ use Rattle.word.specs.Pointer.{pointer_end}
 use Rattle.stores.specs.Stores.{Store}
 use Rattle.stores.proofs.OnMemoryLaws.{stored_into, Inside}
 use Rattle.groups.specs.Gather.{Group, group, gather, gathered}
-use Rattle.groups.specs.Inner.Paired.{places, values}
+use Rattle.groups.specs.Inner.Values.{places, values}
 use Rattle.groups.specs.Inner.Leading.{following, leading}
 
 -- what holds of a store joined to the first group where they are neighbours, and of a store alone before it where they

@@ -3,5 +3,4 @@ pub mod GatherLaws
 pub mod GathersTheLongest
 pub mod WordsLaws
 pub mod LeadingLaws
-pub mod PairedLaws
-pub mod PutLaws
+pub mod StoresLaws

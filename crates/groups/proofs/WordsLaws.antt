@@ -4,7 +4,7 @@ use Rattle.word.specs.declared.types.Pointer.{Pointer}
 use Rattle.stores.specs.Stores.{Store}
 use Rattle.groups.specs.Gather.{Group, gathered}
 use Rattle.groups.specs.Words.{step_words, groups_words, stores_words}
-use Rattle.groups.specs.Inner.Paired.{places, values}
+use Rattle.groups.specs.Inner.Values.{places, values}
 use Rattle.groups.specs.Inner.Leading.{leading}
 use Rattle.groups.proofs.GatherLaws.{groups_count, gathered-count, gathered-of-leading}
 

@@ -1,3 +1,3 @@
 -- What only contracts speak of: no promise to a caller rests on it.
 pub mod Leading
-pub mod Paired
+pub mod Values

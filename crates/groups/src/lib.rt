@@ -1,57 +1,44 @@
 // A blit's stores gathered into groups, and the words of these laid into a run.
 #![tactic(auto)]
 
-ghost use Rattle.std.specs.Prelude.{◌≡◌, [], ◌∷◌, ◌+◌, ◌-◌, ◌<◌, ◌≤◌, eqb, length, take, drop};
+ghost use Rattle.std.specs.Prelude.{◌≡◌, [], ◌∷◌, ◌+◌, ◌<◌, ◌≤◌, eqb, length, take};
 ghost use Rattle.word.specs.Laid.{laid};
-ghost use Rattle.word.specs.Pointer.{high, low};
-ghost use Rattle.groups.specs.Words.{step_words, stores_words};
+ghost use Rattle.groups.specs.Words.{stores_words};
 ghost use Rattle.groups.specs.Inner.Leading.{leading};
-ghost use Rattle.groups.specs.Inner.Paired.{paired};
+ghost use Rattle.groups.specs.Inner.Values.{places, values, group_step};
 
 pub mod theorems;
 
-use word::types::Pointer;
+use stores::types::Store;
+use word::laying::Laying;
 
-// The first three words of a step that names an address: its code with the high half, the low half, and one more.
-fn put_head(out: &mut [u16], at: u32, code: u16, to: Pointer, third: u16)
-    requires { (at < 1000200) × (code ≤ 0x9000) }
-    ensures { out.new ≡ laid ((code + high to) ∷ low to ∷ third ∷ []) at out.old }
+// The values of stores, one after the other.
+fn put_values(out: &mut Laying<u16>, stores: &[Store])
+    requires { (out.old.at < 2000000) × (length stores.now ≤ 64) }
+    ensures same_run { out.new.run.ghost_name ≡ out.old.run.ghost_name }
+    ensures words { out.new.run.now ≡ laid (values stores.now) out.old.at out.old.run.now }
+    ensures place { out.new.at ≡ out.old.at + length stores.now }
 {
-    word::memory::write(out, at, code + to.high());
-    word::memory::write(out, at + 1, to.low());
-    word::memory::write(out, at + 2, third);
-}
-
-// A group of several values; answers the place behind it.
-fn put_several(out: &mut [u16], at: u32, to: Pointer, values: &[u16], from: u32, count: u32) -> u32
-    requires { (at < 1000200) × (2 ≤ count) × (count ≤ 64) × (from + count ≤ length values.now) }
-    ensures { (out.new
-        ≡ laid (step_words to (take count (drop from values.now))) at out.old)
-        × (result ≡ at + length (step_words to (take count (drop from values.now)))) }
-{
-    put_head(out, at, 0x9000, to, count as u16);
-    word::memory::copy(
-        out,
-        (at + 3) as usize,
-        values,
-        from as usize,
-        count as usize,
-    );
-    at + 3 + count
-}
-
-// The step of so many values for rising addresses, a lone one as a store; answers the place behind it.
-fn put_group(out: &mut [u16], at: u32, to: Pointer, values: &[u16], from: u32, count: u32) -> u32
-    requires { (at < 1000200) × (1 ≤ count) × (count ≤ 64) × (from + count ≤ length values.now) }
-    ensures { (out.new
-        ≡ laid (step_words to (take count (drop from values.now))) at out.old)
-        × (result ≡ at + length (step_words to (take count (drop from values.now)))) }
-{
-    if 1 < count {
-        return put_several(out, at, to, values, from, count);
+    for store in stores {
+        out.put(store.value);
     }
-    put_head(out, at, 0x8000, to, word::memory::read(values, from));
-    at + 3
+}
+
+// The step of stores for rising addresses, a lone one as a store.
+fn put_group(out: &mut Laying<u16>, stores: &[Store])
+    requires { (out.old.at < 1000200) × (1 ≤ length stores.now) × (length stores.now ≤ 64) }
+    ensures same_run { out.new.run.ghost_name ≡ out.old.run.ghost_name }
+    ensures words { out.new.run.now ≡ laid (group_step stores.now) out.old.at out.old.run.now }
+    ensures place { out.new.at ≡ out.old.at + length (group_step stores.now) }
+{
+    let first = stores[0];
+    let count = stores.len();
+    if 1 < count {
+        out.put_all(&[0x9000 + first.to.high(), first.to.low(), count as u16]);
+        put_values(out, stores);
+        return;
+    }
+    out.put_all(&[0x8000 + first.to.high(), first.to.low(), first.value]);
 }
 
 // Whether a place is one word further on than the place before it.
@@ -67,38 +54,31 @@ fn next_to(before: u32, place: u32) -> bool
     false
 }
 
-// How many places, from one on, rise one by one before `many`.
-fn neighbours(places: &[u32], from: u32, many: u32) -> u32
-    requires { (from < many) × (many ≤ 64) × (many ≤ length places.now) }
-    ensures { (result ≡ leading (take (many - from) (drop from places.now)))
-        × (1 ≤ result) × (from + result ≤ many) }
+// How many stores, from the first on, rise one by one.
+fn neighbours(stores: &[Store]) -> usize
+    requires { 1 ≤ length stores.now }
+    ensures { (result ≡ leading (places stores.now)) × (1 ≤ result) × (result ≤ length stores.now) }
 {
-    let mut last = from;
-    while last + 1 < many {
-        if !next_to(places[last as usize], places[(last + 1) as usize]) {
-            return last - from + 1;
+    let end = stores.len() - 1;
+    for last in 0..end {
+        if !next_to(stores[last].to.word, stores[last + 1].to.word) {
+            return last + 1;
         }
-        last = last + 1;
     }
-    last - from + 1
+    end + 1
 }
 
-// So many stores, of places and values, gathered; answers the place behind their steps.
-pub fn put_stores(out: &mut [u16], at: u32, places: &[u32], values: &[u16], many: u32) -> u32
-    requires { (at < 1000000) × (many ≤ 64) × (many ≤ length places.now) × (many ≤ length values.now) }
-    ensures { (out.new
-        ≡ laid (stores_words (paired places.now values.now 0 many)) at out.old)
-        × (result ≡ at + length (stores_words (paired places.now values.now 0 many))) }
+// So many stores of a run, gathered. The run holds more than they: what is left of a blit before stands behind them.
+pub fn put_stores(out: &mut Laying<u16>, run: &[Store], many: usize)
+    requires { (out.old.at < 1000000) × (many ≤ 64) × (many ≤ length run.now) }
+    ensures same_run { out.new.run.ghost_name ≡ out.old.run.ghost_name }
+    ensures words { out.new.run.now ≡ laid (stores_words (take many run.now)) out.old.at out.old.run.now }
+    ensures place { out.new.at ≡ out.old.at + length (stores_words (take many run.now)) }
 {
-    let mut from: u32 = 0;
-    let mut to = at;
-    while from < many {
-        let first = Pointer {
-            word: places[from as usize],
-        };
-        let count = neighbours(places, from, many);
-        to = put_group(out, to, first, values, from, count);
-        from = from + count;
+    let mut rest = &run[..many];
+    while 0 < rest.len() {
+        let count = neighbours(rest);
+        put_group(out, &rest[..count]);
+        rest = &rest[count..];
     }
-    to
 }

@@ -1,6 +1,6 @@
 -- Laws of a settled blit's stores laid into the output from the run that holds them.
 use Rattle.word.proofs.Base.{◌≡◌, refl, sym, ap, ◌∙◌, ℕ, suc, ◌+◌, ◌*◌, ◌<◌, ◌≤◌, arith, Bool, List, ◌∷◌}
-use Rattle.word.proofs.Base.{◌++◌, length, get_or, take, drop, drop-cons, drop_of_length-le}
+use Rattle.word.proofs.Base.{◌++◌, length, length-append, get_or, take, drop, drop-cons, drop_of_length-le}
 use Rattle.std.proofs.Math.Seq.{take-append_seam}
 use Rattle.word.specs.declared.types.Pointer.{Pointer}
 use Rattle.word.specs.Laid.{laid}
@@ -42,20 +42,35 @@ stores-of-run file size at many first run out next room puts few is-many lays =
     ∙ ap (λ (steps : List Store). laid (stores_words steps) at out)
     (rw (puts ∙ laid-in-front list first (omega (arith, long, room, few)), ← long) (take-append_seam list (drop (length list) first)))
 
--- all the words of a settled blit
-pub settled-of-parts : (file : List ℕ) (size at to many : ℕ) (out next last : List ℕ) (end : Pointer) (allzero : Bool)
-    → many ≡ height size * width size
-    → next ≡ laid (stores_words (stores file size)) at out → to ≡ at + 3 * many
-    → allzero ≡ all_zero (stores file size) → end ≡ final_d file size
-    → last ≡ laid (pointer_words end ++ flag_words allzero) to next
-    → last ≡ laid (settled_words file size) at out
-unfolding settled_words
-settled-of-parts file size at to many out next last end allzero is-many lays moves flags ends finishes =
-    let list : List Store = stores file size in
-    let long : length (stores_words list) ≡ 3 * many = stores_words-length list ∙ ap (λ (n : ℕ). 3 * n) (stores-length file size ∙ sym is-many) in
-    finishes
-    ∙ rw (ends, flags, lays, moves, ← long)
-    (sym (laid-of-append (stores_words list) (pointer_words (final_d file size) ++ flag_words (all_zero list)) at out))
+-- all the words of a settled blit, and where they end
+module _ (file : List ℕ) (size many : ℕ) (is-many : many ≡ height size * width size) where
+  settled-long : length (stores_words (stores file size)) ≡ 3 * many
+  settled-long =
+      stores_words-length (stores file size)
+      ∙ ap (λ (n : ℕ). 3 * n) (stores-length file size ∙ sym is-many)
+
+  pub settled-of-parts : (at to : ℕ) (out next last : List ℕ) (end : Pointer) (allzero : Bool)
+      → next ≡ laid (stores_words (stores file size)) at out → to ≡ at + 3 * many
+      → allzero ≡ all_zero (stores file size) → end ≡ final_d file size
+      → last ≡ laid (pointer_words end ++ flag_words allzero) to next
+      → last ≡ laid (settled_words file size) at out
+  unfolding settled_words
+  settled-of-parts at to out next last end allzero lays moves flags ends finishes =
+      let list : List Store = stores file size in
+      finishes
+      ∙ rw (ends, flags, lays, moves, ← settled-long)
+      (sym (laid-of-append (stores_words list) (pointer_words (final_d file size) ++ flag_words (all_zero list)) at out))
+
+  pub settled-end : (at to last : ℕ) → to ≡ at + 3 * many → last ≡ to + 5 → last ≡ at + length (settled_words file size)
+  unfolding settled_words
+  settled-end at to last moves ends =
+      omega (
+        arith,
+        settled-long,
+        length-append
+            (stores_words (stores file size))
+            (pointer_words (final_d file size) ++ flag_words (all_zero (stores file size))),
+      )
 
 -- how many words a settled blit has
 pub many-of-size : (size rows words : ℕ) → rows ≡ height size → words ≡ width size → rows * words ≡ height size * width size

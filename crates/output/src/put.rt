@@ -1,5 +1,5 @@
 // Words laid into the output.
-ghost use Rattle.std.specs.Prelude.{◌≡◌, [], ◌∷◌, ◌++◌, ◌+◌, ◌<◌, ◌≤◌, length, take, drop};
+ghost use Rattle.std.specs.Prelude.{◌≡◌, [], ◌∷◌, ◌++◌, ◌+◌, ◌<◌};
 ghost use Rattle.settled.specs.Words.{store_words, pointer_words, flag_words};
 ghost use Rattle.word.specs.Laid.{laid};
 
@@ -30,16 +30,8 @@ pub fn put_end(out: &mut Laying<u16>, pointer: Pointer, allzero: bool)
     ensures same_run { out.new.run.ghost_name ≡ out.old.run.ghost_name }
     ensures words { out.new.run.now
         ≡ laid (pointer_words pointer ++ flag_words allzero) out.old.at out.old.run.now }
+    ensures place { out.new.at ≡ out.old.at + 5 }
 {
     let flag = flag_word(allzero);
     out.put_all(&[0x0054, pointer.high(), 0x0056, pointer.low(), flag]);
-}
-
-// Words of the job, as they stand.
-pub fn put_copied(out: &mut [u16], at: u32, job: &[u16], from: usize, count: u32)
-    requires { (at + count < 4294967000) × (from + count ≤ length job.now) }
-    ensures { out.new
-        ≡ laid (take count (drop from job.now)) at out.old }
-{
-    word::memory::copy(out, at as usize, job, from, count as usize);
 }

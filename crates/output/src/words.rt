@@ -44,18 +44,16 @@ fn put_blit(out: &mut Laying<u16>, file: &[u16], size: u16, many: usize) -> bool
 }
 
 // All the words of a settled blit; answers where it leaves D's pointer.
-pub fn put_settled(out: &mut [u16], at: u32, file: &[u16], size: u16) -> Pointer
-    requires { (at < 1000000) × (height size * width size ≤ 64) }
-    ensures { (out.new ≡ laid (settled_words file.now size) at out.old)
-        × (result ≡ final_d file.now size) }
+pub fn put_settled(out: &mut Laying<u16>, file: &[u16], size: u16) -> Pointer
+    requires { (out.old.at < 1000000) × (height size * width size ≤ 64) }
+    ensures same_run { out.new.run.ghost_name ≡ out.old.run.ghost_name }
+    ensures words { out.new.run.now ≡ laid (settled_words file.now size) out.old.at out.old.run.now }
+    ensures place { out.new.at ≡ out.old.at + length (settled_words file.now size) }
+    ensures pointer { result ≡ final_d file.now size }
 {
     let many = word::size::height(size) * word::size::width(size);
-    let mut words = Laying {
-        run: out,
-        at: at as usize,
-    };
-    let allzero = put_blit(&mut words, file, size, many as usize);
+    let allzero = put_blit(out, file, size, many as usize);
     let end = stores::final_d(file, size);
-    crate::put::put_end(&mut words, end, allzero);
+    crate::put::put_end(out, end, allzero);
     end
 }

@@ -5,7 +5,7 @@ ghost use Rattle.runner.specs.Answer.{refusal_number, told};
 use crate::types::{Answer, Refusal, Told};
 
 impl Refusal {
-    // The paper's number of it.
+    // The paper's number of it. The kinds have no numbers of their own: one that carries its reason can have none.
     pub fn number(self) -> u32
         ensures { result ≡ refusal_number self }
     {

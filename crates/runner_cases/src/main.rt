@@ -3,6 +3,8 @@
 // stores and flags between, and pointers that go round. What it must print is written out beside it, from the papers.
 #![tactic(auto)]
 
+ghost use Rattle.std.specs.Prelude.{◌≤◌};
+
 use runner::types::Answer;
 use std::io;
 
@@ -45,11 +47,18 @@ fn show_file(rt: &impl Print, file: &[u16; file::WORDS]) -> io::Result<()> {
     show_words(rt, b"  zero", &file[FLAG..])
 }
 
-// A job on 16 words of memory and a register file that are all zero.
-fn on_zeros(rt: &impl Print, name: &[u8], job: &[u16]) -> io::Result<()> {
-    let mut ram = [0u16; 16];
+// A job run on so many words of memory and a register file that are all zero.
+fn run_on_zeros<const N: usize>(job: &[u16]) -> Answer
+    requires { N ≤ 262144 }
+{
+    let mut ram = [0u16; N];
     let mut file = [0u16; file::WORDS];
-    show(rt, name, runner::run(&mut ram, &mut file, job))
+    runner::run(&mut ram, &mut file, job)
+}
+
+// A job on 16 words.
+fn on_zeros(rt: &impl Print, name: &[u8], job: &[u16]) -> io::Result<()> {
+    show(rt, name, run_on_zeros::<16>(job))
 }
 
 // The same with what is left printed.
@@ -212,12 +221,8 @@ fn colours(rt: &impl Print) -> io::Result<()> {
 fn pointed(
     rt: &impl Print,
     name: &[u8],
-    con0: u16,
-    con1: u16,
-    a: u16,
-    b: u16,
-    c: u16,
-    d: u16,
+    [con0, con1]: [u16; 2],
+    [a, b, c, d]: [u16; 4],
     size: u16,
 ) -> io::Result<()> {
     let job = [
@@ -229,27 +234,47 @@ fn pointed(
 // Which channel is told of a blit that leaves 16 words: the first in the order A, B, C, D of which any word lies
 // outside, whichever leaves earlier. Byte 20 is word 16; a name has the word or row at which a channel leaves.
 fn channels(rt: &impl Print) -> io::Result<()> {
-    pointed(rt, b"A outside", 0x0F00, 0, 0x20, 0, 0, 0, 0x41)?;
-    pointed(rt, b"B outside", 0x0F00, 0, 0, 0x20, 0, 0, 0x41)?;
-    pointed(rt, b"C outside", 0x0F00, 0, 0, 0, 0x20, 0, 0x41)?;
-    pointed(rt, b"D outside", 0x0F00, 0, 0, 0, 0, 0x20, 0x41)?;
-    pointed(rt, b"A and D outside", 0x0900, 0, 0x20, 0, 0, 0x20, 0x41)?;
-    pointed(rt, b"D word 1, A word 2", 0x0900, 0, 0x1C, 0, 0, 0x1E, 0x43)?;
-    pointed(rt, b"D row 0, A row 1", 0x0900, 0, 0x1E, 0, 0, 0x20, 0x81)?;
-    pointed(rt, b"C word 0, B word 1", 0x0F00, 0, 0, 0x1E, 0x20, 0, 0x42)?;
-    pointed(rt, b"A goes round", 0x0900, 2, 0, 0, 0, 0x02, 0x42)?;
+    pointed(rt, b"A outside", [0x0F00, 0], [0x20, 0, 0, 0], 0x41)?;
+    pointed(rt, b"B outside", [0x0F00, 0], [0, 0x20, 0, 0], 0x41)?;
+    pointed(rt, b"C outside", [0x0F00, 0], [0, 0, 0x20, 0], 0x41)?;
+    pointed(rt, b"D outside", [0x0F00, 0], [0, 0, 0, 0x20], 0x41)?;
+    pointed(
+        rt,
+        b"A and D outside",
+        [0x0900, 0],
+        [0x20, 0, 0, 0x20],
+        0x41,
+    )?;
+    pointed(
+        rt,
+        b"D word 1, A word 2",
+        [0x0900, 0],
+        [0x1C, 0, 0, 0x1E],
+        0x43,
+    )?;
+    pointed(
+        rt,
+        b"D row 0, A row 1",
+        [0x0900, 0],
+        [0x1E, 0, 0, 0x20],
+        0x81,
+    )?;
+    pointed(
+        rt,
+        b"C word 0, B word 1",
+        [0x0F00, 0],
+        [0, 0x1E, 0x20, 0],
+        0x42,
+    )?;
+    pointed(rt, b"A goes round", [0x0900, 2], [0, 0, 0, 0x02], 0x42)?;
     pointed(
         rt,
         b"A, B, C not used",
-        0x0100,
-        0,
-        0x20,
-        0x20,
-        0x20,
-        0,
+        [0x0100, 0],
+        [0x20, 0x20, 0x20, 0],
         0x41,
     )?;
-    pointed(rt, b"D not used", 0x0E00, 0, 0, 0, 0, 0x20, 0x41)
+    pointed(rt, b"D not used", [0x0E00, 0], [0, 0, 0, 0x20], 0x41)
 }
 
 // A blit of size 0000, which is 1,024 by 64 words, and a store.
@@ -301,44 +326,38 @@ fn show_round(rt: &impl Print, name: &[u8], answer: Answer) -> io::Result<()> {
     Ok(())
 }
 
-// A job on 16 words of memory that are zero, and on the most.
-fn round_on_16(rt: &impl Print, name: &[u8], job: &[u16]) -> io::Result<()> {
-    let mut ram = [0u16; 16];
-    let mut file = [0u16; file::WORDS];
-    show_round(rt, name, runner::run(&mut ram, &mut file, job))
-}
-
-fn round_on_most(rt: &impl Print, name: &[u8], job: &[u16]) -> io::Result<()> {
-    let mut ram = [0u16; 262144];
-    let mut file = [0u16; file::WORDS];
-    show_round(rt, name, runner::run(&mut ram, &mut file, job))
+// A job on so many words of memory that are zero.
+fn round_on<const N: usize>(rt: &impl Print, name: &[u8], job: &[u16]) -> io::Result<()>
+    requires { N ≤ 262144 }
+{
+    show_round(rt, name, run_on_zeros::<N>(job))
 }
 
 // Paper 02, W12, on 16 words. D alone downward from word 0, a modulo of -4 bytes: after word 0 D steps to word 262,143, and
 // the modulo brings it back to word 1. A refused blit gives no yes, and a refused step takes none back.
 fn rounds_on_16(rt: &impl Print) -> io::Result<()> {
-    round_on_16(
+    round_on::<16>(
         rt,
         b"D round and back",
         &[
             0x0040u16, 0x0100, 0x0042, 0x0002, 0x0066, 0xFFFC, 0x0058, 0x0081,
         ],
     )?;
-    round_on_16(
+    round_on::<16>(
         rt,
         b"D round after its last word",
         &[
             0x0040u16, 0x0100, 0x0042, 0x0002, 0x0066, 0xFFFC, 0x0058, 0x0041,
         ],
     )?;
-    round_on_16(
+    round_on::<16>(
         rt,
         b"a yes, then a blit that stays",
         &[
             0x0040u16, 0x0100, 0x0042, 0x0002, 0x0066, 0xFFFC, 0x0058, 0x0081, 0x0058, 0x0041,
         ],
     )?;
-    round_on_16(
+    round_on::<16>(
         rt,
         b"a yes, then a refused store",
         &[
@@ -346,7 +365,7 @@ fn rounds_on_16(rt: &impl Print) -> io::Result<()> {
             0x2222,
         ],
     )?;
-    round_on_16(
+    round_on::<16>(
         rt,
         b"a refused blit",
         &[0x0040u16, 0x0100, 0x0042, 0x0002, 0x0058, 0x0042],
@@ -356,61 +375,61 @@ fn rounds_on_16(rt: &impl Print) -> io::Result<()> {
 // On 262,144 words: a row over the top, and one that ends there; a modulo that leads below nought, and one to it; A over
 // the top, with D, without D and not in use; a line whose C goes left of word 0.
 fn rounds_on_most(rt: &impl Print) -> io::Result<()> {
-    round_on_most(
+    round_on::<262144>(
         rt,
         b"row over the top",
         &[
             0x0040u16, 0x0100, 0x0054, 0x0007, 0x0056, 0xFFFC, 0x0058, 0x0043,
         ],
     )?;
-    round_on_most(
+    round_on::<262144>(
         rt,
         b"row to the top",
         &[
             0x0040u16, 0x0100, 0x0054, 0x0007, 0x0056, 0xFFFC, 0x0058, 0x0042,
         ],
     )?;
-    round_on_most(
+    round_on::<262144>(
         rt,
         b"modulo below nought",
         &[
             0x0040u16, 0x0100, 0x0056, 0x0004, 0x0066, 0xFFF8, 0x0058, 0x0081,
         ],
     )?;
-    round_on_most(
+    round_on::<262144>(
         rt,
         b"modulo to nought",
         &[
             0x0040u16, 0x0100, 0x0056, 0x0004, 0x0066, 0xFFFA, 0x0058, 0x0081,
         ],
     )?;
-    round_on_most(
+    round_on::<262144>(
         rt,
         b"A over the top",
         &[
             0x0040u16, 0x0900, 0x0050, 0x0007, 0x0052, 0xFFFE, 0x0056, 0x0010, 0x0058, 0x0042,
         ],
     )?;
-    round_on_most(
+    round_on::<262144>(
         rt,
         b"A over the top, without D",
         &[
             0x0040u16, 0x0800, 0x0050, 0x0007, 0x0052, 0xFFFE, 0x0058, 0x0042,
         ],
     )?;
-    round_on_most(
+    round_on::<262144>(
         rt,
         b"A at the top, not used",
         &[
             0x0040u16, 0x0100, 0x0050, 0x0007, 0x0052, 0xFFFE, 0x0056, 0x0010, 0x0058, 0x0042,
         ],
     )?;
-    round_on_most(
+    round_on::<262144>(
         rt,
         b"line left of word 0",
         &[0x0040u16, 0x0BCA, 0x0042, 0x0055, 0x0058, 0x0082],
     )?;
-    round_on_most(
+    round_on::<262144>(
         rt,
         b"line of one dot there",
         &[0x0040u16, 0x0BCA, 0x0042, 0x0055, 0x0058, 0x0042],

@@ -1,9 +1,16 @@
--- `groups::put_group` meets its contract: several values are put as a group, and a lone one as a store. The count is
--- named by its path, so that arithmetic tells that it is one, however the test is written.
-use Rattle.word.proofs.Base.{◌≡◌, arith}
-use Rattle.groups.proofs.PutLaws.{put-group-when-lone, put-group-end-when-lone}
+-- `groups::put_group` meets its contract: several values are laid as a group, and a lone one as a store.
+use Rattle.word.proofs.Base.{rules}
+use Rattle.groups.proofs.StoresLaws.{put-group-lone, put-group-several, put-group-end-lone, put-group-end-several}
 use Rattle.groups.proofs.put_group.Goals as goal
 
-pub returns : goal.returns
-returns c = let lone : c.args.count ≡ 1 = omega arith in
-    (search put-group-when-lone, search put-group-end-when-lone)
+pub returns-then-count-gt1-clause-words : goal.returns-then-count-gt1-clause-words
+returns-then-count-gt1-clause-words c = search (rules, put-group-several)
+
+pub returns-then-count-gt1-clause-place : goal.returns-then-count-gt1-clause-place
+returns-then-count-gt1-clause-place c = search (rules, put-group-end-several)
+
+pub returns-clause-words : goal.returns-clause-words
+returns-clause-words c = search (rules, put-group-lone)
+
+pub returns-clause-place : goal.returns-clause-place
+returns-clause-place c = search (rules, put-group-end-lone)

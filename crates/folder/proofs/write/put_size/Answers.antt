@@ -6,11 +6,11 @@ use Rattle.folder.proofs.write.put_size.Goals as goal
 pub put_blit-requires : goal.put_blit-requires
 put_blit-requires c = search (rules, few-when-settled)
 
-pub returns-in-Settled : goal.returns-in-Settled
-returns-in-Settled c = search put-when-settled
+pub returns-in-Settled-clause-put : goal.returns-in-Settled-clause-put
+returns-in-Settled-clause-put c = search put-when-settled
 
-pub returns-in-KeptForRound : goal.returns-in-KeptForRound
-returns-in-KeptForRound c = search put-when-round
+pub returns-in-KeptForRound-clause-put : goal.returns-in-KeptForRound-clause-put
+returns-in-KeptForRound-clause-put c = search put-when-round
 
-pub returns-in-Kept : goal.returns-in-Kept
-returns-in-Kept c = search put-when-kept
+pub returns-in-Kept-clause-put : goal.returns-in-Kept-clause-put
+returns-in-Kept-clause-put c = search put-when-kept

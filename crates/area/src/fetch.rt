@@ -4,7 +4,7 @@ ghost use Rattle.area.specs.With.{with_pointers};
 ghost use Rattle.area.specs.Fetch.{fetched, fetch};
 ghost use Rattle.area.specs.Move.{stepped};
 
-use crate::types::{Earlier, Flow, Pointers, Sources};
+use crate::types::{Flow, Pointers, Sources};
 use word::types::{Direction, Pointer, Uses};
 
 // What a source gives, and its pointer moved on.
@@ -57,7 +57,6 @@ pub fn fetch(ram: &[u16], direction: Direction, uses: Uses, flow: Flow) -> Flow
             b: b.word,
             c: c.word,
         },
-        earlier: Earlier { ..flow.earlier },
         ..flow
     }
 }

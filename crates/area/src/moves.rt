@@ -3,7 +3,7 @@ ghost use Rattle.std.specs.Prelude.{◌≡◌};
 ghost use Rattle.area.specs.With.{with_pointers};
 ghost use Rattle.area.specs.Move.{stepped, turned, row_end};
 
-use crate::types::{Earlier, Flow, Modulos, Pointers};
+use crate::types::{Flow, Modulos, Pointers};
 use word::types::{Direction, Pointer, Uses};
 
 // The flow with other pointers.
@@ -12,7 +12,6 @@ fn with_pointers(pointers: Pointers, flow: Flow) -> Flow
 {
     Flow {
         pointers,
-        earlier: Earlier { ..flow.earlier },
         ..flow
     }
 }

@@ -2,7 +2,7 @@
 ghost use Rattle.std.specs.Prelude.{◌≡◌};
 ghost use Rattle.area.specs.With.{with_carry};
 
-use crate::types::{Earlier, Flow, Setup};
+use crate::types::{Flow, Setup};
 
 // The carry starts at carry-in on every row.
 pub fn row_start(setup: Setup, flow: Flow) -> Flow
@@ -10,7 +10,6 @@ pub fn row_start(setup: Setup, flow: Flow) -> Flow
 {
     Flow {
         carry: setup.carry,
-        earlier: Earlier { ..flow.earlier },
         ..flow
     }
 }

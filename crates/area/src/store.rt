@@ -4,7 +4,7 @@ ghost use Rattle.area.specs.Flow.{state};
 ghost use Rattle.area.specs.With.{with_stores};
 ghost use Rattle.area.specs.Store.{wait, memory_with, count_with, store_pending};
 
-use crate::types::{Earlier, Flow, Pending};
+use crate::types::{Flow, Pending};
 
 // The flow with another count and another pending word.
 fn with_stores(stored: u32, pending: Option<Pending>, flow: Flow) -> Flow
@@ -13,7 +13,6 @@ fn with_stores(stored: u32, pending: Option<Pending>, flow: Flow) -> Flow
     Flow {
         stored,
         pending,
-        earlier: Earlier { ..flow.earlier },
         ..flow
     }
 }

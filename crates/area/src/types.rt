@@ -34,8 +34,7 @@ pub type Pointers = Channels<Pointer>;
 // What each source gives: the data register, which holds the last word fetched.
 pub type Sources = Inputs<u16>;
 
-// The earlier word of A, as masked, and of B. A flow made of another copies them by a literal of their own, one by one, so
-// that each has a register of its own.
+// The earlier word of A, as masked, and of B.
 pub type Earlier = Pair<u16>;
 
 // The final word that waits to be stored, and the place it is for.

@@ -4,7 +4,6 @@ ghost use Rattle.word.specs.Shift.{shifted};
 ghost use Rattle.quiet.specs.Words.{shifted_at};
 ghost use Rattle.block.specs.Inner.Each.{at, Each};
 
-use crate::each::each;
 use crate::types::Words;
 use word::types::Direction;
 
@@ -20,11 +19,12 @@ fn drawn(direction: Direction, by: u32, earlier: u16, this: u16) -> u16
     }
 }
 
+#[tactic(auto, unfolding(crate::specs::Inner::Each::Each, crate::specs::Inner::Each::at))]
 pub fn copied(n: usize, x: &Words, y: &mut Words)
     requires { n ≤ 80 }
     ensures { Each n y.new (at x.now) }
 {
-    each(n, |i, _| x[i], y);
+    y[..n].copy_from_slice(&x[..n]);
 }
 
 // A shift by nought leaves every word as it is, whatever stands before it.

@@ -3,3 +3,4 @@ pub mod TextLaws
 pub mod ReadingLaws
 pub mod RamLaws
 pub mod JobLaws
+pub mod KeysLaws

@@ -2,10 +2,10 @@
 ghost use Rattle.std.specs.Prelude.{◌≡◌, ◌+◌, ◌<◌, ◌≤◌, true, length};
 ghost use Rattle.card_reading.specs.Text.{decimal_digit};
 ghost use Rattle.card_reading.specs.RamLine.{with_digit, ram_key};
-ghost use Rattle.card_reading.specs.Keys.{letter};
 ghost use Rattle.card_reading.specs.Reading.{key_at, word_at, key_line};
 ghost use Rattle.card_reading.specs.Inner.Ram.{ram_read, ram_ended, bad_read};
 
+use crate::keys::letter;
 use crate::text::{byte, decimal_digit, hex_digit};
 use crate::types::Ram;
 
@@ -65,16 +65,6 @@ pub fn ram_line(text: &[u8]) -> Option<Ram>
         }
     }
     None
-}
-
-const LETTERS: [u8; 80] =
-    *b"con0con1afwmalwmcpthcptlbpthbptlapthaptldpthdptlsizecmodbmodamoddmodcdatbdatadat";
-
-fn letter(key: u32, at: u32) -> u8
-    requires { (key < 20) × (at < 4) }
-    ensures { result ≡ letter key at }
-{
-    LETTERS[(key * 4 + at) as usize]
 }
 
 fn key_at(text: &[u8], at: usize, key: u32) -> bool

@@ -1,21 +1,10 @@
 // The job that a good card asks for.
 ghost use Rattle.std.specs.Prelude.{◌≡◌, [], ◌∷◌, ◌*◌, ◌+◌, ◌<◌, ◌≤◌, length, get_or};
 ghost use Rattle.word.specs.Laid.{laid};
-ghost use Rattle.card_reading.specs.Job.{offsets, write_order, value, writes};
+ghost use Rattle.card_reading.specs.Job.{write_order, value, writes};
 
+use crate::keys::offset;
 use word::laying::Laying;
-
-const OFFSETS: [u16; 20] = [
-    0x040, 0x042, 0x044, 0x046, 0x048, 0x04A, 0x04C, 0x04E, 0x050, 0x052, 0x054, 0x056, 0x058,
-    0x060, 0x062, 0x064, 0x066, 0x070, 0x072, 0x074,
-];
-
-fn offset(key: u32) -> u16
-    requires { key < 20 }
-    ensures { result ≡ get_or offsets key 0 }
-{
-    OFFSETS[key as usize]
-}
 
 // The key of each write: the registers in the file's order, size last.
 fn write_order(step: u32) -> u32

@@ -10,10 +10,7 @@ use word::types::{Direction, Pointer, Uses};
 fn with_pointers(pointers: Pointers, flow: Flow) -> Flow
     ensures { result ≡ with_pointers pointers flow }
 {
-    Flow {
-        pointers,
-        ..flow
-    }
+    Flow { pointers, ..flow }
 }
 
 fn turned(direction: Direction, used: bool, words: u32, pointer: Pointer) -> Pointer

@@ -29,6 +29,7 @@ pub fn hex_digit(byte: u8) -> bool
     decimal_digit(byte) | capital(byte)
 }
 
+// A char's `to_digit` takes small letters too, which are no digits of a card.
 fn hex_value(byte: u8) -> u16
     ensures value { result ≡ hex_value byte }
     ensures upper_bound { result < 16 }

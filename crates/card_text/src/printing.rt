@@ -30,6 +30,7 @@ fn put_text(page: &mut Page, text: &[u8])
     page.put_all(text);
 }
 
+// In capitals: `char::from_digit` gives small letters.
 #[tactic(auto, unfolding(card_reading::specs::Text::glyph))]
 fn glyph(digit: u32) -> u8
     requires { digit < 16 }

@@ -28,8 +28,8 @@ pub struct Stopped {
 // What a folding answers.
 pub type Answer = Result<Done, Stopped>;
 
-// The paper's numbers of an answer: the refusal's, 0 where it is done; the place of the refused step, 0 where it is done;
-// the folded job's length, 0 where it is refused; the yes. Each is told of every answer, as C takes them.
+// The paper's numbers of an answer: the refusal's, 0 where it is done; the place of the refused step, 0 where it is
+// done; the folded job's length, 0 where it is refused; the yes. Each is told of every answer, as C takes them.
 #[derive(Clone, Copy)]
 pub struct Told {
     pub number: u32,

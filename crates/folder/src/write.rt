@@ -74,8 +74,8 @@ fn put_size(
     }
 }
 
-// Lays what a step becomes, of which these are the words, and learns what is known after it; answers whether it is a blit
-// that is kept for going round alone.
+// Lays what a step becomes, of which these are the words, and learns what is known after it; answers whether it is a
+// blit that is kept for going round alone.
 fn put_step(
     words: &mut Laying<u16>,
     n: usize,
@@ -146,7 +146,8 @@ pub fn folded(n: usize, job: &[u16], out: &[u16], run: &mut [u16]) -> Answer
     }
 }
 
-// The first words of a run, into an output that has room for them.
+// The first words of a run, into an output that has room for them. The run is as long as a job may be: how many of its
+// words are the folded job stands beside it.
 pub fn hand_out(run: &[u16], long: usize, out: &mut [u16])
     requires { (long ≤ length run.now) × (long ≤ length out.old) }
     ensures { out.new ≡ take long run.now ++ drop long out.old }

@@ -33,7 +33,8 @@ pub fn round(rt: &impl Print, answer: Answer) -> io::Result<()> {
     Ok(())
 }
 
-// A job folded for n words of memory into an output of 28 words that hold EEEE, and whether a blit was kept for going round alone.
+// A job folded for n words of memory into an output of 28 words that hold EEEE, and whether a blit was kept for going
+// round alone.
 pub fn folded_round(rt: &impl Print, name: &[u8], n: usize, job: &[u16]) -> io::Result<()> {
     let mut out = [0xEEEEu16; 28];
     let folding = folder::fold(n, job, &mut out);

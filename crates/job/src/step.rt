@@ -50,8 +50,8 @@ fn begun(kind: Kind, at: usize, rest: &[u16]) -> Read
     }
 }
 
-// What stands at a place of a job, at any place: past the last word it is the end. The place stands beside the job: where
-// the next step stands is counted from the job's front.
+// What stands at a place of a job, at any place: past the last word it is the end. The place stands beside the job:
+// where the next step stands is counted from the job's front.
 pub fn step_at(job: &[u16], at: usize) -> Read
     ensures { result ≡ step_at job.now at }
 {

@@ -34,8 +34,8 @@ impl Knowledge {
         }
     }
 
-    // The file's first words with the known numbers, and 0 where one isn't known. The turns count: of `registers.map(..)`
-    // the check doesn't prove what each word is.
+    // The file's first words with the known numbers, and 0 where one isn't known. The turns count: of
+    // `registers.map(..)` the check doesn't prove what each word is.
     pub fn numbers(&self) -> [u16; 19]
         ensures { result ≡ numbers self.now.registers }
     {

@@ -29,8 +29,8 @@ fn draw(ram: &[u16], file: &[u16], field: Playfield, out: &mut [u16])
     show::show(file, &numbers, field.words, out);
 }
 
-// Writes what the screen shows of one line, a colour a pixel. A refusal leaves the run unchanged. The playfield is plain
-// numbers, as `desk_picture` has them from C.
+// Writes what the screen shows of one line, a colour a pixel. A refusal leaves the run unchanged. The playfield is
+// plain numbers, as `desk_picture` has them from C.
 pub fn picture(
     ram: &[u16],
     file: &[u16],

@@ -34,7 +34,7 @@ fn end(start: u32, words: u32) -> usize
     start as usize + words as usize
 }
 
-// Every plane's words lie in memory of n words.
+// Every plane's words lie in memory of n words; each plane has as many.
 pub fn all_inside(n: usize, planes: &[u32], words: u32) -> bool
     ensures { result ≡ every (inside n words planes.now) (length planes.now) }
 {

@@ -8,7 +8,8 @@ ghost use Rattle.picture.specs.Inner.Painted.{painted, number_colour};
 
 use playfield::types::Numbers;
 
-// The register of a pixel's number holds its colour, of number 0 too.
+// The register of a pixel's number holds its colour, of number 0 too. The numbers have room for the longest line: how
+// many words of planes this line has stands beside them.
 pub fn show(file: &[u16], numbers: &Numbers, words: usize, out: &mut [u16])
     requires { (length file.now ≡ file_length) × UpTo 31 numbers.now × (words ≤ most_words)
         × (16 * words ≤ length out.old) }

@@ -5,7 +5,6 @@ use Rattle.word.specs.Pointer.{pointer}
 use Rattle.job.specs.declared.types.Kind.{Kind}
 use Rattle.job.specs.declared.types.Step.{Step}
 use Rattle.job.specs.declared.types.Refusal.{Refusal}
-use Rattle.job.specs.Types.{Read}
 use Rattle.job.specs.Kind.{kind}
 use Rattle.job.specs.Step.{operands, found, is_odd, begun, front}
 use Rattle.job.proofs.StepLaws.{front-of-end}

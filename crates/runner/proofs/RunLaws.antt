@@ -1,6 +1,6 @@
 -- Laws of a run: its first step, how it goes on from a place of the job by what stands there, and what is refused before the first step.
 use Rattle.std.specs.Prelude.{Option, Some, None, Ok, Err}
-use Rattle.word.proofs.Base.{◌≡◌, refl, sym, ap, ◌∙◌, ℕ, ◌+◌, ◌*◌, ◌<◌, ◌≤◌, arith, Bool, true, false, ◌||◌, not, eq-eqb}
+use Rattle.word.proofs.Base.{◌≡◌, refl, sym, ap, ◌∙◌, ℕ, ◌+◌, ◌*◌, ◌≤◌, arith, Bool, true, false, ◌||◌, not, eq-eqb}
 use Rattle.word.proofs.Base.{ne_eqb, List, [], ◌∷◌, length, drop}
 use mir.Val.{Fits}
 use mir.Syntax.{w32}

@@ -31,8 +31,8 @@ pub type Taken = Result<Done, Refusal>;
 // What a run answers.
 pub type Answer = Result<Done, Stopped>;
 
-// The paper's numbers of an answer: the refusal's, 0 where it is done; the place of the refused step, 0 where it is done;
-// the count; the yes. Each is told of every answer, as C takes them.
+// The paper's numbers of an answer: the refusal's, 0 where it is done; the place of the refused step, 0 where it is
+// done; the count; the yes. Each is told of every answer, as C takes them.
 #[derive(Clone, Copy)]
 pub struct Told {
     pub number: u32,

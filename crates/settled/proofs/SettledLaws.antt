@@ -1,23 +1,20 @@
 -- Laws of a settled blit: each condition from its parts.
 use Rattle.std.specs.Prelude.{if◌then◌else◌, Option, Result, Ok, Err}
-use Rattle.word.proofs.Base.{◌≡◌, refl, sym, ap, ◌∙◌, ℕ, ◌+◌, ◌*◌, Bool, true, false, ◌&&◌, ◌||◌, not, eqb, leb}
+use Rattle.word.proofs.Base.{◌≡◌, refl, sym, ◌∙◌, ℕ, ◌*◌, Bool, true, false, ◌&&◌, not, eqb, leb}
 use Rattle.word.proofs.Base.{not-true, arith, List, get_or}
 use Rattle.word.specs.Size.{height, width}
 use Rattle.word.proofs.ChoiceLaws.{and_left, and_right, and_none}
-use Rattle.file.specs.Places.{control0, control1, first_mask, last_mask, pointer_d, modulo_d, source_a, source_b, source_c}
-use Rattle.word.specs.Types.{Uses}
+use Rattle.file.specs.Places.{control0}
 use Rattle.file.specs.File.{con0}
-use Rattle.word.specs.Control.{uses, function}
+use Rattle.word.specs.Control.{function}
 use Rattle.refusal.specs.declared.types.Refusal.{Refusal}
 use Rattle.refusal.specs.declared.types.Plan.{Plan}
 use Rattle.refusal.specs.Refusal.{step_refusal, verdict_number}
 use Rattle.refusal.proofs.RefusalLaws.{refusal-is-some}
 use Rattle.round.specs.Round.{goes_round}
-use Rattle.depends.specs.Types.{Depends}
-use Rattle.depends.specs.Depends.{depends}
 use Rattle.knowledge.specs.Knowledge.{numbers}
 use Rattle.settled.specs.declared.types.Fate.{Fate}
-use Rattle.settled.specs.Settled.{has, controls_known, only_d_used, sources_known, otherwise_settled, settled, kept_for_round}
+use Rattle.settled.specs.Settled.{controls_known, only_d_used, sources_known, otherwise_settled, settled, kept_for_round}
 use Rattle.settled.specs.Inner.Fate.{fate, by_round}
 
 -- a verdict, and the moves of a lawful blit

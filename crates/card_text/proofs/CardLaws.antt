@@ -5,11 +5,7 @@ use Rattle.file.specs.Places.{file_length}
 use Rattle.runner.specs.declared.types.Told.{Told}
 use Rattle.runner.specs.Types.{Answer}
 use Rattle.runner.specs.Run.{ended, machine, run}
-<<<<<<< HEAD
-use Rattle.runner.specs.Answer.{answer_place, answer_round, told as run_told, left}
-=======
 use Rattle.runner.specs.Answer.{answer_place, answer_round, told as told_of, left}
->>>>>>> p7/p7
 use Rattle.card_reading.specs.declared.types.Ram.{Ram}
 use Rattle.card_reading.specs.Reading.{bad_from, bad_line}
 use Rattle.card_reading.specs.Inner.Ram.{ram_read, bad_read, told}
@@ -29,11 +25,7 @@ unfolding printed_run
 printed_run-anywhere number place stored round memory file = refl
 
 pub printed_run-of-answer : (many : ℕ) (answer : Answer) (tells : Told) (start memory file job ram end : List ℕ) (before after : Written)
-<<<<<<< HEAD
-    → ram ≡ counted 0 many → start ≡ zeros file_length → left answer memory file ≡ run ram start job → tells ≡ run_told answer
-=======
     → ram ≡ counted 0 many → start ≡ zeros file_length → left answer memory file ≡ run ram start job → tells ≡ told_of answer
->>>>>>> p7/p7
     → after ≡ writing (printed_run (ended tells.number 0 (machine memory file tells.stored false))) before
     → after ≡ writing (printed_run (run (counted 0 many) (zeros file_length) job)) before
 printed_run-of-answer many answer tells start memory file job ram end before after counts none gives is prints =

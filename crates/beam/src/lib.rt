@@ -25,6 +25,7 @@ fn compared(place: u32) -> u32
 }
 
 // A WAIT or a SKIP of two words is satisfied at a place.
+// Both words as they stand, and a place, are what the paper compares.
 pub fn satisfied(first: u16, second: u16, place: u32) -> bool
     ensures { result ≡ satisfied first second place }
 {

@@ -13,6 +13,8 @@ ghost use Rattle.blit.specs.Blit.{blit_step, blit, left};
 use crate::types::Done;
 use refusal::types::Refusal;
 
+// Memory, register file and size stay three arguments, here and below: each is lent or told by C as it is.
+
 // Does a blit. A refused one changes nothing.
 pub fn blit(ram: &mut [u16], file: &mut [u16], size: u16) -> Result<Done, Refusal>
     ensures { left result ram.new file.new

@@ -8,6 +8,7 @@ use crate::types::{Course, Size, Words};
 use word::pointer::INDEX_END;
 use word::types::Direction;
 
+// Memory, the rows that are fetched from it and the array for them are three things: none is another's part.
 fn row(direction: Direction, ram: &[u16], start: usize, width: usize, s: usize, x: &mut Words)
     requires { RowInside (length ram.now) direction width (record { word = start }) × (s + width ≤ 80) }
     ensures { Laid s width x.new x.old (fetched_in direction ram.now start) }

@@ -7,6 +7,7 @@ ghost use Rattle.block.specs.Inner.Each.{at, Each};
 use crate::types::Words;
 use word::types::Direction;
 
+// A shift is a plain number below 16, as the definition takes it.
 // The pair's sixteen bits from two words: ascending, this one's high bits, and above them the earlier one's low bits. By
 // nought the earlier word gives none, for it goes up sixteen places in two steps. Descending the same the other way.
 fn drawn(direction: Direction, by: u32, earlier: u16, this: u16) -> u16

@@ -2,6 +2,7 @@
 use word::types::Inputs;
 
 // A block's words. There are 16 more than a block has, so that a loop may go on to a multiple of 8.
+// How many of them a loop goes over, and from which on, are its own arguments.
 pub type Words = [u16; 80];
 
 // How many words a row has, and how many rows there are.
@@ -13,6 +14,7 @@ pub struct Size {
 }
 
 // Where a channel's rows lie: the first word of the first, and how far above a row's start the next one's is.
+// That both are below 262,144 is no ghost field: `course` of the definitions makes one of any pointer and stride.
 #[derive(Clone, Copy)]
 pub struct Course {
     pub from: usize,

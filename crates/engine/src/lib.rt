@@ -17,6 +17,7 @@ fn worth_a_block(n: usize, words: u32) -> bool
     (n <= INDEX_END) & (6 < words)
 }
 
+// Set-up, size, strides and flow stay apart, here and below: the first three stand, and the flow alone changes.
 // So many rows at a time as the test before it allows. Two words at least: one alone would be stored before the next is
 // fetched.
 pub fn area_blit(ram: &mut [u16], setup: Setup, width: u32, height: u32, flow: Flow) -> Flow

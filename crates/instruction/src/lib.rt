@@ -14,6 +14,8 @@ ghost use Rattle.instruction.specs.Inner.Taken.{left};
 
 use crate::types::{Instruction, Position, Refusal};
 
+// Memory is a lent slice, here of at most 262,144 words: that has been tested before a list's first instruction.
+
 // Where a MOVE that is done leads: four positions on, to the next instruction.
 fn after_move(here: Position) -> Position
     requires { (here.beam < frame_end) × (here.word < pointer_end) }

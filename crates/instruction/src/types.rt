@@ -12,6 +12,7 @@ pub enum Instruction {
 }
 
 // Where the Copper stands: the beam's place, and the word of the next instruction.
+// That it lies in the frame and in memory is no ghost field: a list may be started anywhere.
 #[derive(Clone, Copy, Debug, PartialEq, Eq)]
 pub struct Position {
     pub beam: u32,

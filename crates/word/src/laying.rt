@@ -3,6 +3,7 @@ ghost use Rattle.std.specs.Prelude.{◌≡◌, ◌+◌, ◌<◌, length, set};
 ghost use Rattle.word.specs.Laid.{laid};
 
 // The run, and the place where the next word is laid. Past the run's end nothing is written, but the place goes on.
+// How far it may go is each caller's to say, who knows how much is still to be laid.
 #[derive(Drop)]
 pub struct Laying<'a, Word> {
     pub run: &'a mut [Word],

@@ -41,6 +41,7 @@ fn stored(n: usize, setup: Setup, size: Size, to: Course) -> Option<Span>
 }
 
 // None at once, 0, where the blit must go word by word. D's rows matter where D is used.
+// A count and no Option: each source's is the most that the next may have, and no rows at once is the count 0.
 pub fn rows_at_once(n: usize, setup: Setup, size: Size, flow: Flow, far: Strides) -> usize
     requires { Known n setup size flow far }
     ensures { (result * size.width ≤ 64)

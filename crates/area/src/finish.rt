@@ -26,6 +26,7 @@ pub fn result(setup: Setup, masked: u16, flow: Flow) -> u16
     word::logic::logic(setup.function, a, b, flow.sources.c)
 }
 
+// First and last stand beside the flow: where a word stands in its row is no part of how far the blit has come.
 pub fn finish(setup: Setup, first: bool, last: bool, flow: Flow) -> Finished
     requires { (setup.shifts.a < 16) × (setup.shifts.b < 16) }
     ensures { result ≡ finish setup first last flow }

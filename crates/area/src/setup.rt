@@ -34,6 +34,7 @@ fn fill(con1: u16) -> Fill
     Fill::Off
 }
 
+// `line::setup::gains` reads two other registers into another type: one function of both would be no shorter.
 fn masks(file: &[u16]) -> Masks
     ensures { result ≡ masks file.now }
 {

@@ -9,6 +9,7 @@ use crate::each::each;
 use crate::types::{Needs, Terms, Words};
 
 // Bit i of the function, spread over a word, is what the sources' setting i gives.
+// `word::logic` spreads the bits likewise, but chooses by them where these are added up: eight words are all they share.
 pub fn terms(function: u16) -> Terms
     ensures { result ≡ terms function }
 {

@@ -91,6 +91,7 @@ fn last_of(source: Source, got: u16, direction: Direction, ram: &[u16]) -> u16
 }
 
 // What the three sources give, and the last word of each.
+// Set-up, strides and size stand through all blocks, and the flow alone changes: so they stay apart.
 fn sources(
     ram: &[u16],
     setup: Setup,

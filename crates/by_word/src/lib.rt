@@ -10,6 +10,8 @@ ghost use Rattle.area.specs.Rows.{one_word, words, one_row, rows, area_blit};
 
 use area::types::{Flow, Setup};
 
+// Width, height and what remains are by themselves, as in the definitions; what is counted stays within 32 bits.
+
 // One word: its sources are fetched, then the word before it is stored, and this one waits; the pointers move on. So
 // many of its row are left after it.
 pub fn one_word(ram: &mut [u16], setup: Setup, width: u32, remaining: u32, flow: Flow) -> Flow

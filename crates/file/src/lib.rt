@@ -52,6 +52,7 @@ pub const COLOUR_0: u32 = 20;
 // The zero flag stands last; no offset reaches it.
 pub const FLAG: u32 = 52;
 
+// No Option: the definition gives the flag's place too, and who asks for a register's asks for less than FLAG.
 // The place of the register with an offset; the flag's where none has it. The offsets lie in runs, each two above the
 // one before: a test where a run begins, and one where it ends. The colours, which lists write most, are tried first.
 pub fn place(offset: u16) -> u32
@@ -130,6 +131,7 @@ pub fn kept(place: u32, value: u16) -> u16
 }
 
 // Of a file's first words none has a bit set that isn't kept.
+// The count stands beside the file: the definition counts places of the whole file.
 pub fn keeps(file: &[u16], words: u32) -> bool
     requires { words ≤ length file.now }
     ensures { result ≡ every (kept_at file.now) words }

@@ -21,6 +21,7 @@ impl AreaPlan {
         }
     }
 
+    // Four methods and no `Channels` of four: each is made where it is tested, and a test that ends early makes no more.
     pub fn a(self) -> Channel
         requires { AreaRange self }
         ensures { IsChannel self self.setup.uses.a self.setup.modulos.a self.pointers.a result }

@@ -34,6 +34,7 @@ impl Refusal {
 }
 
 // A channel of an area blit, over all its rows.
+// Its use is a flag and no Option round it: an unused channel has its place, modulo and range like the others.
 #[derive(Clone, Copy)]
 pub struct Channel {
     pub used: bool,
@@ -45,10 +46,10 @@ pub struct Channel {
     pub ghost in_range: { ChannelRange width rows pointer },
 }
 
-// Its channels' ranges (`AreaRange`) are no ghost field: `area_plan` makes one of any file and size, and would have to
-// carry a proof of them.
 // What an area blit goes by, decoded once from register file and size. Types as narrow as width and height are tell the
 // compiler how small they stay.
+// Its channels' ranges (`AreaRange`) are no ghost field: `area_plan` makes one of any file and size, and would have to
+// carry a proof of them.
 #[derive(Clone, Copy)]
 pub struct AreaPlan {
     pub setup: Setup,

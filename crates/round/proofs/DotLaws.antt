@@ -1,6 +1,6 @@
 -- Laws of a dot's moves, told by its pixel: each goes round where its pixel passes an end of all pixels.
 use Rattle.std.specs.Prelude.{if◌then◌else◌}
-use Rattle.word.proofs.Base.{◌≡◌, refl, sym, ap, ◌∙◌, ℕ, ◌+◌, ◌-◌, ◌*◌, ◌/◌, ◌%◌, ◌<◌, mod-eq_of_lt, dec_lt, arith, Bool, true, false, ◌||◌}
+use Rattle.word.proofs.Base.{◌≡◌, refl, sym, ap, ◌∙◌, ℕ, ◌+◌, ◌-◌, ◌*◌, ◌/◌, ◌%◌, ◌<◌, mod-eq_of_lt, dec_lt, arith, Bool, true, false, ◌||◌, not, List}
 use Rattle.word.proofs.Base.{eqb, leb, ltb, eqb-true, eqb-false, lt-leb, lt-ltb, le-ltb, [], ◌∷◌}
 use native.Mathlib.Nat.{div-add-mod'}
 use mathlib.Core.Bool.{or-false}
@@ -65,23 +65,16 @@ module _ (leftward : Bool) (pixel : ℕ) (small : pixel < pixel_end) where
   pub horizontal_moves-when-right : leftward ≡ false → leb (pixel_end - 1) pixel ≡ any_round (horizontal_moves leftward (spot_of pixel))
   horizontal_moves-when-right right = rw right (right-round pixel small)
 
--- which of the two a move is
-module _ (line : Line) (spot : Spot) (told : Bool) where
-  pub sometimes_moves-when-vertical : line.octant.sud ≡ true → told ≡ any_round (vertical_moves line.row line.octant.sul spot) → told ≡ any_round (sometimes_moves line spot)
-  unfolding sometimes_moves
-  sometimes_moves-when-vertical sud same = rw sud same
-
-  pub sometimes_moves-when-horizontal : line.octant.sud ≡ false → told ≡ any_round (horizontal_moves line.octant.sul spot) → told ≡ any_round (sometimes_moves line spot)
-  unfolding sometimes_moves
-  sometimes_moves-when-horizontal sud same = rw sud same
-
-  pub always_moves-when-horizontal : line.octant.sud ≡ true → told ≡ any_round (horizontal_moves line.octant.aul spot) → told ≡ any_round (always_moves line spot)
-  unfolding always_moves
-  always_moves-when-horizontal sud same = rw sud same
-
-  pub always_moves-when-vertical : line.octant.sud ≡ false → told ≡ any_round (vertical_moves line.row line.octant.aul spot) → told ≡ any_round (always_moves line spot)
-  unfolding always_moves
-  always_moves-when-vertical sud same = rw sud same
+-- the always move is the other one
+pub always_moves-of-move : (line : Line) (spot : Spot) (told : Bool)
+    → told ≡ any_round (if not line.octant.sud then vertical_moves line.row line.octant.aul spot else horizontal_moves line.octant.aul spot)
+    → told ≡ any_round (always_moves line spot)
+unfolding always_moves
+always_moves-of-move line spot told same = same ∙ ap any_round (exchanged line.octant.sud (horizontal_moves line.octant.aul spot) (vertical_moves line.row line.octant.aul spot))
+  where
+    exchanged : (test : Bool) (one other : List Move) → (if not test then other else one) ≡ (if test then one else other)
+    exchanged true one other = refl
+    exchanged false one other = refl
 
 -- the moves of a dot: the always move from where the sometimes move led
 pub dot_moves-of-both : (line : Line) (pixel : ℕ)

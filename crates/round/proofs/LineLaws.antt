@@ -1,5 +1,5 @@
 -- Laws of a line's moves: a dot tells, or the rest does.
-use Rattle.word.proofs.Base.{◌≡◌, refl, sym, ap, ◌∙◌, ℕ, zero, suc, ◌+◌, ◌-◌, ◌<◌, ◌≤◌, sub-one, mod-lt, arith, Bool, true, false, ◌||◌}
+use Rattle.word.proofs.Base.{◌≡◌, refl, sym, ap, ◌∙◌, ℕ, suc, ◌+◌, ◌-◌, ◌<◌, ◌≤◌, mod-lt, arith, Bool, true, false, ◌||◌}
 use mir.Syntax.{w32}
 use mir.Val.{Fits}
 use Rattle.word.specs.Pointer.{pointer_end}

@@ -1,5 +1,5 @@
 // A line's C, dot by dot; at once where its dots can't come near an end of memory.
-ghost use Rattle.std.specs.Prelude.{◌≡◌, ◌*◌, ◌<◌, ◌≤◌};
+ghost use Rattle.std.specs.Prelude.{◌≡◌, ◌*◌, ◌<◌, ◌≤◌, if◌then◌else◌};
 ghost use Rattle.line.specs.Inner.Walk.{pixel_end, spot_of, dot_of};
 ghost use Rattle.round.specs.Between.{any_round, went_round};
 ghost use Rattle.round.specs.Line.{vertical_moves, horizontal_moves, sometimes_moves, always_moves, dot_moves, line_moves};
@@ -39,26 +39,29 @@ fn horizontal_round(leftward: bool, pixel: u32) -> bool
     PIXEL_END - 1 <= pixel
 }
 
+// One move: a vertical one up or down, a horizontal one left or right.
+fn move_round(row: u32, vertical: bool, back: bool, pixel: u32) -> bool
+    requires { pixel < pixel_end }
+    ensures { result ≡ any_round (if vertical then vertical_moves row back (spot_of pixel) else horizontal_moves back (spot_of pixel)) }
+{
+    if vertical {
+        return vertical_round(row, back, pixel);
+    }
+    horizontal_round(back, pixel)
+}
+
 fn sometimes_round(line: Line, pixel: u32) -> bool
     requires { pixel < pixel_end }
     ensures { result ≡ any_round (sometimes_moves line (spot_of pixel)) }
 {
-    let octant = line.octant;
-    if octant.sud {
-        return vertical_round(line.row, octant.sul, pixel);
-    }
-    horizontal_round(octant.sul, pixel)
+    move_round(line.row, line.octant.sud, line.octant.sul, pixel)
 }
 
 fn always_round(line: Line, pixel: u32) -> bool
     requires { pixel < pixel_end }
     ensures { result ≡ any_round (always_moves line (spot_of pixel)) }
 {
-    let octant = line.octant;
-    if octant.sud {
-        return horizontal_round(octant.aul, pixel);
-    }
-    vertical_round(line.row, octant.aul, pixel)
+    move_round(line.row, !line.octant.sud, line.octant.aul, pixel)
 }
 
 // Each move by itself: the sometimes move, where the sign is 0, then the always move from where that led.

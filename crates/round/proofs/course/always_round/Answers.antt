@@ -1,9 +1,6 @@
--- `round::course::always_round` meets its contract: with SUD it is horizontal.
-use Rattle.round.proofs.DotLaws.{always_moves-when-horizontal, always_moves-when-vertical}
+-- `round::course::always_round` meets its contract: by SUD horizontal, or vertical.
+use Rattle.round.proofs.DotLaws.{always_moves-of-move}
 use Rattle.round.proofs.course.always_round.Goals as goal
 
-pub returns-then-octant : goal.returns-then-octant
-returns-then-octant c = search always_moves-when-horizontal
-
 pub returns : goal.returns
-returns c = search always_moves-when-vertical
+returns c = search always_moves-of-move

@@ -104,14 +104,12 @@ pub fn bad_from(text: &[u8], start: usize) -> Option<u32>
     requires { start ≤ length text.now }
     ensures { result ≡ bad_read text.now start }
 {
-    let mut at = start;
     for key in 0..20 {
-        if !key_line(text, at, key) {
+        if !key_line(text, start + key as usize * 10, key) {
             return Some(key + 2);
         }
-        at += 10;
     }
-    if at == text.len() {
+    if start + 200 == text.len() {
         return None;
     }
     Some(22)

@@ -67,6 +67,7 @@ pub fn ram_line(text: &[u8]) -> Option<Ram>
     None
 }
 
+// A key is a plain number below 20, as the definitions count keys: each table would take a type of it apart again.
 fn key_at(text: &[u8], at: usize, key: u32) -> bool
     requires { (at + 10 ≤ length text.now) × (key < 20) }
     ensures { result ≡ key_at text.now at key }

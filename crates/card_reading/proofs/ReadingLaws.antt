@@ -49,13 +49,23 @@ key_line-fits text at key good is holds = by_order (dec_lt (at + 9) (length text
         let n : ◌≡◌ {A = ℕ} 0 1 = cc in absurd (omega arith)
 
 -- the lines after the first, one by one
-pub bad_from-turn : (text : List ℕ) (at key line : ℕ) (good : Bool) → key < 20 → good ≡ key_line text at key → good ≡ true
+bad_from-on : (text : List ℕ) (at key line : ℕ) (good : Bool) → key < 20 → good ≡ key_line text at key → good ≡ true
     → bad_from text at key (20 - key) ≡ line → bad_from text (at + 10) (key + 1) (20 - (key + 1)) ≡ line
 unfolding bad_from
-bad_from-turn text at key line good inside is holds so_far =
+bad_from-on text at key line good inside is holds so_far =
     let more : 20 - key ≡ suc (20 - (key + 1)) = omega (arith, inside) in
     let here : bad_from text at key (suc (20 - (key + 1))) ≡ line = sym (ap (bad_from text at key) more) ∙ so_far in
     rw (← is, holds) at here
+
+pub bad_from-turn : (text : List ℕ) (start key line : ℕ) (good : Bool) → key < 20 → good ≡ key_line text (start + key * 10) key → good ≡ true
+    → bad_from text (start + key * 10) key (20 - key) ≡ line → bad_from text (start + (key + 1) * 10) (key + 1) (20 - (key + 1)) ≡ line
+bad_from-turn text start key line good inside is holds so_far =
+    let next : start + (key + 1) * 10 ≡ start + key * 10 + 10 = omega arith in
+    rw next (bad_from-on text (start + key * 10) key line good inside is holds so_far)
+
+pub key_line-fits-next : (text : List ℕ) (start key : ℕ) (good : Bool) → good ≡ key_line text (start + key * 10) key → good ≡ true
+    → start + (key + 1) * 10 ≤ length text
+key_line-fits-next text start key good is holds = omega (arith, key_line-fits text (start + key * 10) key good is holds)
 
 pub bad_from-when-bad : (text : List ℕ) (at key line : ℕ) (good : Bool) → key < 20 → good ≡ key_line text at key → good ≡ false
     → bad_from text at key (20 - key) ≡ line → key + 2 ≡ line
@@ -65,19 +75,19 @@ bad_from-when-bad text at key line good inside is fails so_far =
     let here : bad_from text at key (suc (20 - (key + 1))) ≡ line = sym (ap (bad_from text at key) more) ∙ so_far in
     rw (← is, fails) at here
 
-pub bad_from-when-ended : (text : List ℕ) (at key line : ℕ) → 20 ≤ key → at ≡ length text → bad_from text at key (20 - key) ≡ line → 0 ≡ line
+pub bad_from-when-ended : (text : List ℕ) (start key line : ℕ) → key ≡ 20 → start + 200 ≡ length text
+    → bad_from text (start + key * 10) key (20 - key) ≡ line → 0 ≡ line
 unfolding bad_from
-bad_from-when-ended text at key line past same so_far =
-    let none : 20 - key ≡ 0 = omega (arith, past) in
-    let here : bad_from text at key 0 ≡ line = sym (ap (bad_from text at key) none) ∙ so_far in
-    rw (eq-eqb at (length text) same) at here
+bad_from-when-ended text start key line past same so_far =
+    let here : bad_from text (start + 200) 20 0 ≡ line = rw past at so_far in
+    rw (eq-eqb (start + 200) (length text) same) at here
 
-pub bad_from-when-more : (text : List ℕ) (at key line : ℕ) → 20 ≤ key → (at ≡ length text → ⊥) → bad_from text at key (20 - key) ≡ line → 22 ≡ line
+pub bad_from-when-more : (text : List ℕ) (start key line : ℕ) → key ≡ 20 → (start + 200 ≡ length text → ⊥)
+    → bad_from text (start + key * 10) key (20 - key) ≡ line → 22 ≡ line
 unfolding bad_from
-bad_from-when-more text at key line past other so_far =
-    let none : 20 - key ≡ 0 = omega (arith, past) in
-    let here : bad_from text at key 0 ≡ line = sym (ap (bad_from text at key) none) ∙ so_far in
-    rw (ne_eqb at (length text) other) at here
+bad_from-when-more text start key line past other so_far =
+    let here : bad_from text (start + 200) 20 0 ≡ line = rw past at so_far in
+    rw (ne_eqb (start + 200) (length text) other) at here
 
 -- a good card's lines end where the text does
 pub bad_from-of-none : (text : List ℕ) (at key to_come : ℕ) → bad_from text at key to_come ≡ 0 → at + to_come * 10 ≡ length text

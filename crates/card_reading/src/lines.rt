@@ -67,6 +67,7 @@ pub fn ram_line(text: &[u8]) -> Option<Ram>
     None
 }
 
+// A key is a plain number below 20, as the definitions count keys: each table would take a type of it apart again.
 fn key_at(text: &[u8], at: usize, key: u32) -> bool
     requires { (at + 10 ≤ length text.now) × (key < 20) }
     ensures { result ≡ key_at text.now at key }
@@ -104,14 +105,12 @@ pub fn bad_from(text: &[u8], start: usize) -> Option<u32>
     requires { start ≤ length text.now }
     ensures { result ≡ bad_read text.now start }
 {
-    let mut at = start;
     for key in 0..20 {
-        if !key_line(text, at, key) {
+        if !key_line(text, start + key as usize * 10, key) {
             return Some(key + 2);
         }
-        at += 10;
     }
-    if at == text.len() {
+    if start + 200 == text.len() {
         return None;
     }
     Some(22)

@@ -2,7 +2,7 @@
 
 // Why a folding is refused, in the order of the paper: memory, the job's length, what is no step, and a folded job that
 // is too long.
-#[derive(Clone, Copy)]
+#[derive(Clone, Copy, Debug, PartialEq, Eq)]
 pub enum Refusal {
     MemorySize,
     JobLength,

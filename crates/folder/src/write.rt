@@ -76,6 +76,8 @@ fn put_size(
 
 // Lays what a step becomes, of which these are the words, and learns what is known after it; answers whether it is a
 // blit that is kept for going round alone.
+// A step's words are a slice of the job: that they are three at most is the decoder's to say, and no type's.
+// The kinds are closed and each bears values of its own: a match tells them apart.
 fn put_step(
     words: &mut Laying<u16>,
     n: usize,

@@ -76,6 +76,7 @@ pub fn put_stores(out: &mut Laying<u16>, run: &[Store], many: usize)
     ensures place { out.new.at ≡ out.old.at + length (stores_words (take many run.now)) }
 {
     let mut rest = &run[..many];
+    // Each turn takes the stores that rise one by one: how many those are no range counts.
     while 0 < rest.len() {
         let count = neighbours(rest);
         put_group(out, &rest[..count]);

@@ -1,13 +1,14 @@
 -- Laws of the offsets that a MOVE may write: their parts.
 use Rattle.word.proofs.Base.{◌≡◌, ℕ, ◌/◌, ◌%◌, ◌<◌, ◌≤◌, arith, Bool, true, false, ◌||◌, eqb, ltb, le-leb, lt-leb, List}
 use Rattle.word.proofs.Base.{get_or}
+use Rattle.word.specs.Word.{is_set}
 use Rattle.file.specs.Places.{copcon, flag}
 use Rattle.file.specs.File.{place, is_register}
 use Rattle.instruction.specs.Permitted.{danger, permitted, size_offset, modelled}
 
-pub danger-of-word : (file : List ℕ) (word : ℕ) → word ≡ get_or file copcon 0 → eqb (word / 2 % 2) 1 ≡ danger file
+pub danger-of-word : (file : List ℕ) (word : ℕ) (set : Bool) → word ≡ get_or file copcon 0 → set ≡ is_set word 1 → set ≡ danger file
 unfolding danger
-danger-of-word file word reads = rw reads
+danger-of-word file word set reads is = rw (is, reads)
 
 pub permitted-from-080 : (file : List ℕ) (offset : ℕ) → 0x080 ≤ offset → true ≡ permitted file offset
 unfolding permitted

@@ -83,6 +83,7 @@ fn skipped(first: u16, second: u16, here: Position) -> u32
 }
 
 // Does an instruction that has been read. A refused one changes nothing.
+// The kinds are closed and each bears values of its own: a match tells them apart.
 fn instruction_effect(
     ram: &mut [u16],
     file: &mut [u16],

@@ -10,7 +10,7 @@ pub const SIZE_OFFSET: u16 = 0x058;
 fn danger(file: &[u16]) -> bool
     ensures { result ≡ danger file.now }
 {
-    word::memory::read(file, file::COPCON) / 2 % 2 == 1
+    word::bits::is_set(word::memory::read(file, file::COPCON), 1)
 }
 
 pub fn permitted(file: &[u16], offset: u16) -> bool

@@ -24,6 +24,7 @@ pub fn kind(first: u16) -> Option<Kind>
 
 // The step whose first word stands at a place of a job, by what that word begins and by the words after it.
 // A store's refusals come in their order: cut off, then odd.
+// The kinds are closed and each bears values of its own: a match tells them apart.
 fn begun(kind: Kind, at: usize, rest: &[u16]) -> Read
     requires { at + length rest.now < 2 ^ 63 }
     ensures { result ≡ begun (Some kind) at rest.now }

@@ -2,7 +2,7 @@
 
 // What a step's first word begins: a register's write, with the register's place in the file; a write of BLTSIZE;
 // a store, with the high half of its address; a flag step, with the flag.
-#[derive(Clone, Copy)]
+#[derive(Clone, Copy, Debug, PartialEq, Eq)]
 pub enum Kind {
     Register(u32),
     Size,
@@ -12,7 +12,7 @@ pub enum Kind {
 
 // One step of a job. A register's write carries the register's place in the file and the value as written;
 // a store the number of the word that it goes to, and the value.
-#[derive(Clone, Copy)]
+#[derive(Clone, Copy, Debug, PartialEq, Eq)]
 pub enum Step {
     Register { place: u32, value: u16 },
     Size(u16),
@@ -21,7 +21,7 @@ pub enum Step {
 }
 
 // Why what stands at a place of a job is no step, with the paper's number, in the order of the paper.
-#[derive(Clone, Copy)]
+#[derive(Clone, Copy, Debug, PartialEq, Eq)]
 pub enum Refusal {
     NoStep = 4,
     CutOff = 5,

@@ -1,5 +1,5 @@
 -- Laws of a step: what each kind of step leaves, how many words a step stores at most, and that a refused one changes nothing.
-use Rattle.std.specs.Prelude.{if◌then◌else◌, Result, Ok, Err}
+use Rattle.std.specs.Prelude.{if◌then◌else◌, Result, Ok, Err, IsErrAnd}
 use Rattle.word.proofs.Base.{◌≡◌, refl, ℕ, ◌<◌, ◌≤◌, arith, Bool, true, false, eqb, eqb-false, le-leb, lt-leb, List, length, set}
 use Rattle.word.specs.Choice.{given}
 use Rattle.word.proofs.ChoiceLaws.{if-either}
@@ -47,10 +47,12 @@ pub blit_step-when-done : (size : ℕ) (done : Done) (answer : Result Done Refus
     → left_by_step (Ok done) next end ≡ blit_step memory file size
 blit_step-when-done size done answer memory file next end blits same = rw same at blits
 
-pub blit_step-when-refused : (size : ℕ) (why : Refusal) (answer : Result Done Refusal) (memory file next end : List ℕ)
-    → blit.left answer next end ≡ blit_step memory file size → answer ≡ Err why
-    → left_by_step (Err (reasons.Refusal.Blit why)) next end ≡ blit_step memory file size
-blit_step-when-refused size why answer memory file next end gives same = rw same at gives
+pub blit_step-when-refused : (size : ℕ) (why : Refusal) (answer : Result Done Refusal) (step : Result Done reasons.Refusal)
+    (memory file next end : List ℕ) → blit.left answer next end ≡ blit_step memory file size → answer ≡ Err why
+    → IsErrAnd step (λ reason. reason ≡ reasons.Refusal.Blit why) → left_by_step step next end ≡ blit_step memory file size
+blit_step-when-refused size why answer (Ok done) memory file next end gives same passed = absurd passed
+blit_step-when-refused size why answer (Err reason) memory file next end gives same passed =
+    rw passed (rw same at gives)
 
 -- by the step's kind
 pub step_effect-of-kind : (step kind : Step) (outcome : Outcome) (memory file : List ℕ) → step ≡ kind

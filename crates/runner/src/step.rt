@@ -21,10 +21,7 @@ fn size_step(ram: &mut [u16], file: &mut [u16], size: u16) -> Taken
     ensures { left_by_step result ram.new file.new
         ≡ blit_step ram.old file.old size }
 {
-    match blit::blit_step(ram, file, size) {
-        Ok(done) => Ok(done),
-        Err(why) => Err(Refusal::Blit(why)),
-    }
+    Ok(blit::blit_step(ram, file, size)?)
 }
 
 fn store_step(ram: &mut [u16], file: &[u16], to: u32, value: u16) -> Taken
@@ -50,6 +47,7 @@ fn flag_step(ram: &[u16], file: &mut [u16], value: u16) -> Taken
 }
 
 // Takes a step. A refused one changes nothing.
+// The kinds are closed and each bears values of its own: a match tells them apart.
 pub fn take(ram: &mut [u16], file: &mut [u16], step: Step) -> Taken
     ensures { left_by_step result ram.new file.new
         ≡ step_effect step ram.old file.old }

@@ -1,14 +1,25 @@
 // The types that the answers of a run speak of. A step or a run that is done answers what a blit does that is done.
+ghost use Rattle.std.specs.Prelude.{◌≡◌};
+ghost use Rattle.runner.specs.declared.types.Refusal as reasons;
+
 use blit::types::Done;
 
 // Why a run is refused: a blit's own reasons, among them memory and register file; a job that is too long; what is no
 // step; a store that doesn't lie in memory.
-#[derive(Clone, Copy)]
+#[derive(Clone, Copy, Debug, PartialEq, Eq)]
 pub enum Refusal {
     Blit(refusal::types::Refusal),
     JobLength,
     Step(job::types::Refusal),
     StoreOutside,
+}
+
+impl From<refusal::types::Refusal> for Refusal {
+    ghost from_gives = { λ why reason. reason ≡ reasons.Refusal.Blit why };
+
+    fn from(why: refusal::types::Refusal) -> Refusal {
+        Refusal::Blit(why)
+    }
 }
 
 // Of no step.

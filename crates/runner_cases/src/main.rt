@@ -21,6 +21,7 @@ fn show(rt: &impl Print, name: &[u8], answer: Answer) -> io::Result<()> {
     rt.write_all(b"\n")
 }
 
+// Lower case, as the stdout beside src/ has it; `show_words` prints capitals.
 fn show_word(rt: &impl Print, word: u16) -> io::Result<()> {
     rt.write_all(b" ")?;
     print!(rt; "{word:04x}")

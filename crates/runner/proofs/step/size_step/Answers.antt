@@ -2,8 +2,8 @@
 use Rattle.runner.proofs.EffectLaws.{blit_step-when-done, blit_step-when-refused}
 use Rattle.runner.proofs.step.size_step.Goals as goal
 
-pub returns-in-Ok : goal.returns-in-Ok
-returns-in-Ok c = search blit_step-when-done
+pub returns-in_err-blit_step : goal.returns-in_err-blit_step
+returns-in_err-blit_step c = search (blit_step-when-refused, c.in_err-blit_step.was, c.from_residual.ensures)
 
-pub returns-in-Err : goal.returns-in-Err
-returns-in-Err c = search blit_step-when-refused
+pub returns : goal.returns
+returns c = search (blit_step-when-done, c.in_ok-blit_step.was)

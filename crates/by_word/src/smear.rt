@@ -27,6 +27,7 @@ fn alone(setup: Setup) -> bool
     if !uses.a | !uses.d | (masks.first != 65535) | (masks.last != 65535) {
         return false;
     }
+    // One pair of direction and fill is meant: a match shows it as the paper's cases stand.
     match (setup.direction, setup.fill) {
         (Direction::Ascending, Fill::Off) => true,
         _ => false,

@@ -4,25 +4,14 @@
 
 use std::io;
 
-// Rows of two words.
-fn picture(rt: &impl Print, words: &[u16]) -> io::Result<()> {
-    for row in words.chunks(2) {
-        for word in row {
-            show_words::bits(rt, *word)?;
-        }
-        show_words::line(rt)?;
-    }
-    Ok(())
-}
-
 // B, C and D, each three rows of two words.
 fn pictures(rt: &impl Print, ram: &[u16; 18]) -> io::Result<()> {
     show_words::text(rt, b"B\n")?;
-    picture(rt, &ram[..6])?;
+    show_words::picture(rt, &ram[..6])?;
     show_words::text(rt, b"C\n")?;
-    picture(rt, &ram[6..12])?;
+    show_words::picture(rt, &ram[6..12])?;
     show_words::text(rt, b"D\n")?;
-    picture(rt, &ram[12..])
+    show_words::picture(rt, &ram[12..])
 }
 
 fn main(rt: HostRuntime) -> io::Result<()> {

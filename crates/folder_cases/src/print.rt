@@ -33,19 +33,24 @@ pub fn round(rt: &impl Print, answer: Answer) -> io::Result<()> {
     Ok(())
 }
 
-// A job folded for n words of memory into an output of 28 words that hold EEEE, and whether a blit was kept for going
-// round alone.
-pub fn folded_round(rt: &impl Print, name: &[u8], n: usize, job: &[u16]) -> io::Result<()> {
+// A job folded for n words of memory into an output of 28 words that hold EEEE; where it is asked for, whether a blit
+// was kept for going round alone as well.
+fn shown(rt: &impl Print, name: &[u8], n: usize, job: &[u16], with_round: bool) -> io::Result<()> {
     let mut out = [0xEEEEu16; 28];
     let folding = folder::fold(n, job, &mut out);
     answer(rt, name, folding)?;
-    round(rt, folding)?;
+    if with_round {
+        round(rt, folding)?;
+    }
     words(rt, b"  out", &out)
 }
 
-// A job folded for n words of memory into an output of 28 words that hold EEEE.
+// A folding, and whether a blit was kept for going round alone.
+pub fn folded_round(rt: &impl Print, name: &[u8], n: usize, job: &[u16]) -> io::Result<()> {
+    shown(rt, name, n, job, true)
+}
+
+// A folding alone.
 pub fn folded(rt: &impl Print, name: &[u8], n: usize, job: &[u16]) -> io::Result<()> {
-    let mut out = [0xEEEEu16; 28];
-    answer(rt, name, folder::fold(n, job, &mut out))?;
-    words(rt, b"  out", &out)
+    shown(rt, name, n, job, false)
 }

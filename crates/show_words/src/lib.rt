@@ -23,7 +23,7 @@ pub fn words(rt: &impl Print, run: &[u16]) -> io::Result<()> {
     Ok(())
 }
 
-// A word as sixteen dots and hashes, bit 15 first.
+// A word as sixteen dots and hashes, bit 15 first. By hand: the library prints the bits of a word as 0 and 1.
 pub fn bits(rt: &impl Print, word: u16) -> io::Result<()> {
     let mut text = [b'.'; 16];
     let mut rest = word;
@@ -34,4 +34,15 @@ pub fn bits(rt: &impl Print, word: u16) -> io::Result<()> {
         rest /= 2;
     }
     rt.write_all(&text)
+}
+
+// Rows of two words, in dots and hashes.
+pub fn picture(rt: &impl Print, run: &[u16]) -> io::Result<()> {
+    for row in run.chunks(2) {
+        for word in row {
+            bits(rt, *word)?;
+        }
+        line(rt)?;
+    }
+    Ok(())
 }

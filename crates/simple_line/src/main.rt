@@ -138,17 +138,6 @@ fn simple_line(
     show_words::line(rt)
 }
 
-// Rows of two words.
-fn picture(rt: &impl Print, words: &[u16]) -> io::Result<()> {
-    for row in words.chunks(2) {
-        for word in row {
-            show_words::bits(rt, *word)?;
-        }
-        show_words::line(rt)?;
-    }
-    Ok(())
-}
-
 // One line in each octant, from the middle of the plane, by the manual's numbers 1 to 8.
 fn star(rt: &impl Print) -> io::Result<()> {
     let mut ram = [0u16; 64];
@@ -160,7 +149,7 @@ fn star(rt: &impl Print) -> io::Result<()> {
     simple_line(rt, &mut ram, 15, 15, 9, 1)?;
     simple_line(rt, &mut ram, 16, 15, 22, 1)?;
     simple_line(rt, &mut ram, 16, 15, 30, 9)?;
-    picture(rt, &ram)
+    show_words::picture(rt, &ram)
 }
 
 // The far ends of the plane, level, upright and aslant.
@@ -172,7 +161,7 @@ fn frame(rt: &impl Print) -> io::Result<()> {
     simple_line(rt, &mut ram, 0, 31, 0, 0)?;
     simple_line(rt, &mut ram, 0, 0, 31, 31)?;
     simple_line(rt, &mut ram, 16, 16, 16, 16)?;
-    picture(rt, &ram)
+    show_words::picture(rt, &ram)
 }
 
 // RotateBits: bit k from the left of sixteen words is set as the bits of one raster word say, the texture of a line that

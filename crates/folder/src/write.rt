@@ -97,6 +97,7 @@ fn put_step(
             false
         }
         Step::Size(size) => put_size(words, n, known, size, raw),
+        // Two arms, though alike: of both kinds in one the check finds no proof that what is put is the step's own words.
         Step::Store { .. } => {
             words.put_all(raw);
             false

@@ -8,7 +8,8 @@ ghost use Rattle.std.specs.Prelude.{◌≤◌};
 use runner::types::Answer;
 use std::io;
 
-// A case's name, and the answer's number, place and count.
+// A case's name, and the answer's number, place and count. Handle, name and answer, or job, stay apart: each call below
+// reads as its case.
 fn show(rt: &impl Print, name: &[u8], answer: Answer) -> io::Result<()> {
     let told = runner::answer::told(answer);
     rt.write_all(name)?;

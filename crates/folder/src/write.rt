@@ -41,7 +41,7 @@ fn put_kept(words: &mut Laying<u16>, known: &mut Knowledge, raw: &[u16])
     ensures place { words.new.at ≡ words.old.at + length raw.now }
     ensures learns { known.new.registers ≡ forgotten known.old.registers }
 {
-    words.put_all(raw);
+    output::put::put_copied(words, raw);
     learning::forgotten(known);
 }
 
@@ -93,17 +93,17 @@ fn put_step(
     match step {
         Step::Register { place, value } => {
             learning::written(known, place, value);
-            words.put_all(raw);
+            output::put::put_copied(words, raw);
             false
         }
         Step::Size(size) => put_size(words, n, known, size, raw),
         // Two arms, though alike: of both kinds in one the check finds no proof that what is put is the step's own words.
         Step::Store { .. } => {
-            words.put_all(raw);
+            output::put::put_copied(words, raw);
             false
         }
         Step::Flag(_) => {
-            words.put_all(raw);
+            output::put::put_copied(words, raw);
             false
         }
     }

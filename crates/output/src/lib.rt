@@ -1,4 +1,4 @@
-// The output: the words that a settled blit becomes, laid into it.
+// The output: steps copied, and the words that a settled blit becomes, laid into it.
 #![tactic(auto)]
 
 pub mod put;

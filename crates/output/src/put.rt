@@ -1,5 +1,5 @@
 // Words laid into the output.
-ghost use Rattle.std.specs.Prelude.{◌≡◌, [], ◌∷◌, ◌++◌, ◌+◌, ◌<◌};
+ghost use Rattle.std.specs.Prelude.{◌≡◌, [], ◌∷◌, ◌++◌, ◌+◌, ◌<◌, length};
 ghost use Rattle.settled.specs.Words.{store_words, pointer_words, flag_words};
 ghost use Rattle.word.specs.Laid.{laid};
 
@@ -34,4 +34,14 @@ pub fn put_end(out: &mut Laying<u16>, pointer: Pointer, allzero: bool)
 {
     let flag = flag_word(allzero);
     out.put_all(&[0x0054, pointer.high(), 0x0056, pointer.low(), flag]);
+}
+
+// Words of the job, as they stand.
+pub fn put_copied(out: &mut Laying<u16>, raw: &[u16])
+    requires { out.old.at + length raw.now < 4294967000 }
+    ensures same_run { out.new.run.ghost_name ≡ out.old.run.ghost_name }
+    ensures words { out.new.run.now ≡ laid raw.now out.old.at out.old.run.now }
+    ensures place { out.new.at ≡ out.old.at + length raw.now }
+{
+    out.put_all(raw);
 }

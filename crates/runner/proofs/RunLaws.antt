@@ -19,11 +19,12 @@ use Rattle.job.specs.Steps.{Placed, placed, steps_from}
 use Rattle.job.proofs.StepLaws.{read-step, read-end, read-moves, read-inside}
 use Rattle.job.proofs.StepsLaws.{steps-of-step, steps-of-refused, steps-of-end, read_number-of-refused}
 use Rattle.runner.specs.declared.types.Refusal.{Refusal}
+use Rattle.runner.specs.declared.types.Stopped.{Stopped}
 use Rattle.blit.specs.declared.types.Done.{Done}
 use Rattle.runner.specs.Types.{Taken, Answer}
 use Rattle.runner.specs.Effect.{step_effect, effect}
 use Rattle.runner.specs.Run.{Machine, machine, effect_on, after, End, ended, run_steps, run_from, start_refusal, run}
-use Rattle.runner.specs.Answer.{refusal_number, left_by_step, left}
+use Rattle.runner.specs.Answer.{refusal_number, answer_number, left_by_step, left}
 use Rattle.runner.proofs.EffectLaws.{step_effect-counts, step_effect-stays}
 
 -- a refusal's number is never 0
@@ -33,6 +34,11 @@ refusal_number-positive (Refusal.Blit why) same = blits.refusal_number-positive 
 refusal_number-positive Refusal.JobLength same = omega arith
 refusal_number-positive (Refusal.Step why) same = omega (arith, read_number-of-refused why)
 refusal_number-positive Refusal.StoreOutside same = omega arith
+
+-- a refused run answers with the number of its reason
+pub answer_number-of-refused : (answer : Answer) (stopped : Stopped) (number : ℕ)
+    → answer ≡ Err stopped → number ≡ refusal_number stopped.why → number ≡ answer_number answer
+answer_number-of-refused answer stopped number same gives = rw same gives
 
 -- the first step, done or refused
 module _ (one : Placed) (rest : List Placed) (before : Machine) (outcome : Outcome) (gives : outcome ≡ effect_on before one.read) where

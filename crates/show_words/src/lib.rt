@@ -16,7 +16,7 @@ fn digit(n: u16) -> u8 {
     b"0123456789ABCDEF"[(n % 16) as usize]
 }
 
-// A word as a blank and four hex digits, in one write. By digits: a format costs five times as many instructions a word.
+// A word as a blank and four hex digits, in one write. By digits: by a format a word costs ten times the instructions.
 pub fn hex(rt: &impl Print, word: u16) -> io::Result<()> {
     rt.write_all(&[
         b' ',
